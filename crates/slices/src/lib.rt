@@ -1,0 +1,46 @@
+// Reading lent slices. A read past the end gives 0, so that no caller has to test before it reads.
+ghost use mathlib.Core.Path.{_≡_};
+ghost use Rattle.slices.specs.Bytes.{entry, half, word};
+
+// The byte at i.
+pub fn byte_at(bytes: &[u8], i: usize) -> u8
+    ensures { λ r. ⌜ r ≡ entry (now (bytes .entry)) i ⌝ }
+{
+    if i < bytes.len() { bytes[i] } else { 0 }
+}
+
+// The 32-bit entry at i.
+pub fn entry_at(words: &[u32], i: usize) -> u32
+    ensures { λ r. ⌜ r ≡ entry (now (words .entry)) i ⌝ }
+{
+    if i < words.len() { words[i] } else { 0 }
+}
+
+pub fn wide(x: u8) -> u32
+    ensures { λ r. ⌜ r ≡ x ⌝ }
+{
+    x as u32
+}
+
+// The two bytes from i as a number, the lowest byte first.
+pub fn half_at(bytes: &[u8], i: usize) -> u32
+    ensures { λ r. ⌜ r ≡ half (now (bytes .entry)) i ⌝ }
+{
+    if bytes.len() <= i {
+        return 0;
+    }
+    wide(byte_at(bytes, i)) + 256 * wide(byte_at(bytes, i + 1))
+}
+
+// The four bytes from i as a number, the lowest byte first.
+pub fn word_at(bytes: &[u8], i: usize) -> u32
+    ensures { λ r. ⌜ r ≡ word (now (bytes .entry)) i ⌝ }
+{
+    if bytes.len() <= i {
+        return 0;
+    }
+    wide(byte_at(bytes, i))
+        + 256 * wide(byte_at(bytes, i + 1))
+        + 65536 * wide(byte_at(bytes, i + 2))
+        + 16777216 * wide(byte_at(bytes, i + 3))
+}
