@@ -1,0 +1,51 @@
+-- Laws of the first wrong place, and of what `check` answers. Assumes nothing.
+use mathlib.Core.Path.{_≡_, refl, sym, ap, _∙_}
+use mathlib.Core.Bool.{Bool, true, false, cond}
+use mathlib.Core.List.{List}
+use Prim.Native.Nat.{ℕ, zero, suc, _+_, _-_, _≤_, _<_}
+use native.Mathlib.Numerals.{sub-one}
+use native.Mathlib.Omega.{arith}
+use lib.ListN.{length}
+use lib.Dec.{eqb}
+use Rattle.routine.specs.Header.{firstBad, firstCommand}
+use Rattle.routine.specs.Routine.{Arm, Parsed, refused, parsed, arm, walked, walkArm}
+use Rattle.routine.specs.Decode.{Decoded, rejected, routine, noCounts, decodeArm, answer, checkedCommands}
+use Rattle.routine.specs.declared.Header.{Header}
+use Rattle.routine.specs.declared.Walked.{Walked}
+use Rattle.routine.specs.declared.Refusal.{Refusal}
+use Rattle.routine.specs.declared.Checked.{Checked}
+
+module _ (ok : ℕ → Bool) (step at : ℕ) where
+  pub bad-none : (n : ℕ) → n ≤ 0 → at ≡ firstBad ok step n at
+  unfolding firstBad
+  bad-none zero l = refl
+  bad-none (suc n) l = absurd (omega arith)
+
+  pub bad-here : (n : ℕ) → 0 < n → ok at ≡ false → at ≡ firstBad ok step n at
+  unfolding firstBad
+  bad-here zero l e = absurd (omega arith)
+  bad-here (suc n) l e = rw e
+
+  pub bad-next : (n : ℕ) → 0 < n → ok at ≡ true → firstBad ok step (n - 1) (at + step) ≡ firstBad ok step n at
+  unfolding firstBad
+  bad-next zero l e = absurd (omega arith)
+  bad-next (suc n) l e = rw (e, sub-one)
+
+-- what follows a walk over the commands of n bytes
+abbrev pub commandsBy : ℕ → Header → Walked → Checked
+commandsBy n h (Walked.Refused fault place) = Checked.Refused (Refusal.Command fault place)
+commandsBy n h (Walked.Ended end k) = cond (eqb end n) (Checked.Accepted h k) (Checked.Refused (Refusal.Trailing end))
+
+answer-cond : (b : Bool) (x y : Decoded) → answer (cond b x y) ≡ cond b (answer x) (answer y)
+answer-cond true x y = refl
+answer-cond false x y = refl
+
+answer-arm : (bs : List ℕ) (h : Header) (p : Parsed Arm) → answer (decodeArm bs h p) ≡ commandsBy (length bs) h (walked p)
+answer-arm bs h (refused fault place) = refl
+answer-arm bs h (parsed a end k) = answer-cond (eqb end (length bs)) (routine h a k) (rejected (Refusal.Trailing end))
+
+-- w is what the walk answers, and is v
+pub commands : (bs : List ℕ) (h : Header) (at : ℕ) (w v : Walked) → w ≡ walkArm bs h 0 0 at noCounts → at ≡ firstCommand h → w ≡ v → commandsBy (length bs) h v ≡ checkedCommands bs h
+unfolding walkArm checkedCommands
+commands bs h at w v e f g =
+    ap (commandsBy (length bs) h) (sym g ∙ e ∙ ap (λ (i : ℕ). walked (arm bs h 0 0 i noCounts)) f) ∙ sym (answer-arm bs h (arm bs h 0 0 (firstCommand h) noCounts))

@@ -1,0 +1,48 @@
+use borrow.Author.Tests.{eq-eqb, ne-eqb}
+use mathlib.Core.Path.{sym, _∙_}
+use Rattle.routine.specs.declared.Walked.{Walked}
+use Rattle.routine.proofs.Answers.{commands}
+use borrow.Author.Needs.{needs}
+use Rattle.routine.proofs.walks.check_commands.Statement.{statement}
+use Rattle.routine.proofs.walks.check_commands.Tie as tie
+
+first-command-requires : tie.Need-first-command-requires
+first-command-requires c κs = search needs
+
+walk-arm-requires : tie.Need-walk-arm-requires
+walk-arm-requires c κs = search needs
+
+enum-known-fault : tie.Need-enum-known-fault
+enum-known-fault c = search needs
+
+enum-known-next : tie.Need-enum-known-next
+enum-known-next c = search needs
+
+returns : tie.Need-returns
+returns c =
+    let w = c .before .before .before in
+    commands _ _ _ _ (Walked.Refused _ _) (w .walk-arm .ensures) (w .before .first-command .ensures) (c .before .fault .given .1)
+
+returns-2 : tie.Need-returns-2
+returns-2 c =
+    let w = c .before .before .before .before in
+    rw (eq-eqb _ _ (c .if1 .taken)) at
+    (commands _ _ _ _ (Walked.Ended _ _) (w .walk-arm .ensures) (w .before .first-command .ensures) (c .before .before .next .given .1))
+
+returns-3 : tie.Need-returns-3
+returns-3 c =
+    let w = c .before .before .before .before in
+    rw (ne-eqb _ _ (c .if1 .left)) at
+    (commands _ _ _ _ (Walked.Ended _ _) (w .walk-arm .ensures) (w .before .first-command .ensures) (c .before .before .next .given .1))
+
+pub check-commands-spec : {M : Type 1} → statement M
+check-commands-spec =
+    tie.close
+    (tie.spec
+    first-command-requires
+    walk-arm-requires
+    enum-known-fault
+    enum-known-next
+    returns
+    returns-2
+    returns-3)

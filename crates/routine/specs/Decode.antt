@@ -1,0 +1,44 @@
+-- A routine from its bytes, or the refusal.
+use Prim.Native.Nat.{ℕ}
+use mathlib.Core.List.{List}
+use mathlib.Core.Bool.{cond, _&&_}
+use lib.ListN.{length}
+use lib.Dec.{leb, eqb}
+use Rattle.routine.specs.Header.{headerOf, firstCommand}
+use Rattle.routine.specs.Routine.{Arm, Parsed, refused, parsed, arm}
+use Rattle.routine.specs.declared.Header.{Header}
+use Rattle.routine.specs.declared.Head.{Head}
+use Rattle.routine.specs.declared.Counts.{Counts}
+use Rattle.routine.specs.declared.Refusal.{Refusal}
+use Rattle.routine.specs.declared.Checked.{Checked}
+
+-- the routine: its header, its commands, and how many ifs, reads and writes it has
+pub data Decoded : Type 0 where
+  rejected : Refusal → Decoded
+  routine : Header → Arm → Counts → Decoded
+
+abbrev pub noCounts : Counts
+noCounts = record { ifs = 0; reads = 0; writes = 0 }
+
+-- the commands are one arm that an end closes, and nothing follows it
+abbrev pub decodeArm : List ℕ → Header → Parsed Arm → Decoded
+decodeArm bs h (refused fault place) = rejected (Refusal.Command fault place)
+decodeArm bs h (parsed a end k) = cond (eqb end (length bs)) (routine h a k) (rejected (Refusal.Trailing end))
+
+abbrev pub decodeHead : List ℕ → Head → Decoded
+decodeHead bs (Head.Wrong place) = rejected (Refusal.Header place)
+decodeHead bs (Head.Whole h) = decodeArm bs h (arm bs h 0 0x00 (firstCommand h) noCounts)
+
+unfoldable pub decode : List ℕ → Decoded
+decode bs = cond (leb 1 (length bs) && leb (length bs) 4096) (decodeHead bs (headerOf bs)) (rejected Refusal.Length)
+
+-- what `check` answers
+abbrev pub answer : Decoded → Checked
+answer (rejected refusal) = Checked.Refused refusal
+answer (routine h a k) = Checked.Accepted h k
+
+unfoldable pub checked : List ℕ → Checked
+checked bs = answer (decode bs)
+
+unfoldable pub checkedCommands : List ℕ → Header → Checked
+checkedCommands bs h = answer (decodeHead bs (Head.Whole h))

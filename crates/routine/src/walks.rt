@@ -1,0 +1,90 @@
+// Walking over the commands. An arm is a list of commands, and a command may be an if with two arms: the two walks call each other.
+use crate::Checked;
+use crate::Counts;
+use crate::Header;
+use crate::Passed;
+use crate::Refusal;
+use crate::Step;
+use crate::Walked;
+use crate::commands::command_at;
+use crate::commands::simple_size;
+use crate::headers::first_command;
+use crate::steps::step_of;
+ghost use mathlib.Core.Path.{_≡_};
+ghost use Prim.Native.Nat.{_+_, _<_, _≤_};
+ghost use lib.ListN.{length};
+ghost use Rattle.routine.specs.Decode.{checkedCommands};
+ghost use Rattle.routine.specs.Routine.{walkArm, walkIf};
+ghost use Rattle.routine.specs.Stands.{SomeArm};
+ghost use Rattle.routine.specs.Passes.{Passes};
+
+// Walks over the arm from `at` on, inside `depth` ifs, that the command byte `close` ends, after the counts k.
+pub fn walk_arm(bytes: &[u8], h: Header, depth: u8, close: u8, from: usize, before: Counts) -> Walked
+    ensures { λ r. ⌜ r ≡ walkArm (now (bytes .entry)) h depth close from before ⌝ }
+{
+    let mut at = from;
+    let mut k = before;
+    loop {
+        match step_of(bytes, h, depth, close, command_at(bytes, at), k) {
+            Step::Refused(fault) => return Walked::Refused(fault, at),
+            Step::Closed => return Walked::Ended(at + 1, k),
+            Step::Plain(c, after) => {
+                at += simple_size(c);
+                k = after;
+            }
+            Step::Fork(_, after) => match walk_if(bytes, h, depth, at, after) {
+                Walked::Refused(fault, place) => return Walked::Refused(fault, place),
+                Walked::Ended(next, counts) => {
+                    at = next;
+                    k = counts;
+                }
+            },
+        }
+    }
+}
+
+// Walks over the two arms of the if at `at`, up to its end.
+fn walk_if(bytes: &[u8], h: Header, depth: u8, at: usize, k: Counts) -> Walked
+    requires { ⌜ (at + 4 ≤ length (now bytes)) × (depth < 8) ⌝ }
+    ensures { λ r. ⌜ r ≡ walkIf (now (bytes .entry)) h depth at k ⌝ }
+{
+    match walk_arm(bytes, h, depth + 1, 0x0C, at + 4, k) {
+        Walked::Refused(fault, place) => Walked::Refused(fault, place),
+        Walked::Ended(next, counts) => walk_arm(bytes, h, depth + 1, 0x0D, next, counts),
+    }
+}
+
+// Checks the commands of a routine whose header is whole: refusals 3 to 8.
+pub fn check_commands(bytes: &[u8], h: Header) -> Checked
+    ensures { λ r. ⌜ r ≡ checkedCommands (now (bytes .entry)) h ⌝ }
+{
+    let none = Counts {
+        ifs: 0,
+        reads: 0,
+        writes: 0,
+    };
+    match walk_arm(bytes, h, 0, 0x00, first_command(h), none) {
+        Walked::Refused(fault, place) => Checked::Refused(Refusal::Command(fault, place)),
+        Walked::Ended(next, counts) => {
+            if next == bytes.len() {
+                Checked::Accepted { header: h, counts }
+            } else {
+                Checked::Refused(Refusal::Trailing(next))
+            }
+        }
+    }
+}
+
+// Goes past the arm that stands at `at`.
+pub fn pass_arm(bytes: &[u8], h: Header, depth: u8, close: u8, at: usize, k: Counts) -> Passed
+    requires { ⌜ SomeArm (now bytes) h depth close at k ⌝ }
+    ensures { λ r. ⌜ Passes (now (bytes .entry)) h depth close at k r ⌝ }
+{
+    match walk_arm(bytes, h, depth, close, at, k) {
+        Walked::Refused(_, place) => Passed {
+            next: place,
+            counts: k,
+        },
+        Walked::Ended(next, counts) => Passed { next, counts },
+    }
+}
