@@ -1,16 +1,16 @@
 -- Laws of reading an arm: it goes forward, the bound on the steps does not matter, and so an arm is its first command and what follows. Assumes nothing.
-use mathlib.Core.Path.{_≡_, refl, sym, ap, subst, _∙_}
+use mathlib.Core.Path.{_≡_, refl, sym, ap, _∙_}
 use mathlib.Core.List.{List}
 use mathlib.Core.Bool.{Bool, true, false, cond}
 use Prim.Native.Nat.{ℕ, zero, suc, _+_, _-_, _≤_, _<_}
 use native.Mathlib.Omega.{arith}
 use lib.ListN.{length}
 use lib.Dec.{leb, ltb, eqb}
-use borrow.Author.Tests.{leb-true, ltb-true, eqb-true}
+use borrow.Author.Tests.{leb-true, ltb-true}
 use Rattle.routine.specs.Command.{sizeOf, sizeOfSimple, commandOf, commandAt}
 use Rattle.routine.specs.Header.{width}
 use Rattle.routine.specs.Step.{inRange, widthsFit, tooMany, after, unless, refusing, simpleStep, oneIf, conditionInRange, ifStep, stepOf}
-use Rattle.routine.specs.Routine.{Arm, Parsed, refused, parsed, done, plain, fork, andThen, Reader, ifArms, armStep, stepAt, armBy, arm, walked, walkArm, walkIf}
+use Rattle.routine.specs.Routine.{Parsed, refused, parsed, plain, fork, andThen, Reader, ifArms, armStep, stepAt, armBy, arm, walked, walkArm, walkIf}
 use Rattle.routine.specs.Stands.{Sound, SoundIf}
 use Rattle.routine.specs.declared.Header.{Header}
 use Rattle.routine.specs.declared.Condition.{Condition}

@@ -1,5 +1,5 @@
 -- What an accepted header and a command without a fault tell: for the layers above. Assumes nothing.
-use mathlib.Core.Path.{_≡_, refl, sym, ap, subst, _∙_}
+use mathlib.Core.Path.{_≡_, refl, subst}
 use mathlib.Core.List.{List}
 use mathlib.Core.Bool.{Bool, true, false, cond, _&&_}
 use Prim.Native.Nat.{ℕ, zero, suc, _+_, _*_, _^_, _≤_, _<_}
@@ -9,7 +9,7 @@ use lib.ListN.{length}
 use lib.Dec.{ltb, leb, eqb, lit<}
 use borrow.Author.Tests.{ltb-true, leb-true, eqb-true}
 use Rattle.slices.specs.Bytes.{entry, half}
-use Rattle.routine.specs.Header.{between, within, widthOk, sizeOk, firstBad, need, headerOf, firstCommand, width}
+use Rattle.routine.specs.Header.{between, within, widthOk, sizeOk, firstBad, need, headerOf, width}
 use Rattle.routine.specs.Step.{inRange, widthsFit}
 use Rattle.routine.specs.Stands.{Sound, SoundIf, Fine}
 use Rattle.routine.proofs.Tests.{both}

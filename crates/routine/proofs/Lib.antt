@@ -9,3 +9,5 @@ pub mod Fine
 pub mod Walking
 mod Passing
 pub mod Text
+pub mod Counting
+mod Bench

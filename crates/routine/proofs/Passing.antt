@@ -1,5 +1,5 @@
 -- Walking over an arm that stands ends where it ends. Assumes nothing.
-use mathlib.Core.Path.{_≡_, ap, sym, _∙_}
+use mathlib.Core.Path.{_≡_, ap, _∙_}
 use mathlib.Core.List.{List}
 use Prim.Native.Nat.{ℕ}
 use native.Mathlib.Omega.{arith}
@@ -10,7 +10,6 @@ use Rattle.routine.specs.declared.Header.{Header}
 use Rattle.routine.specs.declared.Counts.{Counts}
 use Rattle.routine.specs.declared.Fault.{Fault}
 use Rattle.routine.specs.declared.Walked.{Walked}
-use Rattle.routine.specs.declared.Passed.{Passed}
 
 module _ (bs : List ℕ) (h : Header) (depth close at : ℕ) (k : Counts) (w : Walked) (is : w ≡ walkArm bs h depth close at k) where
   walks : (a : Arm) (end : ℕ) (k₁ : Counts) → Stands bs h depth close at k a end k₁ → w ≡ Walked.Ended end k₁

@@ -1,18 +1,17 @@
 -- The commands in text order: an arm that stands has them one after the other in the bytes, so that a flat walk meets just these. Assumes nothing.
-use mathlib.Core.Path.{_≡_, refl, sym, ap, subst, _∙_}
+use mathlib.Core.Path.{_≡_}
 use mathlib.Core.List.{List, [], _∷_, _++_, append-assoc}
-use Prim.Native.Nat.{ℕ, _+_, _≤_, _<_}
+use Prim.Native.Nat.{ℕ, _+_, _≤_}
 use lib.ListN.{length}
 use Rattle.routine.specs.Command.{sizeOfSimple, commandAt}
-use Rattle.routine.specs.Step.{after, oneIf}
-use Rattle.routine.specs.Routine.{Arm, done, plain, fork, textOf}
+use Rattle.routine.specs.Routine.{Arm, textOf}
 use Rattle.routine.specs.Stands.{Stands}
 use Rattle.routine.specs.declared.Header.{Header}
 use Rattle.routine.specs.declared.Condition.{Condition}
 use Rattle.routine.specs.declared.Counts.{Counts}
 use Rattle.routine.specs.declared.Simple.{Simple}
 use Rattle.routine.specs.declared.Command.{Command}
-use Rattle.routine.proofs.Views.{PlainAt, ForkAt, induction}
+use Rattle.routine.proofs.Views.{induction}
 
 -- from `at` to the end of the bytes stand the commands cs, and marks of ifs and arms among them
 pub data Text (bs : List ℕ) : ℕ → List Simple → Type 0 where
@@ -31,6 +30,6 @@ text bs h depth close at k a end k₁ s =
     (λ depth close at k mark e l cs t. closes mark e l t)
     (λ depth close at k c rest end k₁ v go cs t. steps c (v .command) (v .room) (go cs t))
     (λ depth close at k c first second rest end k₁ v go₁ go₂ go₃ cs t.
-        rw (append-assoc (textOf first) (textOf second ++ textOf rest) cs, append-assoc (textOf second) (textOf rest) cs)
-        (forks c (v .command) (v .room) (go₁ _ (go₂ _ (go₃ cs t)))))
+    rw (append-assoc (textOf first) (textOf second ++ textOf rest) cs, append-assoc (textOf second) (textOf rest) cs)
+    (forks c (v .command) (v .room) (go₁ _ (go₂ _ (go₃ cs t)))))
     a depth close at k end k₁ s

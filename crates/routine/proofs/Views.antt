@@ -1,6 +1,6 @@
 -- What stands at an offset of an accepted routine, for what walks over the same bytes again: an arm that stands is known by its first command,
 -- and so are the arms and the rest that follow it. Assumes nothing.
-use mathlib.Core.Path.{_≡_, refl, sym, ap, subst, _∙_}
+use mathlib.Core.Path.{_≡_, refl, sym, subst, _∙_}
 use mathlib.Core.List.{List}
 use mathlib.Core.Bool.{false}
 use Prim.Native.Nat.{ℕ, _+_, _≤_, _<_}
@@ -9,7 +9,7 @@ use lib.ListN.{length}
 use Rattle.routine.specs.Command.{sizeOfSimple, commandAt}
 use Rattle.routine.specs.Step.{tooMany, after, oneIf}
 use Rattle.routine.specs.Routine.{Arm, Parsed, refused, parsed, done, plain, fork, andThen, armStep, stepAt, arm}
-use Rattle.routine.specs.Stands.{Stands, SomeArm, SomeIf, Sound, SoundIf}
+use Rattle.routine.specs.Stands.{Stands, Sound, SoundIf}
 use Rattle.routine.specs.declared.Header.{Header}
 use Rattle.routine.specs.declared.Counts.{Counts}
 use Rattle.routine.specs.declared.Step.{Step}

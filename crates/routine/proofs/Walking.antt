@@ -1,20 +1,18 @@
 -- A walk over an arm of an accepted routine, whatever it keeps on the way: its state s : S, what an arm means from a state, M, and how the state is
 -- tied to the counts, K. A walker's loop has the invariant `Going`: what is left means what the whole meant. Assumes nothing.
-use mathlib.Core.Path.{_≡_, refl, sym, ap, subst, _∙_}
+use mathlib.Core.Path.{_≡_, refl, sym, _∙_}
 use mathlib.Core.List.{List}
-use Prim.Native.Nat.{ℕ, _+_, _≤_, _<_}
-use native.Mathlib.Omega.{arith}
-use lib.ListN.{length}
+use Prim.Native.Nat.{ℕ, _+_}
 use Rattle.routine.specs.Command.{sizeOfSimple, commandAt}
 use Rattle.routine.specs.Step.{after, oneIf}
 use Rattle.routine.specs.Routine.{Arm, done, plain, fork}
-use Rattle.routine.specs.Stands.{Stands, SomeArm, SomeIf}
+use Rattle.routine.specs.Stands.{Stands}
 use Rattle.routine.specs.declared.Header.{Header}
 use Rattle.routine.specs.declared.Condition.{Condition}
 use Rattle.routine.specs.declared.Counts.{Counts}
 use Rattle.routine.specs.declared.Simple.{Simple}
 use Rattle.routine.specs.declared.Command.{Command}
-use Rattle.routine.proofs.Views.{PlainAt, ForkAt, ByClose, BySimple, ByIf, onward, by-missing, by-close, by-simple, by-if}
+use Rattle.routine.proofs.Views.{by-close, by-simple, by-if}
 
 -- what is left of the arm a
 pub record LeftOf (bs : List ℕ) (h : Header) (depth close : ℕ) {S R : Type 0} (M : Arm → S → R) (K : Counts → S → Type 0) (s₀ : S) (at : ℕ) (s : S) (a : Arm) (end : ℕ) (k₁ : Counts) : Type 0 where

@@ -1,12 +1,11 @@
 -- What stands at an offset of a routine.
 use Prim.Native.Nat.{ℕ, _+_, _-_}
 use mathlib.Core.List.{List}
-use mathlib.Core.Bool.{Bool, cond, _&&_, _||_}
+use mathlib.Core.Bool.{cond, _||_}
 use lib.ListN.{length}
 use lib.Dec.{leb, eqb}
 use Rattle.slices.specs.Bytes.{entry, word}
 use Rattle.routine.specs.Header.{between}
-use Rattle.routine.specs.declared.Condition.{Condition}
 use Rattle.routine.specs.declared.Simple.{Simple}
 use Rattle.routine.specs.declared.Command.{Command}
 

@@ -1,6 +1,7 @@
 -- A routine from its bytes, or the refusal.
 use Prim.Native.Nat.{ℕ}
 use mathlib.Core.List.{List}
+use mathlib.Core.Path.{_≡_}
 use mathlib.Core.Bool.{cond, _&&_}
 use lib.ListN.{length}
 use lib.Dec.{leb, eqb}
@@ -12,11 +13,12 @@ use Rattle.routine.specs.declared.Counts.{Counts}
 use Rattle.routine.specs.declared.Refusal.{Refusal}
 use Rattle.routine.specs.declared.Checked.{Checked}
 
--- the routine: its header, its commands, and how many ifs, reads and writes it has
+-- what the bytes are: no routine, for a reason, or a routine: its header, its commands, and how many ifs, reads and writes it has
 pub data Decoded : Type 0 where
   rejected : Refusal → Decoded
   routine : Header → Arm → Counts → Decoded
 
+-- before the first command nothing was met
 abbrev pub noCounts : Counts
 noCounts = record { ifs = 0; reads = 0; writes = 0 }
 
@@ -25,20 +27,30 @@ abbrev pub decodeArm : List ℕ → Header → Parsed Arm → Decoded
 decodeArm bs h (refused fault place) = rejected (Refusal.Command fault place)
 decodeArm bs h (parsed a end k) = cond (eqb end (length bs)) (routine h a k) (rejected (Refusal.Trailing end))
 
+-- what the header is, and then the commands after it
 abbrev pub decodeHead : List ℕ → Head → Decoded
 decodeHead bs (Head.Wrong place) = rejected (Refusal.Header place)
 decodeHead bs (Head.Whole h) = decodeArm bs h (arm bs h 0 0x00 (firstCommand h) noCounts)
 
+-- 1 to 4,096 bytes, and in them a header and commands
 unfoldable pub decode : List ℕ → Decoded
 decode bs = cond (leb 1 (length bs) && leb (length bs) 4096) (decodeHead bs (headerOf bs)) (rejected Refusal.Length)
 
--- what `check` answers
+-- the answer: a routine is accepted with its header and its counts
 abbrev pub answer : Decoded → Checked
 answer (rejected refusal) = Checked.Refused refusal
 answer (routine h a k) = Checked.Accepted h k
 
+-- what `check` answers for these bytes
 unfoldable pub checked : List ℕ → Checked
 checked bs = answer (decode bs)
 
+-- what `check_commands` answers: the header is known to be whole
 unfoldable pub checkedCommands : List ℕ → Header → Checked
 checkedCommands bs h = answer (decodeHead bs (Head.Whole h))
+
+-- the bytes are a routine with this header
+pub record IsRoutine (bs : List ℕ) (h : Header) : Type 0 where
+  pub commands : Arm
+  pub counts : Counts
+  pub decodes : decode bs ≡ routine h commands counts

@@ -1,5 +1,5 @@
 -- That an arm stands at an offset of the bytes of an accepted routine: what a walker over the same bytes asks and tells.
-use Prim.Native.Nat.{ℕ, _+_, _*_, _<_, _≤_}
+use Prim.Native.Nat.{ℕ, _+_, _<_, _≤_}
 use mathlib.Core.Path.{_≡_}
 use mathlib.Core.Bool.{true}
 use mathlib.Core.List.{List}
@@ -7,7 +7,7 @@ use lib.ListN.{length}
 use lib.Dec.{eqb}
 use Rattle.slices.specs.Bytes.{entry}
 use Rattle.routine.specs.Header.{firstCommand, width, arraySize}
-use Rattle.routine.specs.Step.{inRange, widthsFit, conditionInRange, oneIf}
+use Rattle.routine.specs.Step.{inRange, widthsFit, conditionInRange}
 use Rattle.routine.specs.Routine.{Arm, parsed, arm}
 use Rattle.routine.specs.declared.Header.{Header}
 use Rattle.routine.specs.declared.Condition.{Condition}
@@ -42,6 +42,7 @@ pub record Sound (bs : List ℕ) (h : Header) (c : Simple) : Type 0 where
   pub ranges : inRange bs h c ≡ true
   pub widths : widthsFit bs c ≡ true
 
+-- an if's relation and operands passed 4 and 5
 pub record SoundIf (bs : List ℕ) (h : Header) (c : Condition) : Type 0 where
   pub ranges : conditionInRange h c ≡ true
   pub widths : eqb (width bs (c .s)) (width bs (c .t)) ≡ true

@@ -91,4 +91,3 @@ pub fn command_at(bytes: &[u8], at: usize) -> Command
         Command::Missing
     }
 }
-

@@ -2,7 +2,7 @@
 pub mod commands;
 pub mod headers;
 pub mod refusals;
-mod steps;
+pub mod steps;
 pub mod walks;
 
 ghost use mathlib.Core.Path.{_≡_};

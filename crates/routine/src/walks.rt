@@ -18,8 +18,15 @@ ghost use Rattle.routine.specs.Routine.{walkArm, walkIf};
 ghost use Rattle.routine.specs.Stands.{SomeArm};
 ghost use Rattle.routine.specs.Passes.{Passes};
 
-// Walks over the arm from `at` on, inside `depth` ifs, that the command byte `close` ends, after the counts k.
-pub fn walk_arm(bytes: &[u8], h: Header, depth: u8, close: u8, from: usize, before: Counts) -> Walked
+// Walks over the arm from `from` on, inside `depth` ifs, that the command byte `close` ends, after the counts `before`.
+pub fn walk_arm(
+    bytes: &[u8],
+    h: Header,
+    depth: u8,
+    close: u8,
+    from: usize,
+    before: Counts,
+) -> Walked
     ensures { λ r. ⌜ r ≡ walkArm (now (bytes .entry)) h depth close from before ⌝ }
 {
     let mut at = from;

@@ -1,5 +1,5 @@
 -- `routine::command_by` meets its contract: at each arm the keys, or the bounds of the range, decide the tests of `commandBy`.
-use mathlib.Core.Path.{_≡_, refl}
+use mathlib.Core.Path.{_≡_}
 use Prim.Native.Nat.{ℕ, _≤_}
 use native.Mathlib.Omega.{arith}
 use borrow.Author.Tests.{ne-eqb, le-leb, lt-leb}

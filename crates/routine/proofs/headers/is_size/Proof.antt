@@ -3,9 +3,6 @@ use Rattle.routine.specs.Header.{sizeOk}
 use borrow.Author.Needs.{needs}
 use Rattle.routine.proofs.headers.is_size.Statement.{statement}
 use Rattle.routine.proofs.headers.is_size.Tie as tie
-use Rattle.routine.proofs.headers.is_size.Reads as reads
-use Rattle.routine.proofs.headers.is_size.Lts as lts
-use Rattle.slices.proofs.half_at.Reads as half-at-reads
 
 add-if1 : tie.Need-add-if1
 add-if1 c = search needs

@@ -1,4 +1,4 @@
-use borrow.Author.Tests.{lt-ltb, le-ltb, eq-eqb, ne-eqb}
+use borrow.Author.Tests.{lt-ltb, le-ltb}
 use Rattle.routine.proofs.steps.below2.Statement.{statement}
 use Rattle.routine.proofs.steps.below2.Tie as tie
 

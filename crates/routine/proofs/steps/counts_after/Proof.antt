@@ -1,11 +1,9 @@
 use native.Mathlib.Omega.{arith}
 use borrow.Author.Tests.{leb-false}
-use Rattle.routine.specs.Step.{tooMany, accesses, after}
+use Rattle.routine.specs.Step.{tooMany, accesses}
 use borrow.Author.Needs.{needs}
 use Rattle.routine.proofs.steps.counts_after.Statement.{statement}
 use Rattle.routine.proofs.steps.counts_after.Tie as tie
-use Rattle.routine.proofs.steps.counts_after.Reads as reads
-use Rattle.routine.proofs.steps.counts_after.Lts as lts
 
 enum-told : tie.Need-enum-told
 enum-told c = search needs

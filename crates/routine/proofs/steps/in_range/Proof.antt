@@ -4,12 +4,6 @@ use Rattle.routine.specs.Step.{inRange}
 use borrow.Author.Needs.{needs}
 use Rattle.routine.proofs.steps.in_range.Statement.{statement}
 use Rattle.routine.proofs.steps.in_range.Tie as tie
-use Rattle.routine.proofs.steps.in_range.Reads as reads
-use Rattle.routine.proofs.steps.in_range.Lts as lts
-use Rattle.routine.proofs.headers.width_of.Reads as width-of-reads
-use Rattle.routine.proofs.steps.below2.Reads as below2-reads
-use Rattle.routine.proofs.steps.below3.Reads as below3-reads
-use Rattle.routine.proofs.steps.fits_width.Reads as fits-width-reads
 
 enum-known-c : tie.Need-enum-known-c
 enum-known-c c = search needs

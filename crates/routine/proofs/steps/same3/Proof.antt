@@ -1,4 +1,4 @@
-use borrow.Author.Tests.{lt-ltb, le-ltb, eq-eqb, ne-eqb}
+use borrow.Author.Tests.{eq-eqb, ne-eqb}
 use Rattle.routine.proofs.steps.same3.Statement.{statement}
 use Rattle.routine.proofs.steps.same3.Tie as tie
 

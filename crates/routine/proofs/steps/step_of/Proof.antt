@@ -3,10 +3,6 @@ use Rattle.routine.specs.Step.{stepOf}
 use borrow.Author.Needs.{needs}
 use Rattle.routine.proofs.steps.step_of.Statement.{statement}
 use Rattle.routine.proofs.steps.step_of.Tie as tie
-use Rattle.routine.proofs.steps.step_of.Reads as reads
-use Rattle.routine.proofs.steps.step_of.Lts as lts
-use Rattle.routine.proofs.steps.if_step.Reads as if-step-reads
-use Rattle.routine.proofs.steps.simple_step.Reads as simple-step-reads
 
 enum-told : tie.Need-enum-told
 enum-told c = search needs

@@ -1,12 +1,7 @@
-use mathlib.Core.Path.{_∙_}
 use Rattle.routine.specs.Step.{tooMany}
 use borrow.Author.Needs.{needs}
 use Rattle.routine.proofs.steps.too_many.Statement.{statement}
 use Rattle.routine.proofs.steps.too_many.Tie as tie
-use Rattle.routine.proofs.steps.too_many.Reads as reads
-use Rattle.routine.proofs.steps.too_many.Lts as lts
-use Rattle.routine.proofs.steps.accesses_of.Reads as accesses-of-reads
-use Rattle.routine.proofs.steps.is_access.Reads as is-access-reads
 
 is-access-requires : tie.Need-is-access-requires
 is-access-requires c κs = search needs

@@ -3,11 +3,6 @@ use Rattle.routine.specs.Step.{widthsFit}
 use borrow.Author.Needs.{needs}
 use Rattle.routine.proofs.steps.widths_fit.Statement.{statement}
 use Rattle.routine.proofs.steps.widths_fit.Tie as tie
-use Rattle.routine.proofs.steps.widths_fit.Reads as reads
-use Rattle.routine.proofs.steps.widths_fit.Lts as lts
-use Rattle.routine.proofs.headers.width_of.Reads as width-of-reads
-use Rattle.routine.proofs.steps.converts_widths.Reads as converts-widths-reads
-use Rattle.routine.proofs.steps.same3.Reads as same3-reads
 
 enum-told : tie.Need-enum-told
 enum-told c = search needs

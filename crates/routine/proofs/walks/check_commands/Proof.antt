@@ -1,5 +1,4 @@
 use borrow.Author.Tests.{eq-eqb, ne-eqb}
-use mathlib.Core.Path.{sym, _∙_}
 use Rattle.routine.specs.declared.Walked.{Walked}
 use Rattle.routine.proofs.Answers.{commands}
 use borrow.Author.Needs.{needs}

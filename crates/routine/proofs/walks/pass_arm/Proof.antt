@@ -2,9 +2,6 @@ use Rattle.routine.proofs.Passing.{never-refused, passes}
 use borrow.Author.Needs.{needs}
 use Rattle.routine.proofs.walks.pass_arm.Statement.{statement}
 use Rattle.routine.proofs.walks.pass_arm.Tie as tie
-use Rattle.routine.proofs.walks.pass_arm.Reads as reads
-use Rattle.routine.proofs.walks.pass_arm.Lts as lts
-use Rattle.routine.proofs.walks.walk_arm.Reads as walk-arm-reads
 
 walk-arm-requires : tie.Need-walk-arm-requires
 walk-arm-requires c κs = search needs
@@ -16,12 +13,12 @@ enum-known-next : tie.Need-enum-known-next
 enum-known-next c = search needs
 
 returns : tie.Need-returns
-returns c = 
+returns c =
     let w = c .before .before .before in
     absurd (never-refused _ _ _ _ _ _ _ (w .walk-arm .ensures) (w .before .before .pre) _ _ (c .before .place .given .1))
 
 returns-2 : tie.Need-returns-2
-returns-2 c = 
+returns-2 c =
     let w = c .before .before .before in
     passes _ _ _ _ _ _ _ (w .walk-arm .ensures) _ _ (c .before .next .given .1)
 

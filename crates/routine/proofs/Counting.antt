@@ -1,0 +1,33 @@
+-- An accepted routine has at most 32 ifs. Assumes nothing.
+use mathlib.Core.Path.{_≡_, refl}
+use mathlib.Core.List.{List}
+use Prim.Native.Nat.{ℕ, _≤_}
+use native.Mathlib.Omega.{arith}
+use Rattle.routine.specs.Step.{after}
+use Rattle.routine.specs.Routine.{Arm}
+use Rattle.routine.specs.Decode.{routine, decode}
+use Rattle.routine.specs.Stands.{Stands}
+use Rattle.routine.specs.declared.Header.{Header}
+use Rattle.routine.specs.declared.Counts.{Counts}
+use Rattle.routine.specs.declared.Simple.{Simple}
+use Rattle.routine.proofs.Views.{induction}
+use Rattle.routine.proofs.Accepted.{decoded}
+
+-- a command that is no if leaves the count of the ifs
+pub same-ifs : (c : Simple) (k : Counts) → after c k .ifs ≡ k .ifs
+same-ifs (Simple.Set d x) k = refl
+same-ifs (Simple.Convert op d s) k = refl
+same-ifs (Simple.Compute op d s t) k = refl
+same-ifs (Simple.Read d a i) k = refl
+same-ifs (Simple.Write a i s) k = refl
+
+few-ifs-after : (bs : List ℕ) (h : Header) (a : Arm) (depth close at : ℕ) (k : Counts) (end : ℕ) (k₁ : Counts) → Stands bs h depth close at k a end k₁
+    → k .ifs ≤ 32 → k₁ .ifs ≤ 32
+few-ifs-after bs h =
+    induction bs h (λ depth close at k a end k₁. k .ifs ≤ 32 → k₁ .ifs ≤ 32)
+    (λ depth close at k mark e l f. f)
+    (λ depth close at k c rest end k₁ v go f. go (rw (same-ifs c k) f))
+    (λ depth close at k c first second rest end k₁ v go₁ go₂ go₃ f. go₃ (go₂ (go₁ (let l = v .few in omega arith))))
+
+pub few-ifs : (bs : List ℕ) (h : Header) (a : Arm) (k : Counts) → decode bs ≡ routine h a k → k .ifs ≤ 32
+few-ifs bs h a k e = few-ifs-after bs h a 0 0 _ _ _ k (decoded bs h a k e .stands) (omega arith)
