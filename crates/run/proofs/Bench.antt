@@ -1,0 +1,50 @@
+-- The worked examples of document 01 that are marked P, in one theorem. Assumes nothing.
+use mathlib.Core.Path.{_≡_, refl}
+use mathlib.Core.List.{List, [], _∷_}
+use mathlib.Core.Bool.{true, false}
+use Prim.Native.Nat.{ℕ}
+use Rattle.slices.specs.Bytes.{half}
+use Rattle.bitvec.specs.Word.{add, subtract, multiply, cut}
+use Rattle.bitvec.specs.Signed.{signed, less, encode, signExtend}
+use Rattle.bitvec.specs.Relation.{relates}
+use Rattle.bitvec.specs.declared.Whole.{Whole}
+use Rattle.routine.specs.Header.{within, sizeOk, firstBad, headerOf}
+use Rattle.routine.specs.Command.{commandBy, commandAt}
+use Rattle.routine.specs.Step.{inRange, widthsFit, tooMany, simpleStep, stepOf}
+use Rattle.routine.specs.Routine.{textOf, armBy}
+use Rattle.routine.specs.Decode.{decode}
+use Rattle.run.specs.Inputs.{variablesFrom, readVariables, firstGreat, listed}
+use Rattle.run.specs.State.{over, start, indexOf, lies, carry}
+use Rattle.run.specs.Run.{runArm, runOf}
+use Rattle.run.specs.Answer.{Answer, admission, answer}
+use Rattle.run.specs.declared.Side.the-variants.{Below, Above}
+use Rattle.run.specs.declared.Ran.{Ran}
+
+-- one variable of 8 bits, a parameter; one array of 100; a write at that variable; the end
+abbrev routine : List ℕ
+routine = 0x01 ∷ 0x01 ∷ 0x08 ∷ 0x01 ∷ 0x01 ∷ 0x64 ∷ 0x00 ∷ 0x0A ∷ 0x00 ∷ 0x00 ∷ 0x00 ∷ 0x00 ∷ []
+
+-- its run on the word x, with room for one value that holds 7 and for no trail
+abbrev ran : ℕ → Answer
+ran x = answer routine (x ∷ []) (7 ∷ []) []
+
+-- the value buffer then holds x
+abbrev left : Ran → ℕ → Answer
+left r x = record { ran = r; values = x ∷ []; trail = [] }
+
+pub bench :
+    (ran 0 ≡ left Ran.Ended 0)
+    × (ran 99 ≡ left Ran.Ended 99)
+    × (ran 100 ≡ left (Ran.Stopped 0 (Whole.Natural 100) Above) 100)
+    × (ran 127 ≡ left (Ran.Stopped 0 (Whole.Natural 127) Above) 127)
+    × (ran 128 ≡ left (Ran.Stopped 0 (Whole.Negative 128) Below) 128)
+    × (ran 255 ≡ left (Ran.Stopped 0 (Whole.Negative 1) Below) 255)
+    × (add 8 200 100 ≡ 44)
+    × (subtract 8 0 1 ≡ 255)
+    × (multiply 8 16 16 ≡ 0)
+    × (signExtend 8 4 8 ≡ 248)
+    × (cut 8 500 ≡ 244)
+    × (relates 6 8 128 127 ≡ true)
+    × (relates 2 8 128 127 ≡ false)
+unfolding answer admission decode headerOf within sizeOk firstBad armBy commandAt commandBy half stepOf simpleStep inRange widthsFit tooMany textOf listed firstGreat variablesFrom readVariables runOf runArm start over carry indexOf lies signed less encode signExtend add subtract multiply relates
+bench = (refl, refl, refl, refl, refl, refl, refl, refl, refl, refl, refl, refl, refl)

@@ -1,0 +1,90 @@
+-- What a run answers, and what it leaves in the lent buffers.
+use Prim.Native.Nat.{ℕ}
+use mathlib.Core.Path.{_≡_}
+use mathlib.Core.List.{List}
+use mathlib.Core.Bool.{cond}
+use lib.ListN.{length}
+use lib.Dec.{leb}
+use Rattle.routine.specs.Routine.{Arm, done}
+use Rattle.routine.specs.Decode.{Decoded, rejected, routine, decode}
+use Rattle.routine.specs.declared.Header.{Header}
+use Rattle.routine.specs.declared.Counts.{Counts}
+use Rattle.run.specs.Inputs.{listed}
+use Rattle.run.specs.State.{over}
+use Rattle.run.specs.Run.{runOf}
+use Rattle.run.specs.declared.Listed.{Listed}
+use Rattle.run.specs.declared.Outcome.{Outcome}
+use Rattle.run.specs.declared.State.{State}
+use Rattle.run.specs.declared.Buffer.{Buffer}
+use Rattle.run.specs.declared.Refusal.{Refusal}
+use Rattle.run.specs.declared.Admitted.{Admitted}
+use Rattle.run.specs.declared.Ran.{Ran}
+
+-- whether there is a run: the refusal, or the routine
+pub data Admission : Type 0 where
+  refused : Refusal → Admission
+  runs : Header → Arm → Counts → Admission
+
+-- 16: a value for each variable, a byte for each if
+abbrev pub roomy : (values trail : ℕ) → Header → Arm → Counts → Admission
+roomy values trail h a k =
+    cond (leb (h .variables) values)
+    (cond (leb (k .ifs) trail) (runs h a k) (refused (Refusal.TooSmall Buffer.Trail)))
+    (refused (Refusal.TooSmall Buffer.Values))
+
+-- 9 and 10, then 16; `given` words were given
+abbrev pub byList : (given values trail : ℕ) → Header → Arm → Counts → Listed → Admission
+byList given values trail h a k Listed.Accepted = roomy values trail h a k
+byList given values trail h a k Listed.Miscounted = refused (Refusal.InputCount given)
+byList given values trail h a k (Listed.TooGreat n) = refused (Refusal.Input n)
+
+-- 1 to 8, then 9, 10 and 16
+abbrev pub byRoutine : (bs ins : List ℕ) → (values trail : ℕ) → Decoded → Admission
+byRoutine bs ins values trail (rejected refusal) = refused (Refusal.Routine refusal)
+byRoutine bs ins values trail (routine h a k) = byList (length ins) values trail h a k (listed bs ins h a k)
+
+-- whether there is a run of the routine on the input list, with so many values and trail bytes lent
+unfoldable pub admission : (bs ins : List ℕ) → (values trail : ℕ) → Admission
+admission bs ins values trail = byRoutine bs ins values trail (decode bs)
+
+-- the same without the tree
+abbrev pub withoutTree : Admission → Admitted
+withoutTree (refused refusal) = Admitted.Refused refusal
+withoutTree (runs h a k) = Admitted.Runs h k
+
+-- what 16 says to a routine and an input list that passed
+unfoldable pub admittedRoom : (values trail : ℕ) → Header → Counts → Admitted
+admittedRoom values trail h k = withoutTree (roomy values trail h done k)
+
+-- what `admit` answers
+unfoldable pub admitted : (bs ins : List ℕ) → (values trail : ℕ) → Admitted
+admitted bs ins values trail = withoutTree (admission bs ins values trail)
+
+-- the answer of a run that is over
+abbrev pub ranBy : Outcome → Ran
+ranBy Outcome.Going = Ran.Ended
+ranBy (Outcome.Stopped access index side) = Ran.Stopped access index side
+
+-- the answer, and both buffers
+pub record Answer : Type 0 where
+  pub ran : Ran
+  pub values : List ℕ
+  pub trail : List ℕ
+
+-- what a run that left the state s answers: the values and the trail are handed out, and what lies beyond is unchanged
+abbrev pub handedOut : Header → Counts → (values trail : List ℕ) → State → Answer
+handedOut h k values trail s =
+    record { ran = ranBy (s .outcome); values = over (h .variables) (s .values) values; trail = over (k .ifs) (s .trail) trail }
+
+-- a refusal leaves both buffers unchanged
+abbrev pub answerBy : (bs ins values trail : List ℕ) → Admission → Answer
+answerBy bs ins values trail (refused refusal) = record { ran = Ran.Refused refusal; values = values; trail = trail }
+answerBy bs ins values trail (runs h a k) = handedOut h k values trail (runOf bs ins h a .state)
+
+-- what `run` answers
+unfoldable pub answer : (bs ins values trail : List ℕ) → Answer
+answer bs ins values trail = answerBy bs ins values trail (admission bs ins (length values) (length trail))
+
+-- the answer is r, and the buffers became values₁ and trail₁
+pub record Answers (bs ins values trail values₁ trail₁ : List ℕ) (r : Ran) : Type 0 where
+  pub equal : _≡_ {A = Answer} (record { ran = r; values = values₁; trail = trail₁ }) (answer bs ins values trail)

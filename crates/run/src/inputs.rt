@@ -1,0 +1,137 @@
+// Whether an input list is accepted, and whether there is a run.
+use crate::Admitted;
+use crate::Buffer;
+use crate::Listed;
+use crate::Reads;
+use crate::Refusal;
+use routine::Checked;
+use routine::Command;
+use routine::Counts;
+use routine::Header;
+use routine::Simple;
+use routine::commands::command_at;
+use routine::commands::size_of;
+use routine::headers::first_command;
+use routine::headers::width_of;
+use routine::steps::fits_width;
+use slices::entry_at;
+ghost use mathlib.Core.Path.{_≡_};
+ghost use Prim.Native.Nat.{_^_};
+ghost use lib.Dec.{ltb};
+ghost use Rattle.slices.specs.Bytes.{entry};
+ghost use Rattle.routine.specs.Header.{width};
+ghost use Rattle.run.specs.Inputs.{variablesFrom, firstGreat};
+ghost use Rattle.routine.specs.Decode.{IsRoutine};
+ghost use Rattle.run.specs.Walker.{readBy, ScansReads, Lists};
+ghost use Rattle.run.specs.Answer.{admittedRoom, admitted};
+
+// The word of number n fits variable v.
+fn fits(bytes: &[u8], inputs: &[u32], n: usize, v: u8) -> bool
+    ensures { λ r. ⌜ r ≡ ltb (entry (now (inputs .entry)) n) (2 ^ width (now (bytes .entry)) v) ⌝ }
+{
+    fits_width(entry_at(inputs, n), width_of(bytes, v))
+}
+
+// The first parameter whose word is too great.
+fn check_parameters(bytes: &[u8], inputs: &[u32], parameters: u8) -> Listed
+    ensures { λ r. ⌜ r ≡ firstGreat (now (bytes .entry)) (now (inputs .entry)) 0 (variablesFrom 0 parameters) ⌝ }
+{
+    let mut v: u8 = 0;
+    while v < parameters {
+        let n = v as usize;
+        if !fits(bytes, inputs, n, v) {
+            return Listed::TooGreat(n);
+        }
+        v += 1;
+    }
+    Listed::Accepted
+}
+
+fn read_by(command: Command) -> Reads
+    ensures { λ r. ⌜ r ≡ readBy command ⌝ }
+{
+    match command {
+        Command::Missing => Reads::Nothing,
+        Command::Close(_) => Reads::Nothing,
+        Command::If(_) => Reads::Nothing,
+        Command::Simple(c) => match c {
+            Simple::Set { .. } => Reads::Nothing,
+            Simple::Convert { .. } => Reads::Nothing,
+            Simple::Compute { .. } => Reads::Nothing,
+            Simple::Read { d, array: _, i: _ } => Reads::Variable(d),
+            Simple::Write { .. } => Reads::Nothing,
+        },
+    }
+}
+
+// The first read, in text order, whose word is too great. Its words come after those of the parameters.
+fn check_reads(bytes: &[u8], inputs: &[u32], h: Header) -> Listed
+    requires { ⌜ IsRoutine (now bytes) h ⌝ }
+    ensures { λ r. ⌜ ScansReads (now (bytes .entry)) (now (inputs .entry)) h r ⌝ }
+{
+    let mut at = first_command(h);
+    let mut n = h.parameters as usize;
+    while at < bytes.len() {
+        let command = command_at(bytes, at);
+        match read_by(command) {
+            Reads::Nothing => {
+                at += size_of(command);
+            }
+            Reads::Variable(v) => {
+                if !fits(bytes, inputs, n, v) {
+                    return Listed::TooGreat(n);
+                }
+                at += size_of(command);
+                n += 1;
+            }
+        }
+    }
+    Listed::Accepted
+}
+
+// 9 and 10: one word for each parameter and each read, and none too great.
+pub fn check_inputs(bytes: &[u8], inputs: &[u32], h: Header, k: Counts) -> Listed
+    requires { ⌜ IsRoutine (now bytes) h ⌝ }
+    ensures { λ r. ⌜ Lists (now (bytes .entry)) (now (inputs .entry)) h k r ⌝ }
+{
+    if inputs.len() != h.parameters as usize + k.reads as usize {
+        return Listed::Miscounted;
+    }
+    match check_parameters(bytes, inputs, h.parameters) {
+        Listed::Accepted => check_reads(bytes, inputs, h),
+        Listed::Miscounted => Listed::Miscounted,
+        Listed::TooGreat(n) => Listed::TooGreat(n),
+    }
+}
+
+// 16: a value for each variable, a trail byte for each if.
+fn admit_room(h: Header, k: Counts, values: usize, trail: usize) -> Admitted
+    ensures { λ r. ⌜ r ≡ admittedRoom values trail h k ⌝ }
+{
+    if values < h.variables as usize {
+        return Admitted::Refused(Refusal::TooSmall(Buffer::Values));
+    }
+    if trail < k.ifs as usize {
+        return Admitted::Refused(Refusal::TooSmall(Buffer::Trail));
+    }
+    Admitted::Runs(h, k)
+}
+
+// Whether there is a run: 1 to 8, then 9, 10 and 16.
+pub fn admit(routine: &[u8], inputs: &[u32], values: usize, trail: usize) -> Admitted
+    ensures { λ r. ⌜ r ≡ admitted (now (routine .entry)) (now (inputs .entry)) values trail ⌝ }
+{
+    match routine::check(routine) {
+        Checked::Refused(refusal) => Admitted::Refused(Refusal::Routine(refusal)),
+        Checked::Accepted { header, counts } => match check_inputs(
+            routine,
+            inputs,
+            header,
+            counts,
+        ) {
+            Listed::Accepted => admit_room(header, counts, values, trail),
+            Listed::Miscounted => Admitted::Refused(Refusal::InputCount(inputs.len())),
+            Listed::TooGreat(n) => Admitted::Refused(Refusal::Input(n)),
+        },
+    }
+}

@@ -1,0 +1,111 @@
+// The run of a routine on an input list.
+mod buffers;
+pub mod inputs;
+pub mod refusals;
+mod runs;
+pub mod states;
+
+use bitvec::Whole;
+use routine::Counts;
+use routine::Header;
+ghost use Rattle.run.specs.Answer.{Answers};
+
+// Where an index lies outside its array: below 0, or at or above the size.
+pub enum Side {
+    Below,
+    Above,
+}
+
+// Where an index lies.
+pub enum Lies {
+    Inside,
+    Outside(Side),
+}
+
+// A run is going, or an access stopped it.
+pub enum Outcome {
+    Going,
+    Stopped {
+        access: u32,
+        index: Whole,
+        side: Side,
+    },
+}
+
+// The state of a run: the variables' values, the arm taken at each if (0 first, 1 else, 2 not come to), and whether it is over.
+pub struct State {
+    pub values: [u32; 32],
+    pub trail: [u8; 32],
+    pub outcome: Outcome,
+}
+
+// A run at the end of an arm or an if: the offset and the counts there, and the state. Where it stopped before, only the state tells something.
+pub struct Reached {
+    pub next: usize,
+    pub counts: Counts,
+    pub state: State,
+}
+
+// What is said of an input list.
+pub enum Listed {
+    Accepted,
+    // not one word for each parameter and each read
+    Miscounted,
+    // this word is too great for its variable
+    TooGreat(usize),
+}
+
+// The variable that a read writes, or that a command is no read.
+pub enum Reads {
+    Variable(u8),
+    Nothing,
+}
+
+// A lent buffer of a run.
+pub enum Buffer {
+    Values,
+    Trail,
+}
+
+// Why there is no run.
+pub enum Refusal {
+    Routine(routine::Refusal),
+    // so many input words were given
+    InputCount(usize),
+    // the input word of this number is too great
+    Input(usize),
+    TooSmall(Buffer),
+}
+
+// Whether there is a run.
+pub enum Admitted {
+    Refused(Refusal),
+    Runs(Header, Counts),
+}
+
+// What a run answers.
+pub enum Ran {
+    Ended,
+    Stopped {
+        access: u32,
+        index: Whole,
+        side: Side,
+    },
+    Refused(Refusal),
+}
+
+// Runs a routine on an input list. The values and the trail are handed out for a stop as for an end; a refusal leaves both buffers as they were.
+pub fn run(routine: &[u8], inputs: &[u32], values: &mut [u32], trail: &mut [u8]) -> Ran
+    ensures { λ r. ⌜ Answers (now (routine .entry)) (now (inputs .entry)) (now (values .entry)) (now (trail .entry)) (now (values .exit)) (now (trail .exit)) r ⌝ }
+{
+    match inputs::admit(routine, inputs, values.len(), trail.len()) {
+        Admitted::Refused(refusal) => Ran::Refused(refusal),
+        Admitted::Runs(h, k) => {
+            let state = runs::run_from_start(routine, inputs, h);
+            buffers::put_values(state, h.variables, values);
+            buffers::put_trail(state, k.ifs, trail);
+            let outcome = state.outcome;
+            runs::answer_of(outcome)
+        }
+    }
+}
