@@ -1,0 +1,22 @@
+-- The reply of a run, from what the run and the filling of the answer said. Assumes nothing.
+use mathlib.Core.Path.{_≡_, ap, _∙_}
+use mathlib.Core.List.{List}
+use mathlib.Core.Bool.{false}
+use Prim.Native.Nat.{ℕ}
+use lib.ListN.{length}
+use lib.Dec.{ltb}
+use Rattle.run.specs.Answer.{Answer, Answers}
+use Rattle.run.specs.declared.Ran.{Ran}
+use Rattle.capi.specs.Reply.{Reply, Fills, runFills, RunReply, runGives, runReply, RunsReply}
+
+abbrev put : ℕ → (values trail ans : List ℕ) → RunReply
+put code values trail ans = record { code = code; values = values; trail = trail; answer = ans }
+
+pub replies : (bs ins values trail ans values₁ trail₁ ans₁ : List ℕ) (r : ℕ) {ran : Ran} → Fills (runFills ran ans) ans₁ r
+    → Answers bs ins values trail values₁ trail₁ ran → ltb (length ans) 8 ≡ false → RunsReply bs ins values trail ans values₁ trail₁ ans₁ r
+unfolding runReply
+replies bs ins values trail ans values₁ trail₁ ans₁ r {ran} f x e = record {
+  equal =
+      ap (λ (y : Reply). put (y .code) values₁ trail₁ (y .answer)) (f .equal)
+      ∙ rw e (ap (λ (y : Answer). runGives y ans) (x .equal));
+}

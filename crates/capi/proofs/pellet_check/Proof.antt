@@ -1,0 +1,27 @@
+use mathlib.Core.Path.{_∙_}
+use borrow.Author.Tests.{lt-ltb, le-ltb}
+use Rattle.capi.specs.Reply.{checkReply}
+use borrow.Author.Needs.{needs}
+use Rattle.capi.proofs.pellet_check.Statement.{statement}
+use Rattle.capi.proofs.pellet_check.Tie as tie
+
+returns : tie.Need-returns
+unfolding checkReply
+returns c = record { equal = rw (lt-ltb _ _ (c .if1 .taken)) }
+
+check-requires : tie.Need-check-requires
+check-requires c κs = search needs
+
+fill-check-requires : tie.Need-fill-check-requires
+fill-check-requires c κs = search needs
+
+same-length : tie.Need-same-length
+same-length c = search needs
+
+returns-2 : tie.Need-returns-2
+unfolding checkReply
+returns-2 c = record { equal = c .before .before .fill-check .ensures .equal ∙ rw (le-ltb _ _ (c .before .before .before .before .before .if1 .left), c .before .before .before .before .check .ensures) }
+
+pub pellet-check-spec : {M : Type 1} → statement M
+pellet-check-spec =
+    tie.close (tie.spec returns check-requires fill-check-requires same-length returns-2)

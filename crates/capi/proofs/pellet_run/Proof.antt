@@ -1,0 +1,41 @@
+use Rattle.capi.proofs.Replies.{replies}
+use borrow.Author.Tests.{lt-ltb, le-ltb}
+use Rattle.capi.specs.Reply.{runReply}
+use borrow.Author.Needs.{needs}
+use Rattle.capi.proofs.pellet_run.Statement.{statement}
+use Rattle.capi.proofs.pellet_run.Tie as tie
+
+returns : tie.Need-returns
+unfolding runReply
+returns c = record { equal = rw (lt-ltb _ _ (c .if1 .taken)) }
+
+run-requires : tie.Need-run-requires
+run-requires c κs = search needs
+
+fill-run-requires : tie.Need-fill-run-requires
+fill-run-requires c κs = search needs
+
+same-length : tie.Need-same-length
+same-length c = search needs
+
+same-length-2 : tie.Need-same-length-2
+same-length-2 c = search needs
+
+same-length-3 : tie.Need-same-length-3
+same-length-3 c = search needs
+
+returns-2 : tie.Need-returns-2
+unfolding runReply
+returns-2 c = replies _ _ _ _ _ _ _ _ _ (c .before .before .fill-run .ensures) (c .before .before .before .before .before .before .before .before .run .ensures) (le-ltb _ _ (c .before .before .before .before .before .before .before .before .before .before .before .if1 .left))
+
+pub pellet-run-spec : {M : Type 1} → statement M
+pellet-run-spec =
+    tie.close
+    (tie.spec
+    returns
+    run-requires
+    fill-run-requires
+    same-length
+    same-length-2
+    same-length-3
+    returns-2)

@@ -1,0 +1,97 @@
+-- What the C interface returns and writes: 0 and the answer's entries, a refusal's number and its place, or 255 where `answer` has fewer than 8 entries.
+use Prim.Native.Nat.{ℕ, _+_}
+use mathlib.Core.Path.{_≡_}
+use mathlib.Core.List.{List, [], _∷_}
+use mathlib.Core.Bool.{cond}
+use lib.ListN.{length, set}
+use lib.Dec.{ltb}
+use Rattle.bitvec.specs.declared.Whole.{Whole}
+use Rattle.routine.specs.Header.{firstCommand}
+use Rattle.routine.specs.Step.{accesses}
+use Rattle.routine.specs.Decode.{checked}
+use Rattle.routine.specs.Refusal as routine
+use Rattle.routine.specs.declared.Header.{Header}
+use Rattle.routine.specs.declared.Counts.{Counts}
+use Rattle.routine.specs.declared.Checked.{Checked}
+use Rattle.run.specs.Answer.{Answer, answer}
+use Rattle.run.specs.Refusal as run
+use Rattle.run.specs.declared.Side.{Side}
+use Rattle.run.specs.declared.Side.the-variants.{Below, Above}
+use Rattle.run.specs.declared.Ran.{Ran}
+
+-- 0 below, 1 above
+abbrev pub sideNumber : Side → ℕ
+sideNumber Below = 0
+sideNumber Above = 1
+
+-- 1 if a whole number is negative
+abbrev pub isNegative : Whole → ℕ
+isNegative (Whole.Natural n) = 0
+isNegative (Whole.Negative n) = 1
+
+-- its magnitude
+abbrev pub magnitude : Whole → ℕ
+magnitude (Whole.Natural n) = n
+magnitude (Whole.Negative n) = n
+
+-- the entries from number i on become xs
+unfoldable pub filled : List ℕ → (i : ℕ) → List ℕ → List ℕ
+filled ans i [] = ans
+filled ans i (x ∷ xs) = filled (set ans i x) (i + 1) xs
+
+-- the number returned, and the answer
+pub record Reply : Type 0 where
+  pub code : ℕ
+  pub answer : List ℕ
+
+-- variables, parameters, arrays, ifs, accesses, reads, offset of the first command
+abbrev pub countsOf : Header → Counts → List ℕ
+countsOf h k = h .variables ∷ h .parameters ∷ h .arrays ∷ k .ifs ∷ accesses k ∷ k .reads ∷ firstCommand h ∷ []
+
+-- stopped: 1, access, side, 1 if the index is negative, its magnitude
+abbrev pub stoppedOf : (access : ℕ) → Whole → Side → List ℕ
+stoppedOf access index side = 1 ∷ access ∷ sideNumber side ∷ isNegative index ∷ magnitude index ∷ []
+
+-- what checking a routine gives
+abbrev pub checkFills : Checked → List ℕ → Reply
+checkFills (Checked.Accepted h k) ans = record { code = 0; answer = filled ans 0 (countsOf h k) }
+checkFills (Checked.Refused refusal) ans = record { code = routine.numberOf refusal; answer = set ans 0 (routine.placeOf refusal) }
+
+-- what a run gives: 0 for an end, and nothing more
+abbrev pub runFills : Ran → List ℕ → Reply
+runFills Ran.Ended ans = record { code = 0; answer = set ans 0 0 }
+runFills (Ran.Stopped access index side) ans = record { code = 0; answer = filled ans 0 (stoppedOf access index side) }
+runFills (Ran.Refused refusal) ans = record { code = run.numberOf refusal; answer = set ans 0 (run.placeOf refusal) }
+
+-- the reply is the number r, and the answer became ans₁
+pub record Fills (reply : Reply) (ans₁ : List ℕ) (r : ℕ) : Type 0 where
+  pub equal : _≡_ {A = Reply} (record { code = r; answer = ans₁ }) reply
+
+-- what `pellet_check` replies
+unfoldable pub checkReply : (bs ans : List ℕ) → Reply
+checkReply bs ans = cond (ltb (length ans) 8) (record { code = 255; answer = ans }) (checkFills (checked bs) ans)
+
+pub record ChecksReply (bs ans ans₁ : List ℕ) (r : ℕ) : Type 0 where
+  pub equal : _≡_ {A = Reply} (record { code = r; answer = ans₁ }) (checkReply bs ans)
+
+-- the number returned, and all three buffers
+pub record RunReply : Type 0 where
+  pub code : ℕ
+  pub values : List ℕ
+  pub trail : List ℕ
+  pub answer : List ℕ
+
+-- what a run's answer gives
+abbrev pub runGives : Answer → List ℕ → RunReply
+runGives x ans =
+    record { code = runFills (x .ran) ans .code; values = x .values; trail = x .trail; answer = runFills (x .ran) ans .answer }
+
+-- what `pellet_run` replies
+unfoldable pub runReply : (bs ins values trail ans : List ℕ) → RunReply
+runReply bs ins values trail ans =
+    cond (ltb (length ans) 8)
+    (record { code = 255; values = values; trail = trail; answer = ans })
+    (runGives (answer bs ins values trail) ans)
+
+pub record RunsReply (bs ins values trail ans values₁ trail₁ ans₁ : List ℕ) (r : ℕ) : Type 0 where
+  pub equal : _≡_ {A = RunReply} (record { code = r; values = values₁; trail = trail₁; answer = ans₁ }) (runReply bs ins values trail ans)

@@ -1,0 +1,134 @@
+// What is written into the lent `answer`, which has at least 8 entries. Entries that are not named are left alone.
+use bitvec::Whole;
+use routine::Checked;
+use routine::Counts;
+use routine::Header;
+use routine::headers::first_command;
+use routine::steps::accesses_of;
+use run::Ran;
+use run::Side;
+ghost use mathlib.Core.Path.{_≡_};
+ghost use Prim.Native.Nat.{_≤_};
+ghost use lib.ListN.{length, set};
+ghost use Rattle.capi.specs.Reply.{sideNumber, isNegative, magnitude, countsOf, stoppedOf, filled, checkFills, runFills, Fills};
+
+fn wide8(x: u8) -> u64
+    ensures { λ r. ⌜ r ≡ x ⌝ }
+{
+    x as u64
+}
+
+fn wide32(x: u32) -> u64
+    ensures { λ r. ⌜ r ≡ x ⌝ }
+{
+    x as u64
+}
+
+fn wide_size(x: usize) -> u64
+    ensures { λ r. ⌜ r ≡ x ⌝ }
+{
+    x as u64
+}
+
+fn side_number(side: Side) -> u64
+    ensures { λ r. ⌜ r ≡ sideNumber side ⌝ }
+{
+    match side {
+        Side::Below => 0,
+        Side::Above => 1,
+    }
+}
+
+fn is_negative(n: Whole) -> u64
+    ensures { λ r. ⌜ r ≡ isNegative n ⌝ }
+{
+    match n {
+        Whole::Natural(_) => 0,
+        Whole::Negative(_) => 1,
+    }
+}
+
+fn magnitude_of(n: Whole) -> u64
+    ensures { λ r. ⌜ r ≡ magnitude n ⌝ }
+{
+    match n {
+        Whole::Natural(m) => wide32(m),
+        Whole::Negative(m) => wide32(m),
+    }
+}
+
+// A refusal's place.
+fn fill_place(place: usize, answer: &mut [u64])
+    requires { ⌜ 8 ≤ length (now answer) ⌝ }
+    ensures { λ r. ⌜ now (answer .exit) ≡ set (now (answer .entry)) 0 place ⌝ }
+{
+    answer[0] = wide_size(place);
+}
+
+// The counts of a routine.
+fn fill_counts(h: Header, k: Counts, answer: &mut [u64])
+    requires { ⌜ 8 ≤ length (now answer) ⌝ }
+    ensures { λ r. ⌜ now (answer .exit) ≡ filled (now (answer .entry)) 0 (countsOf h k) ⌝ }
+{
+    answer[0] = wide8(h.variables);
+    answer[1] = wide8(h.parameters);
+    answer[2] = wide8(h.arrays);
+    answer[3] = wide8(k.ifs);
+    answer[4] = wide32(accesses_of(k));
+    answer[5] = wide8(k.reads);
+    answer[6] = wide_size(first_command(h));
+}
+
+// Where a run stopped.
+fn fill_stop(access: u32, index: Whole, side: Side, answer: &mut [u64])
+    requires { ⌜ 8 ≤ length (now answer) ⌝ }
+    ensures { λ r. ⌜ now (answer .exit) ≡ filled (now (answer .entry)) 0 (stoppedOf access index side) ⌝ }
+{
+    answer[0] = 1;
+    answer[1] = wide32(access);
+    answer[2] = side_number(side);
+    answer[3] = is_negative(index);
+    answer[4] = magnitude_of(index);
+}
+
+// What checking a routine answered.
+pub fn fill_check(checked: Checked, answer: &mut [u64]) -> u8
+    requires { ⌜ 8 ≤ length (now answer) ⌝ }
+    ensures { λ r. ⌜ Fills (checkFills checked (now (answer .entry))) (now (answer .exit)) r ⌝ }
+{
+    match checked {
+        Checked::Accepted { header, counts } => {
+            fill_counts(header, counts, answer);
+            0
+        }
+        Checked::Refused(refusal) => {
+            fill_place(routine::refusals::place_of(refusal), answer);
+            routine::refusals::number_of(refusal)
+        }
+    }
+}
+
+// What a run answered.
+pub fn fill_run(ran: Ran, answer: &mut [u64]) -> u8
+    requires { ⌜ 8 ≤ length (now answer) ⌝ }
+    ensures { λ r. ⌜ Fills (runFills ran (now (answer .entry))) (now (answer .exit)) r ⌝ }
+{
+    match ran {
+        Ran::Ended => {
+            answer[0] = 0;
+            0
+        }
+        Ran::Stopped {
+            access,
+            index,
+            side,
+        } => {
+            fill_stop(access, index, side, answer);
+            0
+        }
+        Ran::Refused(refusal) => {
+            fill_place(run::refusals::place_of(refusal), answer);
+            run::refusals::number_of(refusal)
+        }
+    }
+}

@@ -1,0 +1,99 @@
+/*
+ * pelletperiod.h - checking and running loop-free pick routines.
+ *
+ * Every buffer is lent for the time of the call as a pointer and a number of
+ * entries. A pointer must not be null, also where the number of entries is 0,
+ * and must be aligned for its entries. The buffers of one call must not
+ * overlap one another. Nothing is kept from one call to the next.
+ *
+ * What a call returns:
+ *
+ *   0    done; `answer` is filled as said at the function.
+ *   255  `answer` has fewer than 8 entries; nothing at all is changed.
+ *   else the number of a refusal; answer[0] receives its place, and nothing
+ *        else is changed.
+ *
+ *   number  place                     when
+ *        1  0                         routine empty or over 4,096 bytes
+ *        2  offset of the field       header field wrong or not whole
+ *        3  offset of the command     command unknown, cut short or missing
+ *        4  offset of the command     operand or constant out of range
+ *        5  offset of the command     widths that do not go together
+ *        6  offset of the command     else, end of if or end out of place,
+ *                                     or a ninth if inside one another
+ *        7  offset of the command     33rd if or 65th access
+ *        8  offset of the first       bytes after the end
+ *           such byte
+ *        9  number of words given     wrong number of inputs
+ *       10  number of the input       input too great for its variable
+ *       16  3 for `values`,           buffer too small
+ *           4 for `trail`
+ *
+ * The refusals are looked for in this order, 3 to 7 command by command.
+ * Entries of `answer` that are not named are left alone.
+ */
+#ifndef PELLETPERIOD_H
+#define PELLETPERIOD_H
+
+#include <stddef.h>
+#include <stdint.h>
+
+#ifdef __cplusplus
+extern "C" {
+#endif
+
+/*
+ * Checks a routine; refuses with 1 to 8.
+ *
+ * On 0 the answer holds:
+ *
+ *   answer[0]  number of variables
+ *   answer[1]  number of parameters
+ *   answer[2]  number of arrays
+ *   answer[3]  number of ifs
+ *   answer[4]  number of accesses
+ *   answer[5]  number of reads
+ *   answer[6]  offset of the first command
+ *
+ * `routine` is only read.
+ */
+uint8_t pellet_check(const uint8_t *routine, size_t routine_len,
+                     uint64_t *answer, size_t answer_len);
+
+/*
+ * Runs a routine on a list of inputs; refuses with 1 to 10 and 16.
+ *
+ * `inputs` holds one word for each parameter, then one for each read in the
+ * order of the text, each below 2 to the width of its variable.
+ *
+ * On 0 the answer holds, where the run came to the end:
+ *
+ *   answer[0]  0
+ *
+ * and where an index outside its array stopped the run:
+ *
+ *   answer[0]  1
+ *   answer[1]  number of the access that stopped it
+ *   answer[2]  side: 0 if the index is below 0, 1 if it is at or above the size
+ *   answer[3]  1 if the index is negative, else 0
+ *   answer[4]  the index without its sign
+ *
+ * Ended or stopped, the first entries of `values` hold the values of all
+ * variables, and the first entries of `trail` one byte for each if: 0 where
+ * the run took the first arm, 1 where it took the else, 2 where it did not
+ * come to the if. What lies beyond is left alone. A refusal leaves `values`
+ * and `trail` alone altogether.
+ *
+ * `routine` and `inputs` are only read.
+ */
+uint8_t pellet_run(const uint8_t *routine, size_t routine_len,
+                   const uint32_t *inputs, size_t inputs_len,
+                   uint32_t *values, size_t values_len,
+                   uint8_t *trail, size_t trail_len,
+                   uint64_t *answer, size_t answer_len);
+
+#ifdef __cplusplus
+}
+#endif
+
+#endif /* PELLETPERIOD_H */
