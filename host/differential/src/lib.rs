@@ -1,0 +1,20 @@
+//! Differential testing of the pick-routine library against the oracle.
+//!
+//! A [`case::Case`] is a routine, an input list and the buffers lent for one
+//! check and one run. [`compare::compare`] makes both calls and compares the
+//! returned number and every entry of every buffer, lent or not, with what the
+//! oracle says. [`tally::Tally`] counts what the cases came to, so that a
+//! generator that has lost sight of some shape or refusal fails the test.
+
+#![forbid(unsafe_code)]
+
+pub mod case;
+pub mod compare;
+pub mod damage;
+pub mod draft;
+pub mod fault;
+pub mod lent;
+pub mod plan;
+pub mod rng;
+pub mod survey;
+pub mod tally;

@@ -1,0 +1,220 @@
+//! Cases gone through one after the other instead of drawn: every operation,
+//! change of width, relation and index at every width, and every one-byte
+//! change and every cut of a routine that has every command in it.
+
+use differential::case::Case;
+use differential::compare::{compare, Verdicts};
+use differential::rng::Rng;
+
+const SEED: u64 = 0x50E1_1E7D_2026_0002;
+
+fn agree(rng: &mut Rng, routine: &[u8], inputs: &[u32]) -> Verdicts {
+    compare(&Case::ample(rng, routine, inputs)).unwrap_or_else(|report| panic!("{report}"))
+}
+
+/// All values of a narrow width, the ends of the ranges of a wide one.
+fn values(width: u8) -> Vec<u32> {
+    if width <= 4 {
+        return (0..1 << width).collect();
+    }
+    let (half, most) = (1_u32 << (width - 1), u32::MAX >> (32 - width));
+    vec![0, 1, 2, 5, half - 1, half, half + 1, most - 1, most]
+}
+
+fn pairs(width: u8) -> Vec<[u32; 2]> {
+    let values = values(width);
+    let with_each = |&a: &u32| values.iter().map(move |&b| [a, b]).collect::<Vec<_>>();
+    values.iter().flat_map(with_each).collect()
+}
+
+#[test]
+fn operations_at_every_width() {
+    let rng = &mut Rng::for_case(SEED, 0);
+    for width in 1..=32 {
+        for code in 0x03..=0x05 {
+            let routine = [1, 3, width, width, width, 2, 0, code, 2, 0, 1, 0];
+            for inputs in pairs(width) {
+                agree(rng, &routine, &inputs);
+            }
+        }
+    }
+}
+
+#[test]
+fn relations_at_every_width() {
+    let rng = &mut Rng::for_case(SEED, 1);
+    for width in 1..=32 {
+        for relation in 0..10 {
+            let routine = [
+                1, 2, width, width, 2, 0, 0x0B, relation, 0, 1, 0x0C, 0x0D, 0,
+            ];
+            for inputs in pairs(width) {
+                agree(rng, &routine, &inputs);
+            }
+        }
+    }
+}
+
+/// All pairs of widths, those that must be refused among them.
+#[test]
+fn changes_of_width() {
+    let rng = &mut Rng::for_case(SEED, 2);
+    for from in 1..=32 {
+        for to in 1..=32 {
+            for code in [0x02, 0x06, 0x07, 0x08] {
+                let routine = [1, 2, from, to, 1, 0, code, 1, 0, 0];
+                for value in values(from) {
+                    agree(rng, &routine, &[value]);
+                }
+            }
+        }
+    }
+}
+
+#[test]
+fn constants_at_every_width() {
+    let rng = &mut Rng::for_case(SEED, 3);
+    for width in 1..=32 {
+        let mut constants = values(width);
+        // The first ones that do not fit, where there are such.
+        constants.extend(1_u32.checked_shl(width.into()));
+        constants.extend([1 << 31, u32::MAX]);
+        for constant in constants {
+            let mut routine = vec![1, 1, width, 0, 0, 0x01, 0];
+            routine.extend_from_slice(&constant.to_le_bytes());
+            routine.push(0);
+            agree(rng, &routine, &[]);
+        }
+    }
+}
+
+#[test]
+fn indices_at_every_width_and_size() {
+    let rng = &mut Rng::for_case(SEED, 4);
+    let sizes = [
+        1, 2, 3, 4, 7, 8, 15, 16, 127, 128, 255, 256, 257, 2047, 2048, 4095, 4096,
+    ];
+    for width in 1..=32 {
+        let most = u32::MAX >> (32 - width);
+        for size in sizes {
+            let [low, high] = u16::to_le_bytes(size);
+            let write = [1, 1, width, 1, 1, low, high, 0x0A, 0, 0, 0, 0];
+            let read = [1, 1, width, 1, 1, low, high, 0x09, 0, 0, 0, 0];
+            let size = u32::from(size);
+            let near = [size - 1, size, size + 1]
+                .into_iter()
+                .filter(|&k| k <= most);
+            for index in values(width).into_iter().chain(near) {
+                agree(rng, &write, &[index]);
+                agree(rng, &read, &[index, 1]);
+            }
+        }
+    }
+}
+
+/// Every command stands in it, with reads in both arms of an if inside another.
+const EVERY_COMMAND: &[u8] = &[
+    1, 4, 8, 8, 4, 1, 2, 2, 100, 0, 0,
+    16, // header: widths 8 8 4 1, two parameters, two arrays
+    0x01, 1, 7, 0, 0, 0, // v1 := 7
+    0x03, 0, 0, 1, // v0 := v0 + v1
+    0x0B, 2, 0, 1, // if v0 <u v1
+    0x02, 0, 1, // v0 := v1
+    0x0B, 9, 2, 2, // if v2 ≥s v2
+    0x09, 1, 1, 0,    // v1 := array 1 at v0
+    0x0C, // else
+    0x09, 2, 0, 2,    // v2 := array 0 at v2
+    0x0D, // end of if
+    0x0C, // else
+    0x04, 0, 0, 1, // v0 := v0 - v1
+    0x05, 0, 0, 0, // v0 := v0 * v0
+    0x0A, 0, 0, 3,    // array 0 at v0 := v3
+    0x0D, // end of if
+    0x06, 2, 1, // v2 := v1 cut
+    0x07, 1, 2, // v1 := v2 zero-extended
+    0x08, 0, 3, // v0 := v3 sign-extended
+    0x0A, 1, 1, 0,    // array 1 at v1 := v0
+    0x00, // end
+];
+
+/// Inputs for all that one byte more or less can make of it, and some that
+/// are too many or too great.
+const INPUT_LISTS: &[&[u32]] = &[
+    &[255, 3, 9, 5],
+    &[1, 3, 15, 4],
+    &[0, 0, 0],
+    &[1, 200, 255, 16, 0],
+];
+
+fn agree_on_all(rng: &mut Rng, routine: &[u8]) {
+    for inputs in INPUT_LISTS {
+        agree(rng, routine, inputs);
+    }
+}
+
+#[test]
+fn every_change_of_one_byte() {
+    let rng = &mut Rng::for_case(SEED, 5);
+    for at in 0..EVERY_COMMAND.len() {
+        for byte in 0..=u8::MAX {
+            let mut routine = EVERY_COMMAND.to_vec();
+            routine[at] = byte;
+            agree_on_all(rng, &routine);
+        }
+    }
+}
+
+#[test]
+fn every_insertion_of_a_command_byte() {
+    let rng = &mut Rng::for_case(SEED, 6);
+    for at in 0..=EVERY_COMMAND.len() {
+        for byte in 0..=0x0E {
+            let mut routine = EVERY_COMMAND.to_vec();
+            routine.insert(at, byte);
+            agree_on_all(rng, &routine);
+        }
+    }
+}
+
+#[test]
+fn every_removal_of_one_byte() {
+    let rng = &mut Rng::for_case(SEED, 7);
+    for at in 0..EVERY_COMMAND.len() {
+        let mut routine = EVERY_COMMAND.to_vec();
+        routine.remove(at);
+        agree_on_all(rng, &routine);
+    }
+}
+
+/// Each cut with each byte as the last one left, so that a cut command has
+/// operands of every kind.
+#[test]
+fn every_cut() {
+    let rng = &mut Rng::for_case(SEED, 8);
+    for len in 0..EVERY_COMMAND.len() {
+        agree_on_all(rng, &EVERY_COMMAND[..len]);
+        for byte in [0, 1, 2, 3, 4, 10, 16, 32, 255] {
+            let mut routine = EVERY_COMMAND[..len].to_vec();
+            routine.push(byte);
+            agree_on_all(rng, &routine);
+        }
+    }
+}
+
+/// Lengths around the longest routine, of zeros and of a routine filled up
+/// with commands of one byte too few, just enough and one too many.
+#[test]
+fn lengths_around_the_longest() {
+    let rng = &mut Rng::for_case(SEED, 9);
+    for len in [0, 1, 4095, 4096, 4097, 5000, 65_536] {
+        agree(rng, &vec![0; len], &[]);
+        let mut routine = vec![1, 1, 8, 0, 0];
+        while routine.len() + 4 <= len {
+            routine.extend_from_slice(&[0x02, 0, 0]);
+        }
+        routine.push(0);
+        agree(rng, &routine, &[]);
+        routine.resize(len.max(routine.len()), 0);
+        agree(rng, &routine, &[]);
+    }
+}

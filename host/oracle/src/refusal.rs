@@ -1,0 +1,43 @@
+//! The numbers under which a routine or a run is turned down.
+
+/// A refusal: its number and its place. What the place says goes with the
+/// number: an offset, a length, an input number or a buffer number.
+#[derive(Clone, Copy, Debug, PartialEq, Eq)]
+pub struct Refusal {
+    pub number: u8,
+    pub place: usize,
+}
+
+impl Refusal {
+    pub(crate) fn new(number: u8, place: usize) -> Self {
+        Refusal { number, place }
+    }
+}
+
+/// Routine empty or over 4,096 bytes; the place is 0.
+pub const LENGTH: u8 = 1;
+/// Header field wrong or not whole; the place is the field's offset.
+pub const HEADER: u8 = 2;
+/// Command unknown, cut short or missing; the place is its offset.
+pub const COMMAND: u8 = 3;
+/// Operand or constant out of range; the place is the command's offset.
+pub const RANGE: u8 = 4;
+/// Widths that do not go together; the place is the command's offset.
+pub const WIDTHS: u8 = 5;
+/// Else, end of if or end out of place, or depth 9; the command's offset.
+pub const NESTING: u8 = 6;
+/// The 33rd if or the 65th access; the command's offset.
+pub const TOO_MANY: u8 = 7;
+/// Bytes after the end; the place is the first of them.
+pub const TRAILING: u8 = 8;
+/// Wrong number of inputs; the place is the number given.
+pub const INPUT_COUNT: u8 = 9;
+/// An input too great for its variable; the place is the input's number.
+pub const INPUT_RANGE: u8 = 10;
+/// A buffer too small; the place is the buffer's number.
+pub const BUFFER: u8 = 16;
+
+/// The number of the values buffer in a refusal 16.
+pub const VALUES_BUFFER: usize = 3;
+/// The number of the trail buffer in a refusal 16.
+pub const TRAIL_BUFFER: usize = 4;

@@ -1,0 +1,79 @@
+//! Safe bindings over the C interface of the pick-routine library.
+//!
+//! The functions take slices where C takes pointers and lengths, and hand back
+//! what C returns: 0, the number of a refusal, or [`ANSWER_TOO_SHORT`]. What is
+//! filled and what is left alone is said in `include/pelletperiod.h`.
+
+/// How many entries every call needs in `answer`.
+pub const ANSWER_LEN: usize = 8;
+
+/// Returned when `answer` has fewer than [`ANSWER_LEN`] entries.
+pub const ANSWER_TOO_SHORT: u8 = 255;
+
+mod ffi {
+    extern "C" {
+        pub fn pellet_check(
+            routine: *const u8,
+            routine_len: usize,
+            answer: *mut u64,
+            answer_len: usize,
+        ) -> u8;
+
+        pub fn pellet_run(
+            routine: *const u8,
+            routine_len: usize,
+            inputs: *const u32,
+            inputs_len: usize,
+            values: *mut u32,
+            values_len: usize,
+            trail: *mut u8,
+            trail_len: usize,
+            answer: *mut u64,
+            answer_len: usize,
+        ) -> u8;
+    }
+}
+
+/// Checks a routine. On 0, `answer` begins with the numbers of variables,
+/// parameters, arrays, ifs, accesses and reads, and the first command's offset.
+pub fn check(routine: &[u8], answer: &mut [u64]) -> u8 {
+    // SAFETY: each pointer comes from a slice of the length given with it, so it
+    // is not null and is aligned, and the exclusive borrow keeps `answer` apart
+    // from `routine`.
+    unsafe {
+        ffi::pellet_check(
+            routine.as_ptr(),
+            routine.len(),
+            answer.as_mut_ptr(),
+            answer.len(),
+        )
+    }
+}
+
+/// Runs a routine. On 0, `answer` begins with 0 for a run that ended, or with
+/// 1, the access, the side, whether the index is negative, and its magnitude
+/// for one that stopped; `values` and `trail` are filled in both cases.
+pub fn run(
+    routine: &[u8],
+    inputs: &[u32],
+    values: &mut [u32],
+    trail: &mut [u8],
+    answer: &mut [u64],
+) -> u8 {
+    // SAFETY: as in `check`; the three exclusive borrows keep the buffers apart
+    // from one another and from what is only read.
+    unsafe {
+        ffi::pellet_run(
+            routine.as_ptr(),
+            routine.len(),
+            inputs.as_ptr(),
+            inputs.len(),
+            values.as_mut_ptr(),
+            values.len(),
+            trail.as_mut_ptr(),
+            trail.len(),
+            answer.as_mut_ptr(),
+            answer.len(),
+        )
+    }
+}
