@@ -12,10 +12,10 @@ use Rattle.run.specs.State.{start, take, holds, indexOf, carry}
 use Rattle.run.specs.declared.Outcome.{Outcome}
 use Rattle.run.specs.declared.State.{State}
 
--- what a run comes to: an if, with the arm taken there (0 first, 1 else), or an access, with its index
+-- what a run comes to: an if, with the arm taken there (0 first, 1 else), or an access, with its array and its index
 pub data Event : Type 0 where
   took : (number arm : ℕ) → Event
-  came : (access : ℕ) → Whole → Event
+  came : (access array : ℕ) → Whole → Event
 
 -- a stretch of a run: what it came to, in order, and the state that it left
 pub record Stretch : Type 0 where
@@ -40,8 +40,8 @@ abbrev pub eventsAt : List ℕ → Simple → Counts → State → List Event
 eventsAt bs (Simple.Set d c) k s = []
 eventsAt bs (Simple.Convert op d a) k s = []
 eventsAt bs (Simple.Compute op d a b) k s = []
-eventsAt bs (Simple.Read d array i) k s = came (accesses k) (indexOf bs s i) ∷ []
-eventsAt bs (Simple.Write array i a) k s = came (accesses k) (indexOf bs s i) ∷ []
+eventsAt bs (Simple.Read d array i) k s = came (accesses k) array (indexOf bs s i) ∷ []
+eventsAt bs (Simple.Write array i a) k s = came (accesses k) array (indexOf bs s i) ∷ []
 
 -- the run of an arm from a state
 unfoldable pub runArm : (bs ins : List ℕ) → Header → Arm → State → Stretch
