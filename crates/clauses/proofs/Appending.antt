@@ -1,0 +1,69 @@
+-- Appending clauses, one list after another.
+use mathlib.Core.List.{List, [], _++_, _∷_, append-assoc, append-nil}
+use mathlib.Core.Path.{_∙_, _≡_, ap, ap₂, refl, sym}
+use Prim.Native.Nat.{_+_, _≤_, suc, ℕ}
+use native.Mathlib.Nat.{add-suc, add-zero, suc-add}
+use native.Mathlib.Omega.{arith}
+use lib.ListN.{length, length-append, set}
+use lib.Seq.{length-sets, sets}
+use Rattle.clauses.specs.Clause.{Appended, Clause, Room, flatten, offsets}
+use Rattle.clauses.specs.declared.Store.{Store}
+
+pub sets-append : (l : List ℕ) (i : ℕ) (a b : List ℕ) → sets (sets l i a) (i + length a) b ≡ sets l i (a ++ b)
+sets-append l i [] b = rw add-zero
+sets-append l i (x ∷ a) b = rw (add-suc, ← suc-add) (sets-append (set l i x) (suc i) a b)
+
+pub flatten-append : (a b : List Clause) → flatten (a ++ b) ≡ flatten a ++ flatten b
+flatten-append [] b = refl
+flatten-append (c ∷ a) b =
+    ap (λ (l : List ℕ). length c ∷ l) (ap (λ (l : List ℕ). c ++ l) (flatten-append a b) ∙ sym (append-assoc c (flatten a) (flatten b)))
+
+pub offsets-append : (n : ℕ) (a b : List Clause) → offsets n (a ++ b) ≡ offsets n a ++ offsets (n + length (flatten a)) b
+offsets-append n [] b = ap (λ (k : ℕ). offsets k b) (sym (add-zero n))
+offsets-append n (c ∷ a) b =
+    ap (λ (l : List ℕ). n ∷ l)
+    (offsets-append (n + suc (length c)) a b
+    ∙ ap (λ (k : ℕ). offsets (n + suc (length c)) a ++ offsets k b)
+    (simp length-append (omega arith)))
+
+pub length-offsets : (n : ℕ) (a : List Clause) → length (offsets n a) ≡ length a
+length-offsets n [] = refl
+length-offsets n (c ∷ a) = ap suc (length-offsets (n + suc (length c)) a)
+
+-- nothing appended
+pub appended-none : (w t : List ℕ) (s : Store) → Appended w t s [] w t s
+appended-none w t s = record { words = refl; starts = refl; used = sym (add-zero _); count = sym (add-zero _) }
+
+-- one list of clauses, and then another
+pub appended-then : {w t : List ℕ} {s : Store} {a : List Clause} {w₁ t₁ : List ℕ} {s₁ : Store} {b : List Clause} {w₂ t₂ : List ℕ} {s₂ : Store}
+    → Appended w t s a w₁ t₁ s₁ → Appended w₁ t₁ s₁ b w₂ t₂ s₂ → Appended w t s (a ++ b) w₂ t₂ s₂
+appended-then {w} {t} {s} {a} {w₁} {t₁} {s₁} {b} {w₂} {t₂} {s₂} p q = record {
+  words = q .words
+      ∙ ap₂ (λ (l : List ℕ) (i : ℕ). sets l i (flatten b)) (p .words) (p .used)
+      ∙ sets-append w (s .words) (flatten a) (flatten b)
+      ∙ ap (sets w (s .words)) (sym (flatten-append a b));
+  starts = q .starts
+      ∙ ap₂ (λ (l : List ℕ) (i : ℕ). sets l i (offsets (s₁ .words) b)) (p .starts) (p .count ∙ ap (λ (k : ℕ). s .clauses + k) (sym (length-offsets (s .words) a)))
+      ∙ sets-append t (s .clauses) (offsets (s .words) a) (offsets (s₁ .words) b)
+      ∙ ap (λ (k : ℕ). sets t (s .clauses) (offsets (s .words) a ++ offsets k b)) (p .used)
+      ∙ ap (sets t (s .clauses)) (sym (offsets-append (s .words) a b));
+  used = rw (flatten-append, length-append) (omega (arith, p .used, q .used));
+  count = rw length-append (omega (arith, p .count, q .count));
+}
+
+pub appended-words-length : {w t : List ℕ} {s : Store} {a : List Clause} {w₁ t₁ : List ℕ} {s₁ : Store} → Appended w t s a w₁ t₁ s₁ → length w₁ ≡ length w
+appended-words-length {w} {s = s} {a} p = ap length (p .words) ∙ length-sets w (s .words) (flatten a)
+
+pub appended-starts-length : {w t : List ℕ} {s : Store} {a : List Clause} {w₁ t₁ : List ℕ} {s₁ : Store} → Appended w t s a w₁ t₁ s₁ → length t₁ ≡ length t
+appended-starts-length {t = t} {s} {a} p = ap length (p .starts) ∙ length-sets t (s .clauses) (offsets (s .words) a)
+
+-- after one clause there is room for one less
+pub room-after : {w t : List ℕ} {s : Store} {c : Clause} {w₁ t₁ : List ℕ} {s₁ : Store} (k : ℕ)
+    → Appended w t s (c ∷ []) w₁ t₁ s₁ → length c ≤ 3 → Room s (suc k) → Room s₁ k
+room-after {s = s} {c} k p h r = record {
+  words = omega (arith, p .used, ap length (append-nil c), r .words);
+  clauses = omega (arith, p .count, r .clauses);
+}
+
+pub room-weaken : {s : Store} {j k : ℕ} → j ≤ k → Room s k → Room s j
+room-weaken h r = record { words = omega (arith, r .words); clauses = omega (arith, r .clauses) }
