@@ -1,0 +1,19 @@
+-- What a function that makes nodes does to the two buffers and to the state.
+use mathlib.Core.List.{List}
+use mathlib.Core.Path.{_≡_}
+use Prim.Native.Nat.{_*_, _+_, _^_, _≤_, ℕ}
+use lib.ListN.{length}
+use Rattle.clauses.specs.Clause.{Appended}
+use Rattle.netlist.specs.Node.{Node, clausesOf}
+use Rattle.netlist.specs.declared.Net.{Net}
+
+-- Buffers w and t with state n become w′ and t′ with n′ by the nodes ns, and nothing else.
+pub record Emitted (w t : List ℕ) (n : Net) (ns : List Node) (w′ t′ : List ℕ) (n′ : Net) : Type 0 where
+  pub store : Appended w t (n .store) (clausesOf (n .next) ns) w′ t′ (n′ .store)
+  pub next : n′ .next ≡ n .next + length ns
+
+-- The counts keep step with the variables, and there is room for k more of these.
+pub record Ready (n : Net) (k : ℕ) : Type 0 where
+  pub words : n .store .words ≤ 24 * n .next
+  pub clauses : n .store .clauses ≤ 6 * n .next
+  pub next : n .next + k ≤ 2 ^ 26

@@ -1,0 +1,4 @@
+pub mod Literal
+pub mod Node
+pub mod Meaning
+pub mod Emit

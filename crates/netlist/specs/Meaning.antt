@@ -1,0 +1,71 @@
+-- What literals, clauses and nodes mean under an assignment of the variables.
+use mathlib.Core.Bool.{Bool, _&&_, _||_, cond, false, not, true}
+use mathlib.Core.List.{List, [], _∷_}
+use mathlib.Core.Path.{_≡_}
+use Prim.Native.Nat.{_%_, _/_, _<_, suc, zero, ℕ}
+use Rattle.clauses.specs.Clause.{Clause}
+use Rattle.netlist.specs.Node.{Node, and, input, maj, mux, one, xor}
+
+-- an assignment of the variables
+abbrev pub Assign : Type 0
+Assign = ℕ → Bool
+
+-- the inputs: word k, bit j
+abbrev pub Inputs : Type 0
+Inputs = ℕ → ℕ → Bool
+
+-- the exclusive or
+abbrev pub xorB : Bool → Bool → Bool
+xorB true b = not b
+xorB false b = b
+
+-- the majority
+abbrev pub majB : Bool → Bool → Bool → Bool
+majB true b c = b || c
+majB false b c = b && c
+
+-- a value, turned where the remainder is not 0
+abbrev pub turn : ℕ → Bool → Bool
+turn zero b = b
+turn (suc r) b = not b
+
+-- the value of a literal: of variable l / 2, turned where l is odd
+unfoldable pub lit : Assign → ℕ → Bool
+lit ρ l = turn (l % 2) (ρ (l / 2))
+
+-- a clause holds where one of its literals does
+unfoldable pub satClause : Assign → Clause → Bool
+satClause ρ [] = false
+satClause ρ (l ∷ c) = lit ρ l || satClause ρ c
+
+-- clauses hold where each does
+unfoldable pub sat : Assign → List Clause → Bool
+sat ρ [] = true
+sat ρ (c ∷ cs) = satClause ρ c && sat ρ cs
+
+-- the value that a node has by the values before it
+unfoldable pub nodeVal : Inputs → Assign → Node → Bool
+nodeVal ins ρ one = true
+nodeVal ins ρ (input k j) = ins k j
+nodeVal ins ρ (and a b) = lit ρ a && lit ρ b
+nodeVal ins ρ (xor a b) = xorB (lit ρ a) (lit ρ b)
+nodeVal ins ρ (maj a b c) = majB (lit ρ a) (lit ρ b) (lit ρ c)
+nodeVal ins ρ (mux c a b) = cond (lit ρ c) (lit ρ a) (lit ρ b)
+
+-- an input's variable has the input's value
+abbrev pub InputOk : Inputs → Assign → ℕ → Node → Type 0
+InputOk ins ρ g one = Unit {0}
+InputOk ins ρ g (input k j) = ρ g ≡ ins k j
+InputOk ins ρ g (and a b) = Unit {0}
+InputOk ins ρ g (xor a b) = Unit {0}
+InputOk ins ρ g (maj a b c) = Unit {0}
+InputOk ins ρ g (mux c a b) = Unit {0}
+
+-- the assignment extends the inputs
+abbrev pub Extends : Inputs → Assign → ℕ → List Node → Type 0
+Extends ins ρ g [] = Unit {0}
+Extends ins ρ g (n ∷ ns) = InputOk ins ρ g n × Extends ins ρ (suc g) ns
+
+-- two assignments agree on the variables before g
+abbrev pub Agree : Assign → Assign → ℕ → Type 0
+Agree ρ σ g = (v : ℕ) → 0 < v → v < g → ρ v ≡ σ v
