@@ -1,0 +1,76 @@
+use mathlib.Core.Path.{_≡_, refl, sym, ap, subst}
+use Prim.Native.Nat.{ℕ, _-_}
+use native.Mathlib.Omega.{arith}
+use denote.Ref.{now}
+use lib.ListN.{length, take}
+use borrow.Author.Needs.{needs}
+use Rattle.circuits.proofs.Adder.{adder-cong}
+use Rattle.circuits.proofs.Laws.{filled-bits, sized-length}
+use Rattle.circuits.proofs.comparisons.less_signed.Statement.{statement}
+use Rattle.circuits.specs.Adder.{oppBits}
+use Rattle.circuits.specs.Bits.{Filled, litAt}
+use Rattle.circuits.specs.Compare.{flipped}
+use Rattle.netlist.specs.Literal.{opp}
+use Rattle.circuits.proofs.comparisons.less_signed.Tie as tie
+
+flip-top-requires : tie.Need-flip-top-requires
+flip-top-requires c κs = search needs
+
+flip-top-requires-2 : tie.Need-flip-top-requires-2
+flip-top-requires-2 c κs = search needs
+
+array-share-prefix-x : tie.Need-array-share-prefix-x
+array-share-prefix-x c = search needs
+
+slice-aggregate-less : tie.Need-slice-aggregate-less
+slice-aggregate-less c = let w = length (now (c .before .before .before .before .before .before .before .before .before .args .a)) in sym (sized-length w (c .before .before .before .before .flip-top .ensures) (omega arith))
+
+array-share-prefix-y : tie.Need-array-share-prefix-y
+array-share-prefix-y c = search needs
+
+slice-aggregate-less-2 : tie.Need-slice-aggregate-less-2
+slice-aggregate-less-2 c = let w = length (now (c .before .before .before .before .before .before .before .before .before .before .args .a)) in sym (sized-length w (c .before .before .before .before .flip-top2 .ensures) (omega arith))
+
+less-requires : tie.Need-less-requires
+less-requires c κs =
+    let p = c .before .before .before .before .before .before .before .before .before .before .pre in
+    let w = length (now (c .before .before .before .before .before .before .before .before .before .before .args .a)) in
+    let x : length (take w (c .before .before .before .before .before .flip-top .result)) ≡ w = sized-length w (c .before .before .before .before .before .flip-top .ensures) (omega arith) in
+    let y : length (take w (c .before .before .before .before .flip-top2 .result)) ≡ w = sized-length w (c .before .before .before .before .flip-top2 .ensures) (omega arith) in
+    simp (x, y) (p .0, (refl, p .1 .1))
+
+same-length : tie.Need-same-length
+same-length c = search needs
+
+same-length-2 : tie.Need-same-length-2
+same-length-2 c = search needs
+
+returns : tie.Need-returns
+returns c =
+    let p = c .before .before .before .before .before .before .before .before .before .before .before .before .before .before .before .pre in
+    let a = c .before .before .before .before .before .before .before .before .before .before .before .before .before .before .before .args in
+    let w = length (now (a .a)) in
+    let f = c .before .before .before .before .before .before .before .before .before .before .flip-top .ensures in
+    let h = c .before .before .before .before .before .before .before .before .before .flip-top2 .ensures in
+    let x : length (take w (c .before .before .before .before .before .before .before .before .before .before .flip-top .result)) ≡ w = sized-length w f (omega arith) in
+    let k : Filled (c .before .before .before .before .before .before .before .before .before .flip-top2 .result) w (flipped (w - 1) (litAt (now (a .b)))) =
+    subst (λ (i : ℕ). Filled (c .before .before .before .before .before .before .before .before .before .flip-top2 .result) i (flipped (i - 1) (litAt (now (a .b))))) (p .1 .0) h in (
+      rw (← adder-cong (a .n .next) _ _ (flipped (w - 1) (litAt (now (a .a)))) (oppBits (flipped (w - 1) (litAt (now (a .b))))) 2 w (filled-bits f) (λ j l. ap opp (filled-bits k j l)))
+          (rw x at (c .before .before .before .before .less .ensures .0)),
+      rw x at (c .before .before .before .before .less .ensures .1),
+    )
+
+pub less-signed-spec : {M : Type 1} → statement M
+less-signed-spec =
+    tie.close
+    (tie.spec
+    flip-top-requires
+    flip-top-requires-2
+    array-share-prefix-x
+    slice-aggregate-less
+    array-share-prefix-y
+    slice-aggregate-less-2
+    less-requires
+    same-length
+    same-length-2
+    returns)

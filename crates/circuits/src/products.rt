@@ -1,0 +1,85 @@
+// Multiplication: a row of ANDs for each bit of the second number, added to the sum so far.
+use crate::Bundle;
+use crate::adders::add;
+use crate::adders::sum_bits;
+use netlist::Net;
+ghost use mathlib.Core.Path.{_≡_};
+ghost use Prim.Native.Nat.{_^_, _≤_};
+ghost use lib.ListN.{length};
+ghost use Rattle.circuits.specs.Bits.{Filled, litAt};
+ghost use Rattle.circuits.specs.Product.{accBit, addRow, product, row, rowBit};
+ghost use Rattle.netlist.specs.Emit.{Emitted, Ready};
+
+// The AND of the first m bits of s with t.
+fn and_row(words: &mut [u32], starts: &mut [u32], n: Net, s: &[u32], t: u32, m: usize) -> Net
+    requires { ⌜ Ready n m ⌝ }
+    requires { ⌜ m ≤ length (now s) ⌝ }
+    ensures { λ r. ⌜ Emitted (now (words .entry)) (now (starts .entry)) n (row (litAt (now (s .entry))) t m) (now (words .exit)) (now (starts .exit)) r ⌝ }
+{
+    let mut net = n;
+    let mut i = 0;
+    while i < m {
+        net = netlist::and_gate(words, starts, net, s[i], t);
+        i += 1;
+    }
+    net
+}
+
+// A row's literals, from place k on.
+fn row_bits(g: u32, k: usize) -> [u32; 32]
+    requires { ⌜ (g ≤ 2 ^ 26) × (k ≤ 32) ⌝ }
+    ensures { λ r. ⌜ Filled r 32 (rowBit g k) ⌝ }
+{
+    let mut r = [3u32; 32];
+    let mut l = 2 * g;
+    let mut j = k;
+    while j < 32 {
+        r[j] = l;
+        l += 2;
+        j += 1;
+    }
+    r
+}
+
+// Row k, and the sum so far with it.
+fn add_row(
+    words: &mut [u32],
+    starts: &mut [u32],
+    n: Net,
+    s: &[u32],
+    t: u32,
+    acc: &[u32],
+    k: usize,
+) -> Net
+    requires { ⌜ Ready n 128 ⌝ }
+    requires { ⌜ length (now acc) ≡ length (now s) ⌝ }
+    requires { ⌜ (k ≤ length (now s)) × (length (now s) ≤ 32) ⌝ }
+    ensures { λ r. ⌜ Emitted (now (words .entry)) (now (starts .entry)) n (addRow (n .next) (litAt (now (s .entry))) t (litAt (now (acc .entry))) (length (now (s .entry))) k) (now (words .exit)) (now (starts .exit)) r ⌝ }
+{
+    let w = s.len();
+    let m = w - k;
+    let bits = row_bits(n.next, k);
+    let n1 = and_row(words, starts, n, s, t, m);
+    add(words, starts, n1, acc, &bits[..w], 3)
+}
+
+// The product of two numbers of one width.
+pub fn multiply(words: &mut [u32], starts: &mut [u32], n: Net, s: &[u32], t: &[u32]) -> Bundle
+    requires { ⌜ Ready n 4096 ⌝ }
+    requires { ⌜ length (now t) ≡ length (now s) ⌝ }
+    requires { ⌜ length (now s) ≤ 32 ⌝ }
+    ensures { λ r. ⌜ Emitted (now (words .entry)) (now (starts .entry)) n (product (n .next) (litAt (now (s .entry))) (litAt (now (t .entry))) (length (now (s .entry))) (length (now (s .entry)))) (now (words .exit)) (now (starts .exit)) (r .net) ⌝ }
+    ensures { λ r. ⌜ Filled (r .bits) (length (now (s .entry))) (accBit (n .next) (length (now (s .entry))) (length (now (s .entry)))) ⌝ }
+{
+    let w = s.len();
+    let mut net = n;
+    let mut acc = [3u32; 32];
+    let mut k = 0;
+    while k < w {
+        let first = net.next + (w - k) as u32;
+        net = add_row(words, starts, net, s, t[k], &acc[..w], k);
+        acc = sum_bits(first);
+        k += 1;
+    }
+    Bundle { net, bits: acc }
+}
