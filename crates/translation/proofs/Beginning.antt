@@ -1,0 +1,45 @@
+-- The parameters, one after the other. Assumes nothing.
+use mathlib.Core.Path.{_≡_, ap, subst, _∙_}
+use mathlib.Core.List.{List, [], _++_}
+use Prim.Native.Nat.{ℕ, zero, suc, _+_, _*_, _≤_}
+use native.Mathlib.Omega.{arith}
+use native.Mathlib.Numerals.{add-one}
+use lib.ListN.{length, take, length-append}
+use Rattle.routine.specs.Header.{width}
+use Rattle.routine.specs.Stands.{Fine}
+use Rattle.routine.specs.declared.Header.{Header}
+use Rattle.netlist.specs.Node.{Node}
+use Rattle.netlist.specs.Emit.{Emitted}
+use Rattle.netlist.specs.declared.Net.{Net}
+use Rattle.netlist.proofs.Emitting.{emitted-then}
+use Rattle.circuits.specs.Bits.{Filled, tabulate}
+use Rattle.circuits.specs.Input.{inputs, inBit, TakesInputs}
+use Rattle.circuits.proofs.Input.{length-inputs}
+use Rattle.translation.specs.Translation.{parameterNodes, parameterLits, start}
+use Rattle.translation.specs.Walker.{storing}
+use Rattle.translation.specs.declared.Wires.{Wires}
+use Rattle.translation.proofs.Ranges.{ranged}
+use Rattle.translation.proofs.Parts.{filled-table}
+
+pub some-few : (bs : List ℕ) (h : Header) → Fine bs h → (p : ℕ) → p ≤ h .parameters → length (parameterNodes bs p) ≤ 32 * p
+unfolding parameterNodes
+some-few bs h f zero l = omega arith
+some-few bs h f (suc p) l =
+    let r = ranged bs h p f (omega (arith, f .parameters)) in
+    simp (length-append, length-inputs) (omega (arith, some-few bs h f p (omega arith), r .few))
+
+module _ (bs : List ℕ) (n n₁ n₂ : Net) (p w : ℕ) (e : w ≡ width bs p) (q : (W U : List ℕ) → Emitted W U n (parameterNodes bs p) W U n₁) (r : TakesInputs n₁ w n₂) where
+  pub parameter-made : (W U : List ℕ) → Emitted W U n (parameterNodes bs (p + 1)) W U n₂
+  unfolding parameterNodes
+  parameter-made W U =
+      rw (add-one p)
+      (subst (λ (ns : List Node). Emitted W U n (parameterNodes bs p ++ ns) W U n₂) (λ i. inputs p (e i)) (emitted-then (q W U) (r .tells W U p)))
+
+  pub parameter-wired : n .next ≡ 2 → (s s₁ : Wires) (bits : List ℕ) → s ≡ start bs p → Filled bits 32 (inBit (n₁ .next)) → w ≤ 32 → s₁ ≡ storing s p (take w bits)
+      → s₁ ≡ start bs (p + 1)
+  unfolding parameterLits start
+  parameter-wired two s s₁ bits a f l b =
+      let g : n₁ .next ≡ 2 + length (parameterNodes bs p) = q [] [] .next ∙ ap (λ (i : ℕ). i + length (parameterNodes bs p)) two in
+      rw (add-one p)
+      (b ∙ ap (storing s p) (filled-table (record { size = f .size; places = λ j k. f .places j (omega arith) }) l)
+      ∙ (λ i. storing (a i) p (tabulate (inBit (g i)) (e i))))

@@ -1,0 +1,305 @@
+-- How many variables a translation takes at most. Assumes nothing.
+use Rattle.clauses.specs.Clause.{flatten}
+use Rattle.clauses.proofs.Appending.{flatten-append}
+use Rattle.netlist.specs.Node.{nodeClauses, clausesOf}
+use Rattle.netlist.proofs.Nodes.{clausesOf-few, clausesOf-short}
+use Rattle.translation.specs.Translation.{lastClauses, clausesOfAll}
+use Rattle.translation.specs.declared.Claim.{Claim}
+use mathlib.Core.Path.{_≡_, ap, subst, _∙_}
+use mathlib.Core.List.{List, [], _++_}
+use mathlib.Core.Bool.{Bool, true, false}
+use Prim.Native.Nat.{ℕ, zero, suc, _+_, _*_, _^_, _<_, _≤_}
+use native.Mathlib.Nat.{mul-suc, mul-add, mul-le-mul, mul-le-mul-left}
+use native.Mathlib.Omega.{arith}
+use lib.ListN.{length, length-append}
+use lib.Dec.{eqb}
+use Rattle.slices.specs.Bytes.{entry}
+use Rattle.routine.specs.Header.{width, arraySize}
+use Rattle.routine.specs.Routine.{Arm, done, plain, fork}
+use Rattle.routine.specs.Decode.{routine, decode}
+use Rattle.routine.specs.Stands.{Stands, Sound, SoundIf, Fine}
+use Rattle.routine.specs.declared.Header.{Header}
+use Rattle.routine.specs.declared.Condition.{Condition}
+use Rattle.routine.specs.declared.Counts.{Counts}
+use Rattle.routine.specs.declared.Simple.{Simple}
+use Rattle.routine.proofs.Views.{induction}
+use Rattle.routine.proofs.Accepted.{decoded}
+use Rattle.routine.proofs.Fine.{fine, compute-fine, read-fine, write-fine, condition-fine}
+use Rattle.routine.proofs.Counting.{few-ifs}
+use Rattle.netlist.specs.Literal.{opp}
+use Rattle.netlist.specs.Node.{Node}
+use Rattle.netlist.specs.Emit.{Ready}
+use Rattle.netlist.specs.declared.Net.{Net}
+use Rattle.circuits.specs.Bits.{Bits}
+use Rattle.circuits.specs.Adder.{adder, subtractor, oppBits}
+use Rattle.circuits.specs.Product.{product}
+use Rattle.circuits.specs.Access.{aboveNodes}
+use Rattle.circuits.proofs.Adder.{length-adder}
+use Rattle.circuits.proofs.Product.{product-short}
+use Rattle.circuits.proofs.Input.{length-inputs}
+use Rattle.circuits.proofs.Join.{length-join}
+use Rattle.circuits.proofs.Access.{above-short}
+use Rattle.circuits.proofs.Relation.{relation-short}
+use Rattle.translation.specs.Wires.{bitsIn, bitsOf, arriving}
+use Rattle.translation.specs.Command.{Stretch, still, computeNodes, accessNodes, accessArrival, claimNodes, access, readInto, simple}
+use Rattle.translation.specs.Walk.{andThen, conditionNodes, conditionLit, armNodes, branchNodes, joinNodes, joined, forked, armOf}
+use Rattle.translation.specs.Translation.{parameterNodes, start, whole}
+use Rattle.translation.specs.declared.Target.{Target}
+use Rattle.translation.specs.declared.Wires.{Wires}
+use Rattle.translation.proofs.Stretches.{by-cond, then-by, access-by, fork-by, frontOf, firstFrom, firstWires, firstOf, secondFrom, secondWires, secondOf, joinFrom, joinOf}
+use Rattle.translation.proofs.Counted.{commandsIn, ifsIn, all-ifs, few-commands}
+
+-- m variables are enough for every command with operands of at most w bits
+record Enough (w m : ℕ) : Type 0 where
+  access : 4 * w + 2 ≤ m
+  product : (v : ℕ) → v ≤ w → 4 * v * v ≤ m
+
+-- an access and the bits of a read take at most 4 w + 2, a multiplication at most 4 w w
+enough : (w : ℕ) → 1 ≤ w → Enough w (4 * w * (w + 1))
+enough w l = record {
+  access = omega (arith, mul-add (4 * w) w 1, mul-le-mul-left (4 * w) l);
+  product = λ v n. let z : 4 * v ≤ 4 * w = omega arith in omega (arith, mul-add (4 * w) w 1, mul-le-mul z n);
+}
+
+-- ---- gates
+
+access-few : (g : ℕ) (a : Bits) (size v arrival : ℕ) → length (accessNodes g a size v arrival) ≤ 3 * v + 2
+unfolding accessNodes
+access-few g a size v arrival = simp length-append (omega (arith, above-short g a size v))
+
+claim-few : (side g : ℕ) (a : Bits) (size v : ℕ) → length (claimNodes side g a size v) ≤ 3 * v
+unfolding claimNodes
+claim-few side g a size v =
+    by-cond (λ (ns : List Node). length ns ≤ 3 * v) (eqb side 1) (aboveNodes g a size v) [] (λ e. above-short g a size v) (λ e. omega arith)
+
+branch-few : (d arrival c : ℕ) → length (branchNodes d arrival c) ≤ 2
+branch-few d arrival c = pick (eqb d 1) (eqb d 0)
+  where
+    pick : (p q : Bool) → length (armNodes p arrival c ++ armNodes q arrival (opp c)) ≤ 2
+    pick true true = omega arith
+    pick true false = omega arith
+    pick false true = omega arith
+    pick false false = omega arith
+
+-- ---- an arm
+
+-- what an arm may take: m for each command, and j more for each if
+unfoldable allowed : (m j : ℕ) → Arm → ℕ
+allowed m j done = 0
+allowed m j (plain at c k rest) = m + allowed m j rest
+allowed m j (fork at c k first second rest) = m + j + allowed m j first + allowed m j second + allowed m j rest
+
+-- the same by the counts
+allowed-is : (m j : ℕ) (a : Arm) → allowed m j a ≡ m * commandsIn a + j * ifsIn a
+unfolding allowed commandsIn ifsIn
+allowed-is m j done = omega arith
+allowed-is m j (plain at c k rest) = simp mul-add (omega (arith, allowed-is m j rest))
+allowed-is m j (fork at c k first second rest) =
+    simp mul-add (omega (arith, allowed-is m j first, allowed-is m j second, allowed-is m j rest))
+
+module _ (bs : List ℕ) (h : Header) (w : ℕ) (narrow : (v : ℕ) → v < h .variables → width bs v ≤ w) where
+  -- the bits of the first n parameters
+  parameters-short : (n : ℕ) → n ≤ h .variables → length (parameterNodes bs n) ≤ w * n
+  unfolding parameterNodes
+  parameters-short zero l = omega arith
+  parameters-short (suc p) l =
+      simp length-append (omega (arith, parameters-short p (omega arith), length-inputs p (width bs p), narrow p (omega arith), mul-suc w p))
+
+  -- the gates that join the first n variables
+  joins-few : (c : ℕ) (x y : List ℕ) (n : ℕ) → n ≤ h .variables → length (joinNodes bs c x y n) ≤ w * n
+  unfolding joinNodes
+  joins-few c x y zero l = omega arith
+  joins-few c x y (suc v) l =
+      simp length-append (omega (
+        arith,
+        joins-few c x y v (omega arith),
+        length-join c (bitsIn bs x v) (bitsIn bs y v) (width bs v),
+        narrow v (omega arith),
+        mul-suc w v,
+      ))
+
+  module _ (few : h .variables ≤ 32) (m : ℕ) (big : Enough w m) (t : Target) where
+    -- the end of an if
+    joined-few : (g c : ℕ) (x y : Wires) → length (joined bs h g c x y .nodes) ≤ 32 * w + 1
+    unfolding joined
+    joined-few g c x y =
+        simp length-append (omega (arith, joins-few c (x .lits) (y .lits) (h .variables) (omega arith), mul-le-mul-left w few))
+
+    -- ---- commands
+
+    compute-few : (op g : ℕ) (a b : Bits) (v : ℕ) → v ≤ w → length (computeNodes op g a b v) ≤ m
+    unfolding computeNodes
+    compute-few op g a b v l =
+        by-cond (λ (ns : List Node). length ns ≤ m) (eqb op 0x03) (adder g a b 3 v) _
+        (λ e. omega (arith, length-adder g a b 3 v, big .access))
+        (λ e. by-cond (λ (ns : List Node). length ns ≤ m) (eqb op 0x04) (subtractor g a b v) (product g a b v v)
+        (λ f. omega (arith, length-adder g a (oppBits b) 2 v, big .access))
+        (λ f. omega (arith, product-short g a b v v (omega arith), big .product v l)))
+
+    -- an access, and what goes on after it
+    at-access : (g array i : ℕ) (k : Counts) (s : Wires) (go : ℕ → Wires → Stretch) → i < h .variables
+        → ((g₁ : ℕ) (u : Wires) → length (go g₁ u .nodes) ≤ w) → length (access bs h t g array i k s go .nodes) ≤ m
+    at-access g array i k s go l f =
+        let a : Bits = bitsOf bs s i in
+        let size : ℕ = arraySize bs h array in
+        let v : ℕ = width bs i in
+        let ns : List Node = accessNodes g a size v (s .arrival) in
+        let x : Stretch = go (g + length ns) (arriving s (accessArrival g a size v)) in
+        access-by (λ (z : Stretch). length (z .nodes) ≤ m) bs h t g array i k s go
+        (λ e. omega (arith, claim-few (t .side) g a size v, narrow i l, big .access))
+        (λ e. omega (
+          arith,
+          length-append ns (x .nodes),
+          access-few g a size v (s .arrival),
+          f (g + length ns) (arriving s (accessArrival g a size v)),
+          narrow i l,
+          big .access,
+        ))
+
+    simple-few : (g : ℕ) (c : Simple) (k : Counts) (s : Wires) → Sound bs h c → length (simple bs h t g c k s .nodes) ≤ m
+    unfolding simple
+    simple-few g (Simple.Set d c) k s q = omega arith
+    simple-few g (Simple.Convert op d a) k s q = omega arith
+    simple-few g (Simple.Compute op d a b) k s q =
+        compute-few op g (bitsOf bs s a) (bitsOf bs s b) (width bs d) (narrow d (compute-fine bs h op d a b q .0))
+    simple-few g (Simple.Read d array i) k s q =
+        let p = read-fine bs h d array i q in
+        at-access g array i k s (readInto bs h d k) (p .2)
+        (λ g₁ u. omega (arith, length-inputs (h .parameters + k .reads) (width bs d), narrow d (p .0)))
+    simple-few g (Simple.Write array i a) k s q = at-access g array i k s (λ g₁. still) (write-fine bs h array i a q .1) (λ g₁ u. omega arith)
+
+    -- ---- ifs
+
+    -- a stretch takes at most so many variables, wherever it begins
+    abbrev Few : ℕ → (ℕ → Wires → Stretch) → Type 0
+    Few n go = (g : ℕ) (s : Wires) → length (go g s .nodes) ≤ n
+
+    -- the gates of the condition and of the arms' arrivals
+    front-few : (d g : ℕ) (c : Condition) (s : Wires) → SoundIf bs h c → length (conditionNodes bs g c s ++ branchNodes d (s .arrival) (conditionLit bs g c)) ≤ m
+    front-few d g c s q =
+        omega (
+          arith,
+          length-append (conditionNodes bs g c s) (branchNodes d (s .arrival) (conditionLit bs g c)),
+          relation-short (c .relation) g (bitsOf bs s (c .s)) (bitsOf bs s (c .t)) (width bs (c .s)),
+          branch-few d (s .arrival) (conditionLit bs g c),
+          narrow (c .s) (condition-fine bs h c q .1),
+          big .access,
+        )
+
+    -- an if, whose arms take at most n₁ and n₂
+    fork-few : (first second : ℕ → Wires → Stretch) (n₁ n₂ : ℕ) → Few n₁ first → Few n₂ second → (d g : ℕ) (c : Condition) (s : Wires) → SoundIf bs h c
+        → length (forked bs h d g c s first second .nodes) ≤ m + (32 * w + 1) + n₁ + n₂
+    fork-few first second n₁ n₂ one two d g c s q =
+        let ns : List Node = frontOf bs h d g c s first second in
+        let x = firstOf bs h d g c s first second in
+        let y = secondOf bs h d g c s first second in
+        let j = joinOf bs h d g c s first second in
+        let l₀ : length ns ≤ m = front-few d g c s q in
+        let l₁ : length (x .nodes) ≤ n₁ = one (firstFrom bs h d g c s first second) (firstWires bs h d g c s first second) in
+        let l₂ : length (y .nodes) ≤ n₂ = two (secondFrom bs h d g c s first second) (secondWires bs h d g c s first second) in
+        let l₃ : length (j .nodes) ≤ 32 * w + 1 = joined-few (joinFrom bs h d g c s first second) (conditionLit bs g c) (x .wires) (y .wires) in
+        fork-by bs h d g c s first second (λ (z : Stretch). length (z .nodes) ≤ m + (32 * w + 1) + n₁ + n₂)
+        (λ e. omega (arith, length-append ns (x .nodes), l₀, l₁))
+        (λ e e₁. omega (arith, length-append ns (x .nodes ++ y .nodes), length-append (x .nodes) (y .nodes), l₀, l₁, l₂))
+        (λ e e₁. omega (
+          arith,
+          length-append ns (x .nodes ++ (y .nodes ++ j .nodes)),
+          length-append (x .nodes) (y .nodes ++ j .nodes),
+          length-append (y .nodes) (j .nodes),
+          l₀,
+          l₁,
+          l₂,
+          l₃,
+        ))
+
+    -- a stretch, and what goes on after it: where the claim was made there is less
+    goes-on : (n₁ n₂ g : ℕ) (x : Stretch) (go : ℕ → Wires → Stretch) → length (x .nodes) ≤ n₁ → Few n₂ go → length (andThen g x go .nodes) ≤ n₁ + n₂
+    goes-on n₁ n₂ g x go l f =
+        then-by (λ (z : Stretch). length (z .nodes) ≤ n₁ + n₂) g x go (λ e. omega (arith, l))
+        (λ e.
+        let y : Stretch = go (g + length (x .nodes)) (x .wires) in
+        omega (arith, length-append (x .nodes) (y .nodes), l, f (g + length (x .nodes)) (x .wires)))
+
+    -- an arm that stands
+    arm-few : (ds : List ℕ) (a : Arm) (depth close at : ℕ) (k : Counts) (end : ℕ) (k₁ : Counts) → Stands bs h depth close at k a end k₁
+        → Few (allowed m (32 * w + 1) a) (armOf bs h t ds a)
+    unfolding armOf allowed
+    arm-few ds =
+        induction bs h (λ depth close at k a end k₁. Few (allowed m (32 * w + 1) a) (armOf bs h t ds a))
+        (λ depth close at k mark e l g s. omega arith)
+        (λ depth close at k c rest end k₁ v go g s.
+        goes-on m (allowed m (32 * w + 1) rest) g (simple bs h t g c k s) (armOf bs h t ds rest) (simple-few g c k s (v .sound)) go)
+        (λ depth close at k c first second rest end k₁ v go₁ go₂ go₃ g s.
+        goes-on (m + (32 * w + 1) + allowed m (32 * w + 1) first + allowed m (32 * w + 1) second) (allowed m (32 * w + 1) rest) g
+        (forked bs h (entry ds (k .ifs)) g c s (armOf bs h t ds first) (armOf bs h t ds second)) (armOf bs h t ds rest)
+        (fork-few (armOf bs h t ds first) (armOf bs h t ds second) (allowed m (32 * w + 1) first) (allowed m (32 * w + 1) second) go₁ go₂
+        (entry ds (k .ifs)) g c s (v .sound))
+        go₃)
+
+  -- an arm takes at most 4 w (w + 1) variables for each command, and 32 w + 1 more for each if
+  pub arm-bound : 1 ≤ w → Fine bs h → (t : Target) (ds : List ℕ) (a : Arm) (depth close at : ℕ) (k : Counts) (end : ℕ) (k₁ : Counts)
+      → Stands bs h depth close at k a end k₁ → (g : ℕ) (s : Wires)
+      → length (armOf bs h t ds a g s .nodes) ≤ 4 * w * (w + 1) * commandsIn a + (32 * w + 1) * ifsIn a
+  arm-bound l f t ds a depth close at k end k₁ st g s =
+      subst (λ (n : ℕ). length (armOf bs h t ds a g s .nodes) ≤ n) (allowed-is (4 * w * (w + 1)) (32 * w + 1) a)
+      (arm-few (f .few) (4 * w * (w + 1)) (enough w l) t ds a depth close at k end k₁ st g s)
+
+-- ---- a routine
+
+-- the bits of the parameters
+pub parameters-few : (bs : List ℕ) (h : Header) → Fine bs h → length (parameterNodes bs (h .parameters)) ≤ 1024
+parameters-few bs h f =
+    omega (arith, parameters-short bs h 32 (λ v l. f .widths v l .1) (h .parameters) (f .parameters), f .few, f .parameters)
+
+-- a translation whose widths are at most w takes at most so many variables
+pub whole-bound : (bs : List ℕ) (t : Target) (ds : List ℕ) (h : Header) (a : Arm) (k : Counts) → decode bs ≡ routine h a k → (w : ℕ) → 1 ≤ w
+    → ((v : ℕ) → v < h .variables → width bs v ≤ w)
+    → length (whole bs t ds h a .nodes) ≤ 1 + 32 * w + 4 * w * (w + 1) * commandsIn a + (32 * w + 1) * k .ifs
+unfolding whole
+whole-bound bs t ds h a k e w l narrow =
+    let d = decoded bs h a k e in
+    let f = fine bs h (d .header) in
+    let ns : List Node = parameterNodes bs (h .parameters) in
+    let s : Wires = start bs (h .parameters) in
+    let x : Stretch = armOf bs h t ds a (2 + length ns) s in
+    let p = parameters-short bs h w narrow (h .parameters) (f .parameters) in
+    let n : h .parameters ≤ 32 = omega (arith, f .parameters, f .few) in
+    let q : length (x .nodes) ≤ 4 * w * (w + 1) * commandsIn a + (32 * w + 1) * k .ifs =
+    rw (← all-ifs bs h a k e) (arm-bound bs h w narrow l f t ds a 0 0 _ _ _ k (d .stands) (2 + length ns) s) in
+    omega (arith, length-append ns (x .nodes), p, mul-le-mul-left w n, q)
+
+-- after the parameters there is room for all commands of a routine, and for 2 ^ 25 variables more
+pub roomy : (bs : List ℕ) (t : Target) (ds : List ℕ) (h : Header) (a : Arm) (k : Counts) → decode bs ≡ routine h a k → (n : Net)
+    → n .store .words ≤ 24 * n .next → n .store .clauses ≤ 6 * n .next → n .next ≤ 2048 → (g : ℕ) (s : Wires)
+    → Ready n (2 ^ 25 + length (armOf bs h t ds a g s .nodes))
+roomy bs t ds h a k e n words clauses next g s =
+    let d = decoded bs h a k e in
+    let f = fine bs h (d .header) in
+    let b = arm-bound bs h 32 (λ v l. f .widths v l .1) (omega arith) f t ds a 0 0 _ _ _ k (d .stands) g s in
+    record { words = words; clauses = clauses; next = omega (arith, next, b, few-commands bs h a k e, all-ifs bs h a k e, few-ifs bs h a k e) }
+
+-- ---- clauses and words
+
+last-few : (c : Claim) → (length (lastClauses c) ≤ 2) × (length (flatten (lastClauses c)) ≤ 4)
+last-few Claim.Open = (omega arith, omega arith)
+last-few (Claim.Made arrival side) = (omega arith, omega arith)
+
+module _ (bs : List ℕ) (t : Target) (ds : List ℕ) (h : Header) (a : Arm) where
+  -- at most 6 clauses for each variable: variable 1 has one, which leaves room for the last two
+  pub clauses-bound : length (clausesOfAll (whole bs t ds h a)) ≤ 6 * length (whole bs t ds h a .nodes)
+  unfolding clausesOfAll clausesOf nodeClauses whole
+  clauses-bound =
+      let x = armOf bs h t ds a (2 + length (parameterNodes bs (h .parameters))) (start bs (h .parameters)) in
+      let ns = parameterNodes bs (h .parameters) ++ x .nodes in
+      simp length-append (omega (arith, clausesOf-few 2 ns, last-few (x .wires .claim) .0, length-append (parameterNodes bs (h .parameters)) (x .nodes)))
+
+  -- and at most 24 words
+  pub words-bound : length (flatten (clausesOfAll (whole bs t ds h a))) ≤ 24 * length (whole bs t ds h a .nodes)
+  unfolding clausesOfAll clausesOf nodeClauses whole
+  words-bound =
+      let x = armOf bs h t ds a (2 + length (parameterNodes bs (h .parameters))) (start bs (h .parameters)) in
+      let ns = parameterNodes bs (h .parameters) ++ x .nodes in
+      let cs = clausesOf 2 ns in
+      let ls = lastClauses (x .wires .claim) in
+      let e : length (flatten (cs ++ ls)) ≡ length (flatten cs) + length (flatten ls) = ap length (flatten-append cs ls) ∙ length-append (flatten cs) (flatten ls) in
+      omega (arith, e, clausesOf-short 2 ns, last-few (x .wires .claim) .1, length-append (parameterNodes bs (h .parameters)) (x .nodes))

@@ -1,0 +1,180 @@
+-- Demand 2: the translation of an accepted claim is faithful to every run. Assumes nothing.
+use mathlib.Core.Path.{_≡_, refl, sym, ap, subst, _∙_}
+use mathlib.Core.List.{List}
+use mathlib.Core.Logic.{_↔_}
+use mathlib.Core.Bool.{Bool, true, false}
+use Prim.Native.Nat.{ℕ, _+_, _<_, _≤_}
+use native.Mathlib.Omega.{arith}
+use lib.ListN.{length}
+use Rattle.slices.specs.Bytes.{entry}
+use Rattle.bitvec.specs.declared.Whole.{Whole}
+use Rattle.routine.specs.Header.{arraySize, firstCommand}
+use Rattle.routine.specs.Step.{accesses}
+use Rattle.routine.specs.Routine.{Arm}
+use Rattle.routine.specs.Decode.{routine, decode, noCounts}
+use Rattle.routine.specs.Stands.{Stands, Fine}
+use Rattle.routine.specs.declared.Header.{Header}
+use Rattle.routine.specs.declared.Counts.{Counts}
+use Rattle.routine.proofs.Accepted.{decoded}
+use Rattle.routine.proofs.Fine.{fine}
+use Rattle.run.specs.Inputs.{listed}
+use Rattle.run.specs.State as state
+use Rattle.run.specs.State.{lies}
+use Rattle.run.specs.Run.{runOf}
+use Rattle.run.specs.declared.Listed.{Listed}
+use Rattle.run.specs.declared.Lies.{Lies}
+use Rattle.run.specs.declared.State.{State}
+use Rattle.netlist.specs.Node.{Node}
+use Rattle.netlist.specs.Meaning.{Assign, Inputs, lit, nodeVal}
+use Rattle.netlist.proofs.Literals.{lit-true}
+use Rattle.netlist.proofs.Model.{WellFormed, valueAt, eval, satisfied-iff, evaluated}
+use Rattle.netlist.proofs.Truth.{Models, models-iff, models-append}
+use Rattle.translation.specs.Command.{Stretch}
+use Rattle.translation.specs.Walk.{isMade, armOf}
+use Rattle.translation.specs.Translation.{parameterNodes, start, whole}
+use Rattle.translation.specs.Course.{Course, arrived, sideOf}
+use Rattle.translation.specs.Faithful.{bitsOfList, Solves, courseOf, Arrives, Faithful}
+use Rattle.translation.specs.declared.Claim.{Claim}
+use Rattle.translation.specs.declared.Target.{Target}
+use Rattle.translation.specs.declared.Wires.{Wires}
+use Rattle.translation.proofs.Alive.{arm-alive}
+use Rattle.translation.proofs.Claimed.{MadeBy, made-by, arm-claims, arm-settled}
+use Rattle.translation.proofs.Fitting.{Fitting, fitting}
+use Rattle.translation.proofs.Formed.{whole-formed}
+use Rattle.translation.proofs.Numbers.{Elsewhere}
+use Rattle.translation.proofs.Simples.{Alive}
+use Rattle.translation.proofs.Stretches.{not-both}
+use Rattle.translation.proofs.Tally.{Tally, through, lost, missed, here}
+use Rattle.translation.proofs.Worth.{parameters-worth}
+
+-- ---- what a tally with the claim made says
+
+module _ (bs : List ℕ) (h : Header) (f : Fine bs h) (t : Target) (ds : List ℕ) (ρ : Assign) (w : Wires) (side : ℕ)
+    (made : w .claim ≡ Claim.Made (w .arrival) side) where
+  elsewhere : (c : Course) → Elsewhere c → Arrives c → ⊥
+  elsewhere c e a = subst Elsewhere (a .there) e
+
+  arrives-says : (c : Course) (r : State) → Tally bs h f t ds ρ w c r → (lit ρ (w .arrival) ≡ true) ↔ Arrives c
+  arrives-says c r (through e l p u v) = not-both true refl (ap isMade (sym made ∙ e))
+  arrives-says c r (lost e l p) = not-both true refl (ap isMade (sym made ∙ e))
+  arrives-says c r (missed e l p) = ((λ q. not-both (lit ρ (w .arrival)) q l), (λ a. absurd (elsewhere c p a)))
+  arrives-says c r (here side₁ array index e l p q) = ((λ z. record { array = array; index = index; there = p }), (λ a. l))
+
+  -- the same array and the same index
+  lies-same : (side₁ array₁ : ℕ) (index₁ : Whole) (array : ℕ) (index : Whole) → side₁ ≡ side → arrived array₁ index₁ ≡ arrived array index
+      → (lit ρ side₁ ≡ true) ↔ (lies (arraySize bs h array₁) index₁ ≡ Lies.Outside (sideOf (t .side)))
+      → (lit ρ side ≡ true) ↔ (lies (arraySize bs h array) index ≡ Lies.Outside (sideOf (t .side)))
+  lies-same side₁ array₁ index₁ array index e p q =
+      let a : array₁ ≡ array = cc in
+      let i : index₁ ≡ index = cc in
+      subst (λ (z : ℕ). (lit ρ z ≡ true) ↔ (lies (arraySize bs h array) index ≡ Lies.Outside (sideOf (t .side)))) e
+      (subst (λ (z : Whole). (lit ρ side₁ ≡ true) ↔ (lies (arraySize bs h array) z ≡ Lies.Outside (sideOf (t .side)))) i
+      (subst (λ (z : ℕ). (lit ρ side₁ ≡ true) ↔ (lies (arraySize bs h z) index₁ ≡ Lies.Outside (sideOf (t .side)))) a q))
+
+  lies-says : (c : Course) (r : State) → Tally bs h f t ds ρ w c r → (array : ℕ) (index : Whole) → c ≡ arrived array index
+      → (lit ρ side ≡ true) ↔ (lies (arraySize bs h array) index ≡ Lies.Outside (sideOf (t .side)))
+  lies-says c r (through e l p u v) array index z = not-both true refl (ap isMade (sym made ∙ e))
+  lies-says c r (lost e l p) array index z = not-both true refl (ap isMade (sym made ∙ e))
+  lies-says c r (missed e l p) array index z = absurd (elsewhere c p (record { array = array; index = index; there = z }))
+  lies-says c r (here side₁ array₁ index₁ e l p q) array index z =
+      let y : side₁ ≡ side = cc in
+      lies-same side₁ array₁ index₁ array index y (sym p ∙ z) q
+
+-- ---- the whole
+
+module _ (bs : List ℕ) (t : Target) (ds : List ℕ) (h : Header) (a : Arm) (k : Counts) (is : decode bs ≡ routine h a k)
+    (named : t .access < accesses k) (side : t .side ≤ 1) (few : (n : ℕ) → entry ds n ≤ 2) where
+  ok : Fine bs h
+  ok = fine bs h (decoded bs h a k is .header)
+
+  stands : Stands bs h 0 0 (firstCommand h) noCounts a (length bs) k
+  stands = decoded bs h a k is .stands
+
+  abbrev ps : List Node
+  ps = parameterNodes bs (h .parameters)
+
+  abbrev g : ℕ
+  g = 2 + length ps
+
+  abbrev x : Stretch
+  x = armOf bs h t ds a g (start bs (h .parameters))
+
+  start-open : start bs (h .parameters) .claim ≡ Claim.Open
+  unfolding start
+  start-open = refl
+
+  -- the claim is made
+  claimed : isMade (x .wires .claim) ≡ true
+  claimed = pick (isMade (x .wires .claim)) refl
+    where
+      pick : (b : Bool) → isMade (x .wires .claim) ≡ b → isMade (x .wires .claim) ≡ true
+      pick true e = e
+      pick false e =
+          let p = arm-claims t bs h ds a 0 0 (firstCommand h) noCounts (length bs) k stands g (start bs (h .parameters)) start-open .unnamed e (omega arith) in
+          absurd (omega arith)
+
+  made : MadeBy (x .wires .claim)
+  made = made-by (x .wires .claim) claimed
+
+  claims : x .wires .claim ≡ Claim.Made (x .wires .arrival) (made .side)
+  claims =
+      made .is
+      ∙ ap (λ (z : ℕ). Claim.Made z (made .side)) (arm-settled t bs h ds a g (start bs (h .parameters)) start-open (made .arrival) (made .side) (made .is))
+
+  formed : WellFormed 1 (whole bs t ds h a .nodes)
+  formed = whole-formed bs h ok t ds a (firstCommand h) noCounts (length bs) k stands
+
+  module _ (ins : List ℕ) (accepted : listed bs ins h a k ≡ Listed.Accepted) where
+    abbrev I : Inputs
+    I = bitsOfList ins
+
+    fits : Fitting bs ins h a
+    fits = fitting bs ins h a k is accepted
+
+    module _ (ρ : Assign) (solves : Solves ins (whole bs t ds h a) ρ) where
+      models : Models I ρ 1 (whole bs t ds h a .nodes)
+      models = models-iff I ρ 1 (whole bs t ds h a .nodes) .0 (solves .satisfies, solves .extends)
+
+      truth : ρ 1 ≡ true
+      unfolding whole nodeVal
+      truth = models .0
+
+      parts : Models I ρ 2 ps × Models I ρ g (x .nodes)
+      unfolding whole
+      parts = models-append I ρ 2 ps (x .nodes) (models .1)
+
+      -- at the start the parameters have their words
+      alive : Alive bs ins h ok t ds ρ truth (start bs (h .parameters)) (state.start ins (h .parameters))
+      unfolding start state.start
+      alive = record {
+        unclaimed = refl;
+        come = lit-true ρ truth;
+        going = refl;
+        worth = parameters-worth bs h ok ρ ins truth (h .parameters) (ok .parameters) (fits .parameters) (parts .0);
+      }
+
+      tally : Tally bs h ok t ds ρ (x .wires) (courseOf bs t ds h a ins) (runOf bs ins h a .state)
+      unfolding runOf
+      tally =
+          arm-alive bs ins h ok t ds ρ truth side few a 0 0 (firstCommand h) noCounts (length bs) k stands (fits .reads) g (start bs (h .parameters))
+          (state.start ins (h .parameters)) (parts .1) alive
+
+  all-parts : Faithful bs t ds h a k
+  unfolding whole
+  all-parts = record {
+    arrival = x .wires .arrival;
+    side = made .side;
+    claims = claims;
+    solution = λ ins e. valueAt (eval (bitsOfList ins) (whole bs t ds h a .nodes));
+    solves = λ ins e. let p = evaluated (bitsOfList ins) (whole bs t ds h a .nodes) formed in record { satisfies = p .0; extends = p .1 };
+    only = λ ins e ρ σ p q v l m.
+        satisfied-iff (bitsOfList ins) ρ (whole bs t ds h a .nodes) formed .0 (p .satisfies, p .extends) v l m
+        ∙ sym (satisfied-iff (bitsOfList ins) σ (whole bs t ds h a .nodes) formed .0 (q .satisfies, q .extends) v l m);
+    arrives = λ ins e ρ p. arrives-says bs h ok t ds ρ (x .wires) (made .side) claims (courseOf bs t ds h a ins) (runOf bs ins h a .state) (tally ins e ρ p);
+    lies = λ ins e ρ p. lies-says bs h ok t ds ρ (x .wires) (made .side) claims (courseOf bs t ds h a ins) (runOf bs ins h a .state) (tally ins e ρ p);
+  }
+
+-- a claim on an access that the routine has, on a side that there is, by decisions that there are
+pub faithful : (bs : List ℕ) (t : Target) (ds : List ℕ) (h : Header) (a : Arm) (k : Counts) → decode bs ≡ routine h a k → t .access < accesses k → t .side ≤ 1
+    → ((n : ℕ) → entry ds n ≤ 2) → Faithful bs t ds h a k
+faithful = all-parts

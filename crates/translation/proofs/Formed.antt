@@ -1,0 +1,408 @@
+-- A translation's nodes refer only to variables before their own, and so do the literals that it leaves. Assumes nothing.
+use mathlib.Core.Path.{_≡_, refl, sym, ap, subst, _∙_}
+use mathlib.Core.List.{List, [], _∷_, _++_}
+use mathlib.Core.Bool.{Bool, true, false, cond}
+use Prim.Native.Nat.{ℕ, zero, suc, _+_, _-_, _*_, _<_, _≤_}
+use native.Mathlib.Nat.{add-assoc}
+use native.Mathlib.Omega.{arith}
+use lib.ListN.{length, length-append, getD, getD-replicate}
+use lib.Dec.{eqb}
+use Rattle.slices.specs.Bytes.{entry}
+use Rattle.routine.specs.Header.{width, arraySize}
+use Rattle.routine.specs.Routine.{Arm}
+use Rattle.routine.specs.Stands.{Stands, Sound, SoundIf, Fine}
+use Rattle.routine.specs.declared.Header.{Header}
+use Rattle.routine.specs.declared.Condition.{Condition}
+use Rattle.routine.specs.declared.Counts.{Counts}
+use Rattle.routine.specs.declared.Simple.{Simple}
+use Rattle.routine.proofs.Views.{induction}
+use Rattle.routine.proofs.Fine.{convert-fine, compute-fine, read-fine, write-fine, condition-fine}
+use Rattle.netlist.specs.Literal.{opp, pos}
+use Rattle.netlist.specs.Node.{Node, one, and}
+use Rattle.netlist.proofs.Model.{Before, WellFormed}
+use Rattle.netlist.proofs.Formed.{before-later, before-opp, before-pos, before-neg, formed-append}
+use Rattle.circuits.specs.Bits.{Bits}
+use Rattle.circuits.specs.Adder.{adder, subtractor, sumBit, oppBits}
+use Rattle.circuits.specs.Product.{product, accBit}
+use Rattle.circuits.specs.Extend.{constBit}
+use Rattle.circuits.specs.Input.{inputs, inBit}
+use Rattle.circuits.specs.Join.{join, joinBit}
+use Rattle.circuits.specs.Access.{aboveNodes, aboveLit}
+use Rattle.circuits.proofs.Values.{AllBefore}
+use Rattle.circuits.proofs.Adder.{length-adder, adder-formed, subtractor-formed, sum-before}
+use Rattle.circuits.proofs.Product.{product-formed, product-before}
+use Rattle.circuits.proofs.Extend.{const-before, extend-before}
+use Rattle.circuits.proofs.Input.{length-inputs, inputs-formed, input-before}
+use Rattle.circuits.proofs.Join.{join-formed, join-before}
+use Rattle.circuits.proofs.Access.{above-formed, above-before}
+use Rattle.circuits.proofs.Relation.{relation-formed, relation-before}
+use Rattle.translation.specs.Wires.{bitsIn, bitsPut, bitsOf, put, arriving}
+use Rattle.translation.specs.Command.{Stretch, after, still, convertBits, computeNodes, computeBits, top, accessNodes, accessArrival, claimNodes, claimLit, access, readInto, simple}
+use Rattle.translation.specs.Walk.{andThen, conditionNodes, conditionLit, armNodes, armLit, branchNodes, firstLit, elseLit, joinNodes, joinLits, joined, forked, armOf}
+use Rattle.translation.specs.Translation.{parameterNodes, parameterLits, start, whole}
+use Rattle.translation.specs.declared.Claim.{Claim}
+use Rattle.translation.specs.declared.Target.{Target}
+use Rattle.translation.specs.declared.Wires.{Wires}
+use Rattle.translation.proofs.Places.{bits-place, put-length, put-keeps}
+use Rattle.translation.proofs.Stretches.{by-cond, then-by, access-by, fork-by, firstFrom, firstWires, firstOf, secondFrom, secondWires, secondOf, joinFrom, joinOf}
+
+-- all literals in the places are of variables before g
+pub record Held (g : ℕ) (lits : List ℕ) : Type 0 where
+  pub count : length lits ≡ 1024
+  pub places : (i : ℕ) → i < 1024 → Before g (getD lits i 0)
+
+-- so are the literals of a claim
+abbrev pub Named : ℕ → Claim → Type 0
+Named g Claim.Open = Unit {0}
+Named g (Claim.Made arrival side) = Before g arrival × Before g side
+
+-- so are all literals of the wires
+pub record Wired (g : ℕ) (s : Wires) : Type 0 where
+  pub some : 1 < g
+  pub held : Held g (s .lits)
+  pub arrival : Before g (s .arrival)
+  pub claim : Named g (s .claim)
+
+held-later : {g : ℕ} {lits : List ℕ} (k : ℕ) → g ≤ k → Held g lits → Held k lits
+held-later k l b = record { count = b .count; places = λ i m. before-later k l (b .places i m) }
+
+named-later : {g : ℕ} (k : ℕ) (c : Claim) → g ≤ k → Named g c → Named k c
+named-later k Claim.Open l b = tt
+named-later k (Claim.Made arrival side) l b = (before-later k l (b .0), before-later k l (b .1))
+
+pub wired-later : {g : ℕ} {s : Wires} (k : ℕ) → g ≤ k → Wired g s → Wired k s
+wired-later {s = s} k l b = record {
+  some = omega (arith, b .some);
+  held = held-later k l (b .held);
+  arrival = before-later k l (b .arrival);
+  claim = named-later k (s .claim) l (b .claim);
+}
+
+wired-arriving : {g : ℕ} {s : Wires} (l : ℕ) → Wired g s → Before g l → Wired g (arriving s l)
+wired-arriving l w b = record { some = w .some; held = w .held; arrival = b; claim = w .claim }
+
+-- a stretch whose first variable is g
+pub record Made (g : ℕ) (x : Stretch) : Type 0 where
+  pub formed : WellFormed g (x .nodes)
+  pub wired : Wired (g + length (x .nodes)) (x .wires)
+
+-- these nodes first
+made-after : (g : ℕ) (ns : List Node) (x : Stretch) → WellFormed g ns → Made (g + length ns) x → Made g (after ns x)
+made-after g ns x f m =
+    let e : g + length ns + length (x .nodes) ≡ g + length (ns ++ x .nodes) =
+    add-assoc g (length ns) (length (x .nodes)) ∙ ap (λ (n : ℕ). g + n) (sym (length-append ns (x .nodes))) in
+    record { formed = formed-append g ns (x .nodes) f (m .formed); wired = subst (λ (n : ℕ). Wired n (x .wires)) e (m .wired) }
+
+module _ (bs : List ℕ) where
+  held-bits : (g : ℕ) (lits : List ℕ) → Held g lits → (v : ℕ) → v < 32 → width bs v ≤ 32 → AllBefore g (bitsIn bs lits v) (width bs v)
+  held-bits g lits b v l w j m = subst (Before g) (sym (bits-place bs lits v j m)) (b .places (32 * v + j) (omega arith))
+
+  held-put : (g : ℕ) (lits : List ℕ) → Held g lits → (d : ℕ) (f : Bits) → AllBefore g f (width bs d) → Held g (bitsPut bs lits d f)
+  held-put g lits b d f k =
+      record { count = put-length bs lits d f ∙ b .count; places = λ i m. put-keeps bs lits d f (Before g) i (b .places i m) k (omega (arith, b .count)) }
+
+  wired-put : (g : ℕ) (s : Wires) → Wired g s → (d : ℕ) (f : Bits) → AllBefore g f (width bs d) → Wired g (put bs s d f)
+  wired-put g s w d f k = record { some = w .some; held = held-put g (s .lits) (w .held) d f k; arrival = w .arrival; claim = w .claim }
+
+-- ---- joining
+
+module _ (bs : List ℕ) (g c : ℕ) (x y : List ℕ) (z : 1 < g) (hc : Before g c) (hx : Held g x) (hy : Held g y) where
+  -- the gates of the first n variables, and their literals
+  record Joined (n : ℕ) : Type 0 where
+    gates : WellFormed g (joinNodes bs c x y n)
+    lits : Held (g + length (joinNodes bs c x y n)) (joinLits bs g c x y n)
+
+  joins : (n : ℕ) → ((v : ℕ) → v < n → (v < 32) × (width bs v ≤ 32)) → Joined n
+  unfolding joinNodes joinLits
+  joins zero f = record { gates = tt; lits = held-later (g + 0) (omega arith) hx }
+  joins (suc v) f =
+      let p = joins v (λ u l. f u (omega arith)) in
+      let k : ℕ = g + length (joinNodes bs c x y v) in
+      let w : ℕ = width bs v in
+      let r = f v (omega arith) in
+      let a = held-bits bs k x (held-later k (omega arith) hx) v (r .0) (r .1) in
+      let b = held-bits bs k y (held-later k (omega arith) hy) v (r .0) (r .1) in
+      let ns : List Node = join c (bitsIn bs x v) (bitsIn bs y v) w in
+      let e : k + length ns ≡ g + length (joinNodes bs c x y v ++ ns) =
+      add-assoc g (length (joinNodes bs c x y v)) (length ns) ∙ ap (λ (n : ℕ). g + n) (sym (length-append (joinNodes bs c x y v) ns)) in
+      record {
+        gates = formed-append g (joinNodes bs c x y v) ns (p .gates) (join-formed k c (bitsIn bs x v) (bitsIn bs y v) w (before-later k (omega arith) hc) a b);
+        lits = subst (λ (n : ℕ). Held n (bitsPut bs (joinLits bs g c x y v) v (joinBit k c (bitsIn bs x v) (bitsIn bs y v)))) e
+            (held-put bs (k + length ns) (joinLits bs g c x y v) (held-later (k + length ns) (omega arith) (p .lits)) v
+            (joinBit k c (bitsIn bs x v) (bitsIn bs y v))
+            (join-before k c (bitsIn bs x v) (bitsIn bs y v) w (before-later k (omega arith) hc) a b (omega arith)));
+      }
+
+module _ (bs : List ℕ) (h : Header) (fine : Fine bs h) where
+  few : (v : ℕ) → v < h .variables → (v < 32) × (width bs v ≤ 32)
+  few v l = (omega (arith, fine .few), fine .widths v l .1)
+
+  wide : (v : ℕ) → v < h .variables → 0 < width bs v
+  wide v l = omega (arith, fine .widths v l)
+
+  var-bits : (g : ℕ) (s : Wires) → Wired g s → (v : ℕ) → v < h .variables → AllBefore g (bitsOf bs s v) (width bs v)
+  var-bits g s w v l = let p = few v l in held-bits bs g (s .lits) (w .held) v (p .0) (p .1)
+
+  joined-made : (g c : ℕ) (x y : Wires) → Wired g x → Wired g y → Before g c → Made g (joined bs h g c x y)
+  unfolding joined
+  joined-made g c x y wx wy hc =
+      let p = joins bs g c (x .lits) (y .lits) (wx .some) hc (wx .held) (wy .held) (h .variables) few in
+      let ns : List Node = joinNodes bs c (x .lits) (y .lits) (h .variables) in
+      let k : ℕ = g + length ns in
+      let e = length-append ns (and (opp (x .arrival)) (opp (y .arrival)) ∷ []) in
+      record {
+        formed = formed-append g ns (and (opp (x .arrival)) (opp (y .arrival)) ∷ []) (p .gates)
+            ((before-later k (omega arith) (before-opp (wx .arrival)), before-later k (omega arith) (before-opp (wy .arrival))), tt);
+        wired = record { some = omega (arith, wx .some); held = held-later _ (omega arith) (p .lits); arrival = before-neg _ k (omega (arith, wx .some)) (omega arith); claim = tt };
+      }
+
+  -- ---- commands
+
+  still-made : (g : ℕ) (s : Wires) → Wired g s → Made g (still s)
+  still-made g s w = record { formed = tt; wired = wired-later (g + 0) (omega arith) w }
+
+  convert-before : (op g : ℕ) (a : Bits) (w v : ℕ) → 0 < w → 1 < g → AllBefore g a w → AllBefore g (convertBits op w a) v
+  convert-before op g a w v z o f =
+      extend-before g a w (cond (eqb op 0x08) (a (w - 1)) 3) v f
+      (by-cond (Before g) (eqb op 0x08) (a (w - 1)) 3 (λ e. f (w - 1) (omega arith)) (λ e. before-neg g 1 (omega arith) o))
+
+  -- the gates of a sum, a difference or a product, and their bits
+  record Computed (g w : ℕ) (ns : List Node) (r : Bits) : Type 0 where
+    gates : WellFormed g ns
+    bits : AllBefore (g + length ns) r w
+
+  compute-made : (op g : ℕ) (a b : Bits) (w : ℕ) → 1 < g → AllBefore g a w → AllBefore g b w → Computed g w (computeNodes op g a b w) (computeBits op g w)
+  unfolding computeNodes computeBits
+  compute-made op g a b w z ha hb = pick (eqb op 0x03) (eqb op 0x04)
+    where
+      sums : (c : ℕ) (e : Bits) → WellFormed g (adder g a e c w) → Computed g w (adder g a e c w) (sumBit g)
+      sums c e f =
+          record { gates = f; bits = subst (λ (n : ℕ). AllBefore (g + n) (sumBit g) w) (sym (length-adder g a e c w)) (sum-before g w (omega arith)) }
+
+      pick : (p q : Bool) → Computed g w (cond p (adder g a b 3 w) (cond q (subtractor g a b w) (product g a b w w))) (cond p (sumBit g) (cond q (sumBit g) (accBit g w w)))
+      pick true q = sums 3 b (adder-formed g a b 3 w (omega arith) ha hb (before-neg g 1 (omega arith) z))
+      pick false true = sums 2 (oppBits b) (subtractor-formed g a b w z ha hb)
+      pick false false = record { gates = product-formed g a b w w z (omega arith) ha hb; bits = product-before g a b w z }
+
+  -- an access that is not the named one
+  record Accessed (g : ℕ) (ns : List Node) (l : ℕ) : Type 0 where
+    gates : WellFormed g ns
+    arrival : Before (g + length ns) l
+
+  access-made : (g : ℕ) (a : Bits) (size w arrival : ℕ) → 0 < w → 1 < g → AllBefore g a w → Before g arrival
+      → Accessed g (accessNodes g a size w arrival) (accessArrival g a size w)
+  unfolding accessNodes accessArrival
+  access-made g a size w arrival z o f b =
+      let ns : List Node = aboveNodes g a size w in
+      let k : ℕ = g + length ns in
+      let ms : List Node = and (opp (top a w)) (opp (aboveLit g size w)) ∷ and arrival (pos k) ∷ [] in
+      let e = length-append ns ms in
+      record {
+        gates = formed-append g ns ms (above-formed g a size w z o f) (
+          (before-later k (omega arith) (before-opp (f (w - 1) (omega arith))), before-opp (above-before g a size w z o)),
+          ((before-later (suc k) (omega arith) b, before-pos (suc k) k (omega arith) (omega arith)), tt),
+        );
+        arrival = before-pos _ (k + 1) (omega arith) (omega arith);
+      }
+
+  claim-before : (side g : ℕ) (a : Bits) (size w : ℕ) → 0 < w → 1 < g → AllBefore g a w → Before (g + length (claimNodes side g a size w)) (claimLit side g a size w)
+  unfolding claimNodes claimLit
+  claim-before side g a size w z o f = pick (eqb side 1)
+    where
+      pick : (b : Bool) → Before (g + length (cond b (aboveNodes g a size w) [])) (cond b (aboveLit g size w) (top a w))
+      pick true = above-before g a size w z o
+      pick false = before-later (g + 0) (omega arith) (f (w - 1) (omega arith))
+
+  claim-formed : (side g : ℕ) (a : Bits) (size w : ℕ) → 0 < w → 1 < g → AllBefore g a w → WellFormed g (claimNodes side g a size w)
+  unfolding claimNodes
+  claim-formed side g a size w z o f =
+      by-cond (WellFormed g) (eqb side 1) (aboveNodes g a size w) [] (λ e. above-formed g a size w z o f) (λ e. tt)
+
+  module _ (t : Target) where
+    -- an access, and what goes on after it
+    at-access : (g array i : ℕ) (k : Counts) (s : Wires) (go : ℕ → Wires → Stretch) → i < h .variables → Wired g s
+        → ((g₁ : ℕ) (u : Wires) → Wired g₁ u → Made g₁ (go g₁ u)) → Made g (access bs h t g array i k s go)
+    at-access g array i k s go l w f =
+        let a : Bits = bitsOf bs s i in
+        let size : ℕ = arraySize bs h array in
+        let v : ℕ = width bs i in
+        let b = var-bits g s w i l in
+        let ns : List Node = accessNodes g a size v (s .arrival) in
+        let u : Wires = arriving s (accessArrival g a size v) in
+        let p = access-made g a size v (s .arrival) (wide i l) (w .some) b (w .arrival) in
+        access-by (Made g) bs h t g array i k s go
+        (λ e. record {
+          formed = claim-formed (t .side) g a size v (wide i l) (w .some) b;
+          wired = let q = wired-later {s = s} (g + length (claimNodes (t .side) g a size v)) (omega arith) w in
+              record { some = q .some; held = q .held; arrival = q .arrival; claim = (q .arrival, claim-before (t .side) g a size v (wide i l) (w .some) b) };
+        })
+        (λ e. made-after g ns (go (g + length ns) u) (p .gates)
+        (f (g + length ns) u (wired-arriving {s = s} (accessArrival g a size v) (wired-later {s = s} (g + length ns) (omega arith) w) (p .arrival))))
+
+    read-made : (d : ℕ) (k : Counts) (g : ℕ) (s : Wires) → Wired g s → Made g (readInto bs h d k g s)
+    read-made d k g s w =
+        let e = length-inputs (h .parameters + k .reads) (width bs d) in
+        let b : AllBefore (g + length (inputs (h .parameters + k .reads) (width bs d))) (inBit g) (width bs d) =
+        subst (λ (n : ℕ). AllBefore (g + n) (inBit g) (width bs d)) (sym e) (input-before g (width bs d) (omega (arith, w .some))) in
+        record {
+          formed = inputs-formed g (h .parameters + k .reads) (width bs d);
+          wired = wired-put bs _ s (wired-later _ (omega arith) w) d (inBit g) b;
+        }
+
+    pub simple-made : (g : ℕ) (c : Simple) (k : Counts) (s : Wires) → Sound bs h c → Wired g s → Made g (simple bs h t g c k s)
+    unfolding simple
+    simple-made g (Simple.Set d c) k s q w = still-made g (put bs s d (constBit c)) (wired-put bs g s w d (constBit c) (const-before g c (width bs d) (w .some)))
+    simple-made g (Simple.Convert op d a) k s q w =
+        let p = convert-fine bs h op d a q in
+        let f : Bits = convertBits op (width bs a) (bitsOf bs s a) in
+        still-made g (put bs s d f)
+        (wired-put bs g s w d f (convert-before op g (bitsOf bs s a) (width bs a) (width bs d) (wide a (p .1)) (w .some) (var-bits g s w a (p .1))))
+    simple-made g (Simple.Compute op d a b) k s q w =
+        let p = compute-fine bs h op d a b q in
+        let x = bitsOf bs s a in
+        let y = bitsOf bs s b in
+        let m = compute-made op g x y (width bs d) (w .some)
+        (subst (AllBefore g x) (sym (p .3)) (var-bits g s w a (p .1))) (subst (AllBefore g y) (sym (p .4)) (var-bits g s w b (p .2))) in
+        record { formed = m .gates; wired = wired-put bs _ s (wired-later _ (omega arith) w) d (computeBits op g (width bs d)) (m .bits) }
+    simple-made g (Simple.Read d array i) k s q w =
+        at-access g array i k s (readInto bs h d k) (read-fine bs h d array i q .2) w (read-made d k)
+    simple-made g (Simple.Write array i a) k s q w =
+        at-access g array i k s (λ g₁. still) (write-fine bs h array i a q .1) w (λ g₁ u v. still-made g₁ u v)
+
+    -- ---- ifs
+
+    record Branched (g : ℕ) (ns : List Node) (x y : ℕ) : Type 0 where
+      gates : WellFormed g ns
+      first : Before (g + length ns) x
+      else : Before (g + length ns) y
+
+    branch-made : (d g arrival c : ℕ) → 1 < g → Before g arrival → Before g c
+        → Branched g (branchNodes d arrival c) (firstLit d g) (elseLit d g arrival c)
+    branch-made d g arrival c z a b = pick (eqb d 1) (eqb d 0)
+      where
+        falsity : (k : ℕ) → 1 < k → Before k 3
+        falsity k l = before-neg k 1 (omega arith) l
+
+        pick : (p q : Bool) → Branched g (armNodes p arrival c ++ armNodes q arrival (opp c)) (armLit p g) (armLit q (g + length (armNodes p arrival c)))
+        pick true true = record { gates = tt; first = falsity _ (omega arith); else = falsity _ (omega arith) }
+        pick true false = record { gates = ((before-later _ (omega arith) a, before-opp b), tt); first = falsity _ (omega arith); else = before-pos _ _ (omega arith) (omega arith) }
+        pick false true = record { gates = ((a, b), tt); first = before-pos _ _ (omega arith) (omega arith); else = falsity _ (omega arith) }
+        pick false false = record {
+          gates = ((a, b), ((before-later _ (omega arith) a, before-later _ (omega arith) (before-opp b)), tt));
+          first = before-pos _ _ (omega arith) (omega arith);
+          else = before-pos _ _ (omega arith) (omega arith);
+        }
+
+    made-front : (g : ℕ) (a b : List Node) (x : Stretch) → WellFormed g a → WellFormed (g + length a) b → Made (g + length a + length b) x
+        → Made g (after (a ++ b) x)
+    made-front g a b x p q m =
+        let e : g + length a + length b ≡ g + length (a ++ b) = add-assoc g (length a) (length b) ∙ ap (λ (n : ℕ). g + n) (sym (length-append a b)) in
+        made-after g (a ++ b) x (formed-append g a b p q) (subst (λ (n : ℕ). Made n x) e m)
+
+    abbrev Arms : (ℕ → Wires → Stretch) → Type 0
+    Arms go = (g : ℕ) (s : Wires) → Wired g s → Made g (go g s)
+
+    module _ (first second : ℕ → Wires → Stretch) (one : Arms first) (two : Arms second) where
+      pub fork-made : (d g : ℕ) (c : Condition) (s : Wires) → SoundIf bs h c → Wired g s → Made g (forked bs h d g c s first second)
+      fork-made d g c s q w =
+          let f = condition-fine bs h c q in
+          let v = width bs (c .s) in
+          let a = var-bits g s w (c .s) (f .1) in
+          let b = subst (AllBefore g (bitsOf bs s (c .t))) (sym (f .3)) (var-bits g s w (c .t) (f .2)) in
+          let cn = conditionNodes bs g c s in
+          let l = conditionLit bs g c in
+          let k₁ : ℕ = g + length cn in
+          let cf : WellFormed g cn = relation-formed (c .relation) g (bitsOf bs s (c .s)) (bitsOf bs s (c .t)) v (w .some) a b in
+          let lb : Before k₁ l = relation-before (c .relation) g (bitsOf bs s (c .s)) (bitsOf bs s (c .t)) v (wide (c .s) (f .1)) (w .some) in
+          let bn = branchNodes d (s .arrival) l in
+          let br = branch-made d k₁ (s .arrival) l (omega (arith, w .some)) (before-later k₁ (omega arith) (w .arrival)) lb in
+          let x = firstOf bs h d g c s first second in
+          let y = secondOf bs h d g c s first second in
+          let j = joinOf bs h d g c s first second in
+          let g₂ = firstFrom bs h d g c s first second in
+          let g₃ = secondFrom bs h d g c s first second in
+          let g₄ = joinFrom bs h d g c s first second in
+          let s₁ = firstWires bs h d g c s first second in
+          let s₂ = secondWires bs h d g c s first second in
+          let m₁ : Made g₂ x = one g₂ s₁ (wired-arriving {s = s} _ (wired-later {s = s} g₂ (omega arith) w) (br .first)) in
+          let m₂ : Made g₃ y = two g₃ s₂ (wired-arriving {s = s} _ (wired-later {s = s} g₃ (omega arith) w) (before-later g₃ (omega arith) (br .else))) in
+          fork-by bs h d g c s first second (Made g)
+          (λ e. made-front g cn bn x cf (br .gates) m₁)
+          (λ e e₁. made-front g cn bn (after (x .nodes) y) cf (br .gates) (made-after g₂ (x .nodes) y (m₁ .formed) m₂))
+          (λ e e₁. made-front g cn bn (after (x .nodes) (after (y .nodes) j)) cf (br .gates)
+          (made-after g₂ (x .nodes) (after (y .nodes) j) (m₁ .formed)
+          (made-after g₃ (y .nodes) j (m₂ .formed)
+          (joined-made g₄ l (x .wires) (y .wires) (wired-later {s = x .wires} g₄ (omega arith) (m₁ .wired)) (m₂ .wired) (before-later g₄ (omega arith) lb)))))
+
+    -- a stretch, and what goes on after it
+    goes-on : (g : ℕ) (x : Stretch) (go : ℕ → Wires → Stretch) → Made g x → Arms go → Made g (andThen g x go)
+    goes-on g x go m f =
+        then-by (Made g) g x go (λ e. m)
+        (λ e. made-after g (x .nodes) (go (g + length (x .nodes)) (x .wires)) (m .formed) (f (g + length (x .nodes)) (x .wires) (m .wired)))
+
+    -- an arm that stands
+    pub arm-made : (ds : List ℕ) (a : Arm) (depth close at : ℕ) (k : Counts) (end : ℕ) (k₁ : Counts) → Stands bs h depth close at k a end k₁
+        → Arms (armOf bs h t ds a)
+    unfolding armOf
+    arm-made ds =
+        induction bs h (λ depth close at k a end k₁. Arms (armOf bs h t ds a))
+        (λ depth close at k mark e l g s w. still-made g s w)
+        (λ depth close at k c rest end k₁ v go g s w.
+        goes-on g (simple bs h t g c k s) (armOf bs h t ds rest) (simple-made g c k s (v .sound) w) go)
+        (λ depth close at k c first second rest end k₁ v go₁ go₂ go₃ g s w.
+        goes-on g (forked bs h (entry ds (k .ifs)) g c s (armOf bs h t ds first) (armOf bs h t ds second)) (armOf bs h t ds rest)
+        (fork-made (armOf bs h t ds first) (armOf bs h t ds second) go₁ go₂ (entry ds (k .ifs)) g c s (v .sound) w) go₃)
+
+    -- ---- the start
+
+    record Started (n : ℕ) : Type 0 where
+      gates : WellFormed 2 (parameterNodes bs n)
+      lits : Held (2 + length (parameterNodes bs n)) (parameterLits bs n)
+
+    started : (n : ℕ) → Started n
+    unfolding parameterNodes parameterLits
+    started zero = record { gates = tt; lits = record { count = refl; places = λ i l. subst (Before 2) (sym (getD-replicate 1024 i 3 0 l)) (before-neg 2 1 (omega arith) (omega arith)) } }
+    started (suc p) =
+        let q = started p in
+        let ns : List Node = parameterNodes bs p in
+        let ms : List Node = inputs p (width bs p) in
+        let e = length-append ns ms in
+        let f = length-inputs p (width bs p) in
+        let g : ℕ = 2 + length ns in
+        let z : g + width bs p ≡ 2 + length (ns ++ ms) = omega arith in
+        record {
+          gates = formed-append 2 ns ms (q .gates) (inputs-formed g p (width bs p));
+          lits = subst (λ (n : ℕ). Held n (bitsPut bs (parameterLits bs p) p (inBit g))) z
+              (held-put bs (g + width bs p) (parameterLits bs p) (held-later (g + width bs p) (omega arith) (q .lits)) p (inBit g) (input-before g (width bs p) (omega arith)));
+        }
+
+    abbrev wholeFrom : ℕ
+    wholeFrom = 2 + length (parameterNodes bs (h .parameters))
+
+    start-wired : Wired wholeFrom (start bs (h .parameters))
+    unfolding start
+    start-wired = record { some = omega arith; held = started (h .parameters) .lits; arrival = before-pos wholeFrom 1 (omega arith) (omega arith); claim = tt }
+
+    module _ (ds : List ℕ) (a : Arm) (at : ℕ) (k : Counts) (end : ℕ) (k₁ : Counts) (st : Stands bs h 0 0 at k a end k₁) where
+      commands-made : Made wholeFrom (armOf bs h t ds a wholeFrom (start bs (h .parameters)))
+      commands-made = arm-made ds a 0 0 at k end k₁ st wholeFrom (start bs (h .parameters)) start-wired
+
+      -- a whole translation is well formed
+      pub whole-formed : WellFormed 1 (whole bs t ds h a .nodes)
+      unfolding whole
+      whole-formed = (
+        tt,
+        formed-append 2 (parameterNodes bs (h .parameters)) (armOf bs h t ds a wholeFrom (start bs (h .parameters)) .nodes)
+            (started (h .parameters) .gates) (commands-made .formed),
+      )
+
+      -- the claim's literals are of its variables
+      pub whole-named : (arrival side : ℕ) → whole bs t ds h a .wires .claim ≡ Claim.Made arrival side
+          → Before (1 + length (whole bs t ds h a .nodes)) arrival × Before (1 + length (whole bs t ds h a .nodes)) side
+      unfolding whole
+      whole-named arrival side e =
+          let ns : List Node = parameterNodes bs (h .parameters) in
+          let x : Stretch = armOf bs h t ds a wholeFrom (start bs (h .parameters)) in
+          let z = length-append ns (x .nodes) in
+          subst (Named (1 + length (one ∷ (ns ++ x .nodes)))) e
+          (named-later (1 + length (one ∷ (ns ++ x .nodes))) (x .wires .claim) (omega arith) (commands-made .wired .claim))

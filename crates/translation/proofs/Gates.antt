@@ -1,0 +1,84 @@
+-- The gates of arrival: what their literals say, by the models of the nodes that make them. Assumes nothing.
+use mathlib.Core.Path.{_≡_, refl, sym, ap, ap₂, subst, _∙_}
+use mathlib.Core.List.{List, [], _∷_, _++_}
+use mathlib.Core.Bool.{Bool, true, false, cond, not, _&&_, _||_}
+use Prim.Native.Nat.{ℕ, _+_}
+use native.Mathlib.Nat.{add-assoc}
+use native.Mathlib.Numerals.{add-one}
+use lib.ListN.{length, length-append}
+use lib.Dec.{eqb}
+use Rattle.routine.specs.declared.Header.{Header}
+use Rattle.netlist.specs.Literal.{opp, pos}
+use Rattle.netlist.specs.Node.{Node, and}
+use Rattle.netlist.specs.Meaning.{Assign, Inputs, lit, nodeVal}
+use Rattle.netlist.proofs.Literals.{lit-pos, lit-neg, lit-opp, lit-false}
+use Rattle.netlist.proofs.Truth.{Models, models-append}
+use Rattle.circuits.specs.Bits.{Bits}
+use Rattle.circuits.specs.Access.{aboveNodes, aboveLit}
+use Rattle.translation.specs.Command.{top, accessNodes, accessArrival}
+use Rattle.translation.specs.Walk.{armNodes, armLit, branchNodes, firstLit, elseLit, joinNodes, joined}
+use Rattle.translation.specs.declared.Wires.{Wires}
+
+module _ (ins : Inputs) (ρ : Assign) where
+  -- three stretches one after the other
+  pub models-three : (g : ℕ) (a b c : List Node) → Models ins ρ g ((a ++ b) ++ c)
+      → Models ins ρ g a × Models ins ρ (g + length a) b × Models ins ρ (g + length a + length b) c
+  models-three g a b c m =
+      let p = models-append ins ρ g (a ++ b) c m in
+      let q = models-append ins ρ g a b (p .0) in
+      let e : g + length (a ++ b) ≡ g + length a + length b = ap (λ (n : ℕ). g + n) (length-append a b) ∙ sym (add-assoc g (length a) (length b)) in
+      (q .0, q .1, subst (λ (n : ℕ). Models ins ρ n c) e (p .1))
+
+  -- arrival after an access that is not the named one: arrived, not below and not above
+  pub access-lit : (g : ℕ) (a : Bits) (size w arrival : ℕ) → Models ins ρ g (accessNodes g a size w arrival)
+      → lit ρ (accessArrival g a size w) ≡ (lit ρ arrival && (not (lit ρ (top a w)) && not (lit ρ (aboveLit g size w))))
+  unfolding accessNodes accessArrival nodeVal
+  access-lit g a size w arrival m =
+      let v : ℕ = g + length (aboveNodes g a size w) in
+      let p = models-append ins ρ g (aboveNodes g a size w) (and (opp (top a w)) (opp (aboveLit g size w)) ∷ and arrival (pos v) ∷ []) m in
+      let q : ρ v ≡ (not (lit ρ (top a w)) && not (lit ρ (aboveLit g size w))) =
+      p .1 .0 ∙ ap₂ (λ (x y : Bool). x && y) (lit-opp ρ (top a w)) (lit-opp ρ (aboveLit g size w)) in
+      lit-pos ρ (v + 1) ∙ ap ρ (add-one v) ∙ p .1 .1 .0 ∙ ap (λ (x : Bool). lit ρ arrival && x) (lit-pos ρ v ∙ q)
+
+  -- the gates of an access come first, and then what is above
+  pub access-above : (g : ℕ) (a : Bits) (size w arrival : ℕ) → Models ins ρ g (accessNodes g a size w arrival) → Models ins ρ g (aboveNodes g a size w)
+  unfolding accessNodes
+  access-above g a size w arrival m = models-append ins ρ g (aboveNodes g a size w) _ m .0
+
+  module _ (o : ρ 1 ≡ true) where
+    -- the arrival of one arm
+    arm-lit : (other : Bool) (g arrival c : ℕ) → Models ins ρ g (armNodes other arrival c)
+        → lit ρ (armLit other g) ≡ cond other false (lit ρ arrival && lit ρ c)
+    unfolding nodeVal
+    arm-lit true g arrival c m = lit-false ρ o
+    arm-lit false g arrival c m = lit-pos ρ g ∙ m .0
+
+    module _ (d g arrival c : ℕ) (m : Models ins ρ g (branchNodes d arrival c)) where
+      -- the first arm is come to where the condition holds, unless the else was decided
+      pub first-lit : lit ρ (firstLit d g) ≡ cond (eqb d 1) false (lit ρ arrival && lit ρ c)
+      first-lit = arm-lit (eqb d 1) g arrival c (models-append ins ρ g (armNodes (eqb d 1) arrival c) _ m .0)
+
+      -- the else where it does not, unless the first arm was decided
+      pub else-lit : lit ρ (elseLit d g arrival c) ≡ cond (eqb d 0) false (lit ρ arrival && not (lit ρ c))
+      else-lit =
+          arm-lit (eqb d 0) (g + length (armNodes (eqb d 1) arrival c)) arrival (opp c) (models-append ins ρ g (armNodes (eqb d 1) arrival c) _ m .1)
+          ∙ ap (λ (x : Bool). cond (eqb d 0) false (lit ρ arrival && x)) (lit-opp ρ c)
+
+  neither : (a b : Bool) → not (not a && not b) ≡ (a || b)
+  neither true b = refl
+  neither false true = refl
+  neither false false = refl
+
+  module _ (bs : List ℕ) (h : Header) (g c : ℕ) (x y : Wires) where
+    -- an if is left where one of its arms is
+    pub joined-lit : Models ins ρ g (joined bs h g c x y .nodes) → lit ρ (joined bs h g c x y .wires .arrival) ≡ (lit ρ (x .arrival) || lit ρ (y .arrival))
+    unfolding joined nodeVal
+    joined-lit m =
+        let v : ℕ = g + length (joinNodes bs c (x .lits) (y .lits) (h .variables)) in
+        let p = models-append ins ρ g (joinNodes bs c (x .lits) (y .lits) (h .variables)) (and (opp (x .arrival)) (opp (y .arrival)) ∷ []) m in
+        lit-neg ρ v ∙ ap not (p .1 .0 ∙ ap₂ (λ (a b : Bool). a && b) (lit-opp ρ (x .arrival)) (lit-opp ρ (y .arrival)))
+        ∙ neither (lit ρ (x .arrival)) (lit ρ (y .arrival))
+
+    pub joined-gates : Models ins ρ g (joined bs h g c x y .nodes) → Models ins ρ g (joinNodes bs c (x .lits) (y .lits) (h .variables))
+    unfolding joined
+    joined-gates m = models-append ins ρ g (joinNodes bs c (x .lits) (y .lits) (h .variables)) (and (opp (x .arrival)) (opp (y .arrival)) ∷ []) m .0

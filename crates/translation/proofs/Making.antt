@@ -1,0 +1,130 @@
+-- The whole translation: variable 1, the parameters, the commands, and the last two clauses. Assumes nothing.
+use mathlib.Core.Path.{_≡_, ap, subst, _∙_}
+use mathlib.Core.List.{List, [], _∷_, _++_}
+use mathlib.Core.Bool.{false}
+use Prim.Native.Nat.{ℕ, _+_, _-_, _≤_}
+use native.Mathlib.Nat.{zero-add}
+use native.Mathlib.Omega.{arith}
+use lib.ListN.{length}
+use Rattle.routine.specs.Header.{firstCommand}
+use Rattle.routine.specs.Routine.{Arm}
+use Rattle.routine.specs.Decode.{routine, decode, noCounts, IsRoutine}
+use Rattle.routine.specs.Stands.{Fine}
+use Rattle.routine.specs.declared.Header.{Header}
+use Rattle.routine.specs.declared.Counts.{Counts}
+use Rattle.routine.proofs.Accepted.{decoded}
+use Rattle.routine.proofs.Fine.{fine}
+use Rattle.clauses.specs.Clause.{Clause, Appended, Room}
+use Rattle.clauses.specs.declared.Store.{Store}
+use Rattle.clauses.proofs.Appending.{appended-then, appended-words-length, appended-starts-length, room-weaken}
+use Rattle.netlist.specs.Node.{one, nodeClauses, clausesOf}
+use Rattle.netlist.specs.Emit.{Emitted, Ready}
+use Rattle.netlist.specs.declared.Net.{Net}
+use Rattle.netlist.proofs.Emitting.{emitted-then, emitted-words-length, emitted-starts-length, ready-after, ready-room}
+use Rattle.translation.specs.Command.{Stretch, after}
+use Rattle.translation.specs.Walk.{isMade, armOf}
+use Rattle.translation.specs.Translation.{parameterNodes, start, whole, lastClauses, clausesOfAll, sizeOf}
+use Rattle.translation.specs.Walker.{walkAt, Arrives, Roomy, ArmMade, ArmRoom, Begun, WholeMade}
+use Rattle.translation.specs.declared.Size.{Size}
+use Rattle.translation.specs.declared.Target.{Target}
+use Rattle.translation.specs.declared.Wires.{Wires}
+use Rattle.translation.specs.declared.Walk.{Walk}
+use Rattle.translation.specs.declared.Made.{Made}
+use Rattle.translation.proofs.Bound.{parameters-few, roomy}
+
+-- nothing is stored yet
+abbrev pub noStore : Store
+noStore = record { words = 0; clauses = 0 }
+
+-- the clause of variable 1
+abbrev pub first : List Clause
+first = (2 ∷ []) ∷ []
+
+pub fine-here : (bs : List ℕ) (h : Header) → IsRoutine bs h → Fine bs h
+fine-here bs h i = fine bs h (decoded bs h (i .commands) (i .counts) (i .decodes) .header)
+
+module _ (bs : List ℕ) (h : Header) (t : Target) (ds : List ℕ) (i : IsRoutine bs h) (w u w₁ u₁ : List ℕ) (s₁ : Store) (p : Appended w u noStore first w₁ u₁ s₁) where
+  -- the state after variable 1
+  abbrev One : Net
+  One = record { store = s₁; next = 2 }
+
+  pub begin-ready : Ready (record { store = s₁; next = 2 }) 2048
+  begin-ready = record { words = omega (arith, p .used); clauses = omega (arith, p .count); next = omega arith }
+
+  module _ (m : Made) (b : Begun bs (record { store = s₁; next = 2 }) (h .parameters) m) where
+    -- where the commands begin
+    from : m .net .next ≡ 2 + length (parameterNodes bs (h .parameters))
+    from = b .emitted w₁ u₁ .next
+
+    pub not-made : isMade (m .wires .claim) ≡ false
+    unfolding start
+    not-made = ap (λ (z : Wires). isMade (z .claim)) (b .wires)
+
+    ready-here : Ready (m .net) 1024
+    ready-here = ready-after 1024 (b .emitted w₁ u₁) begin-ready (omega (arith, parameters-few bs h (fine-here bs h i)))
+
+    few-here : m .net .next ≤ 2048
+    few-here = omega (arith, from, parameters-few bs h (fine-here bs h i))
+
+    room-for : (a : Arm) (k : Counts) → decode bs ≡ routine h a k → Roomy (m .net) (armOf bs h t ds a (m .net .next) (m .wires))
+    room-for a k d = roomy bs t ds h a k d (m .net) (ready-here .words) (ready-here .clauses) few-here (m .net .next) (m .wires)
+
+    pub whole-roomy : (at : ℕ) → at ≡ firstCommand h → ArmRoom bs h t ds 0 0 (walkAt at noCounts (m .net) (m .wires))
+    whole-roomy at e = record {
+      some = record { arm = i .commands; end = length bs; after = i .counts; stands = rw e (decoded bs h (i .commands) (i .counts) (i .decodes) .stands) };
+      room = room-for (i .commands) (i .counts) (i .decodes);
+    }
+
+    module _ (w₂ u₂ : List ℕ) (at : ℕ) (e : at ≡ firstCommand h) (r : Walk) (x : ArmMade bs h t ds 0 0 w₁ u₁ (walkAt at noCounts (m .net) (m .wires)) w₂ u₂ r) where
+      arrives : (a : Arm) (k : Counts) → decode bs ≡ routine h a k → Arrives w₁ u₁ (m .net) (armOf bs h t ds a (m .net .next) (m .wires)) (length bs) k w₂ u₂ r
+      arrives a k d = x .tells a (length bs) k (rw e (decoded bs h a k d .stands))
+
+      -- the buffers stay as long as they were
+      pub arm-words : length w₂ ≡ length w
+      arm-words = emitted-words-length (arrives (i .commands) (i .counts) (i .decodes) .emitted) ∙ appended-words-length p
+
+      pub arm-starts : length u₂ ≡ length u
+      arm-starts = emitted-starts-length (arrives (i .commands) (i .counts) (i .decodes) .emitted) ∙ appended-starts-length p
+
+      pub claim-room : Room (r .net .store) 2
+      claim-room =
+          let q = arrives (i .commands) (i .counts) (i .decodes) in
+          room-weaken (omega arith) (ready-room {k = 0} (ready-after 1 (q .emitted) (room-for (i .commands) (i .counts) (i .decodes)) (omega arith)))
+
+      pub some-variables : 2 ≤ r .net .next
+      some-variables = let q = arrives (i .commands) (i .counts) (i .decodes) in omega (arith, q .emitted .next, from)
+
+      module _ (w₃ u₃ : List ℕ) (all : Store) (c : Appended w₂ u₂ (r .net .store) (lastClauses (r .wires .claim)) w₃ u₃ all) where
+        module _ (a : Arm) (k : Counts) (d : decode bs ≡ routine h a k) where
+          X : Stretch
+          X = whole bs t ds h a
+
+          Y : Stretch
+          Y = armOf bs h t ds a (2 + length (parameterNodes bs (h .parameters))) (start bs (h .parameters))
+
+          arm-is : armOf bs h t ds a (m .net .next) (m .wires) ≡ Y
+          unfolding Y
+          arm-is = λ j. armOf bs h t ds a (from j) (b .wires j)
+
+          arm-there : Arrives w₁ u₁ (m .net) Y (length bs) k w₂ u₂ r
+          arm-there = subst (λ (z : Stretch). Arrives w₁ u₁ (m .net) z (length bs) k w₂ u₂ r) arm-is (arrives a k d)
+
+          rest-made : Emitted w₁ u₁ (record { store = s₁; next = 2 }) (parameterNodes bs (h .parameters) ++ Y .nodes) w₂ u₂ (r .net)
+          rest-made = emitted-then (b .emitted w₁ u₁) (arm-there .emitted)
+
+          all-made : Appended w u noStore (clausesOfAll X) w₃ u₃ all
+          unfolding clausesOfAll clausesOf nodeClauses whole X Y
+          all-made =
+              subst (λ (cs : List Clause). Appended w u noStore ((clausesOf 1 (one ∷ (parameterNodes bs (h .parameters) ++ Y .nodes))) ++ cs) w₃ u₃ all)
+              (λ j. lastClauses (arm-there .wires j .claim))
+              (appended-then (appended-then p (rest-made .store)) c)
+
+          size-is : _≡_ {A = Size} (record { clauses = all .clauses; words = all .words; variables = r .net .next - 1 }) (sizeOf X)
+          unfolding whole X Y
+          size-is =
+              let v : r .net .next - 1 ≡ length (whole bs t ds h a .nodes) = omega (arith, rest-made .next) in
+              λ j. record { clauses = (all-made .count ∙ zero-add _) j; words = (all-made .used ∙ zero-add _) j; variables = v j }
+
+        pub whole-made : WholeMade bs h t ds w u w₃ u₃ (record { clauses = all .clauses; words = all .words; variables = r .net .next - 1 })
+        unfolding X
+        whole-made = record { tells = λ a k d. (size-is a k d, all-made a k d .words, all-made a k d .starts) }

@@ -1,0 +1,143 @@
+-- The numbers of the accesses: an arm has those from the counts before it up to the counts after it. So a run over an arm whose numbers are all
+-- greater does not come to the named access. Assumes nothing.
+use mathlib.Core.Path.{_≡_, refl, sym, ap, subst, _∙_}
+use mathlib.Core.List.{List, [], _∷_, _++_}
+use mathlib.Core.Bool.{Bool, true, false, cond}
+use Prim.Native.Nat.{ℕ, _+_, _<_, _≤_}
+use native.Mathlib.Omega.{arith}
+use lib.Dec.{eqb}
+use borrow.Author.Tests.{ne-eqb}
+use Rattle.slices.specs.Bytes.{entry}
+use Rattle.bitvec.specs.declared.Whole.{Whole}
+use Rattle.routine.specs.Step.{accesses, after, oneIf}
+use Rattle.routine.specs.Routine.{Arm}
+use Rattle.routine.specs.Stands.{Stands}
+use Rattle.routine.specs.declared.Header.{Header}
+use Rattle.routine.specs.declared.Counts.{Counts}
+use Rattle.routine.specs.declared.Simple.{Simple}
+use Rattle.routine.proofs.Views.{induction}
+use Rattle.run.specs.State.{take, holds, carry}
+use Rattle.run.specs.Run as run
+use Rattle.run.specs.Run.{Event, took, came, unlessStopped, eventsAt, runArm}
+use Rattle.run.specs.declared.Outcome.{Outcome}
+use Rattle.run.specs.declared.Side.{Side}
+use Rattle.run.specs.declared.State.{State}
+use Rattle.translation.specs.Course.{Course, astray, passing, arrived, follows, course}
+use Rattle.translation.proofs.Stretches.{by-cond}
+
+-- ---- a course that goes on
+
+-- what comes after counts only where the run is passing
+abbrev pub thenCourse : Course → Course → Course
+thenCourse astray y = astray
+thenCourse passing y = y
+thenCourse (arrived array index) y = arrived array index
+
+course-cond : (b : Bool) (x y : Course) → cond b (thenCourse x y) astray ≡ thenCourse (cond b x astray) y
+course-cond true x y = refl
+course-cond false x y = refl
+
+course-here : (b : Bool) (array : ℕ) (index : Whole) (x y : Course) → cond b (arrived array index) (thenCourse x y) ≡ thenCourse (cond b (arrived array index) x) y
+course-here true array index x y = refl
+course-here false array index x y = refl
+
+pub course-append : (ds : List ℕ) (access : ℕ) (es fs : List Event) → course ds access (es ++ fs) ≡ thenCourse (course ds access es) (course ds access fs)
+unfolding course
+course-append ds access [] fs = refl
+course-append ds access (took number arm ∷ es) fs =
+    ap (λ (z : Course). cond (follows (entry ds number) arm) z astray) (course-append ds access es fs)
+    ∙ course-cond (follows (entry ds number) arm) (course ds access es) (course ds access fs)
+course-append ds access (came number array index ∷ es) fs =
+    ap (λ (z : Course). cond (eqb number access) (arrived array index) z) (course-append ds access es fs)
+    ∙ course-here (eqb number access) array index (course ds access es) (course ds access fs)
+
+-- the run has not come to the access
+abbrev pub Elsewhere : Course → Type 0
+Elsewhere astray = Unit {0}
+Elsewhere passing = Unit {0}
+Elsewhere (arrived array index) = ⊥
+
+pub elsewhere-then : (x y : Course) → Elsewhere x → Elsewhere y → Elsewhere (thenCourse x y)
+elsewhere-then astray y p q = tt
+elsewhere-then passing y p q = q
+elsewhere-then (arrived array index) y p q = p
+
+-- ---- a run that goes on
+
+-- it stopped, or it goes on
+pub run-then-by : (Q : run.Stretch → Type 0) (x : run.Stretch) (go : State → run.Stretch) → (x .state .outcome ≡ Outcome.Going → Q (run.after (x .events) (go (x .state))))
+    → ((access : ℕ) (index : Whole) (side : Side) → x .state .outcome ≡ Outcome.Stopped access index side → Q x) → Q (run.andThen x go)
+run-then-by Q x go p q = pick (x .state .outcome) refl
+  where
+    pick : (u : Outcome) → x .state .outcome ≡ u → Q (unlessStopped u (x .events) (x .state) go)
+    pick Outcome.Going e = p e
+    pick (Outcome.Stopped access index side) e = q access index side e
+
+-- ---- the numbers
+
+pub after-grows : (c : Simple) (k : Counts) → accesses k ≤ accesses (after c k)
+after-grows (Simple.Set d x) k = omega arith
+after-grows (Simple.Convert op d s) k = omega arith
+after-grows (Simple.Compute op d s t) k = omega arith
+after-grows (Simple.Read d a i) k = omega arith
+after-grows (Simple.Write a i s) k = omega arith
+
+pub accesses-grow : (bs : List ℕ) (h : Header) (a : Arm) (depth close at : ℕ) (k : Counts) (end : ℕ) (k₁ : Counts) → Stands bs h depth close at k a end k₁
+    → accesses k ≤ accesses k₁
+accesses-grow bs h =
+    induction bs h (λ depth close at k a end k₁. accesses k ≤ accesses k₁)
+    (λ depth close at k mark e l. omega arith)
+    (λ depth close at k c rest end k₁ v go. omega (arith, after-grows c k))
+    (λ depth close at k c first second rest end k₁ v go₁ go₂ go₃. omega arith)
+
+module _ (bs ins : List ℕ) (h : Header) (ds : List ℕ) (access : ℕ) where
+  -- the run over x does not come to the access
+  abbrev pub Misses : run.Stretch → Type 0
+  Misses x = Elsewhere (course ds access (x .events))
+
+  misses-then : (x : run.Stretch) (go : State → run.Stretch) → Misses x → Misses (go (x .state)) → Misses (run.andThen x go)
+  misses-then x go p q =
+      run-then-by Misses x go
+      (λ e. subst Elsewhere (sym (course-append ds access (x .events) (go (x .state) .events)))
+      (elsewhere-then (course ds access (x .events)) (course ds access (go (x .state) .events)) p q))
+      (λ a i s e. p)
+
+  misses-came : (number array : ℕ) (index : Whole) → access < number → Elsewhere (course ds access (came number array index ∷ []))
+  unfolding course
+  misses-came number array index l = rw (ne-eqb number access (λ e. omega arith)) tt
+
+  misses-simple : (c : Simple) (k : Counts) (s : State) → access < accesses k → Elsewhere (course ds access (eventsAt bs c k s))
+  unfolding course
+  misses-simple (Simple.Set d x) k s l = tt
+  misses-simple (Simple.Convert op d a) k s l = tt
+  misses-simple (Simple.Compute op d a b) k s l = tt
+  misses-simple (Simple.Read d array i) k s l = misses-came (accesses k) array _ l
+  misses-simple (Simple.Write array i a) k s l = misses-came (accesses k) array _ l
+
+  misses-took : (number arm : ℕ) (x : run.Stretch) → Misses x → Misses (run.after (took number arm ∷ []) x)
+  unfolding course
+  misses-took number arm x p =
+      by-cond Elsewhere (follows (entry ds number) arm) (course ds access (x .events)) astray (λ e. p) (λ e. tt)
+
+  -- an arm whose accesses all have greater numbers
+  pub misses : (a : Arm) (depth close at : ℕ) (k : Counts) (end : ℕ) (k₁ : Counts) → Stands bs h depth close at k a end k₁
+      → access < accesses k → (r : State) → Misses (runArm bs ins h a r)
+  unfolding runArm course
+  misses =
+      induction bs h (λ depth close at k a end k₁. access < accesses k → (r : State) → Misses (runArm bs ins h a r))
+      (λ depth close at k mark e l f r. tt)
+      (λ depth close at k c rest end k₁ v go f r.
+      misses-then (record { events = eventsAt bs c k r; state = carry bs ins h c k r }) (runArm bs ins h rest) (misses-simple c k r f)
+      (go (omega (arith, after-grows c k)) (carry bs ins h c k r)))
+      (λ depth close at k c first second rest end k₁ v go₁ go₂ go₃ f r.
+      let g₁ = accesses-grow bs h first (depth + 1) 12 (at + 4) (oneIf k) (v .else) (v .k₂) (v .stands-first) in
+      let g₂ = accesses-grow bs h second (depth + 1) 13 (v .else) (v .k₂) (v .next) (v .k₃) (v .stands-second) in
+      let x : run.Stretch =
+      cond (holds bs c r) (run.after (took (k .ifs) 0 ∷ []) (runArm bs ins h first (take r (k .ifs) 0)))
+      (run.after (took (k .ifs) 1 ∷ []) (runArm bs ins h second (take r (k .ifs) 1))) in
+      misses-then x (runArm bs ins h rest)
+      (by-cond Misses (holds bs c r) (run.after (took (k .ifs) 0 ∷ []) (runArm bs ins h first (take r (k .ifs) 0)))
+      (run.after (took (k .ifs) 1 ∷ []) (runArm bs ins h second (take r (k .ifs) 1)))
+      (λ e. misses-took (k .ifs) 0 (runArm bs ins h first (take r (k .ifs) 0)) (go₁ (omega arith) (take r (k .ifs) 0)))
+      (λ e. misses-took (k .ifs) 1 (runArm bs ins h second (take r (k .ifs) 1)) (go₂ (omega arith) (take r (k .ifs) 1))))
+      (go₃ (omega arith) (x .state)))

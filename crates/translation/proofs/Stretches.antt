@@ -1,0 +1,149 @@
+-- What holds of a stretch by how it is put together, and that the number of places of literals stays. Assumes nothing.
+use mathlib.Core.Path.{_≡_, refl, _∙_}
+use mathlib.Core.List.{List, _++_}
+use mathlib.Core.Bool.{Bool, true, false, cond}
+use Prim.Native.Nat.{ℕ, zero, suc, _+_}
+use native.Mathlib.Omega.{arith}
+use lib.ListN.{length}
+use lib.Dec.{eqb}
+use Rattle.slices.specs.Bytes.{entry}
+use Rattle.routine.specs.Header.{width, arraySize}
+use Rattle.routine.specs.Step.{accesses}
+use Rattle.routine.specs.Routine.{Arm, done, plain, fork}
+use Rattle.routine.specs.declared.Header.{Header}
+use Rattle.routine.specs.declared.Condition.{Condition}
+use Rattle.routine.specs.declared.Counts.{Counts}
+use Rattle.routine.specs.declared.Simple.{Simple}
+use Rattle.netlist.specs.Node.{Node}
+use Rattle.circuits.specs.Extend.{constBit}
+use Rattle.circuits.specs.Input.{inBit}
+use Rattle.translation.specs.Wires.{bitsOf, arriving, claiming}
+use Rattle.translation.specs.Command.{Stretch, after, still, accessNodes, accessArrival, claimNodes, claimLit, access, simple, convertBits, computeBits, readInto}
+use Rattle.translation.specs.Walk.{isMade, andThen, joinLits, joined, forked, armOf, conditionNodes, conditionLit, branchNodes, firstLit, elseLit}
+use Rattle.translation.specs.declared.Target.{Target}
+use Rattle.translation.specs.declared.Wires.{Wires}
+use Rattle.translation.proofs.Places.{put-length}
+
+-- ---- by cases
+
+-- a test has one answer
+pub not-both : {A : Type 0} (b : Bool) → b ≡ true → b ≡ false → A
+not-both b e f = let z : _≡_ {A = ℕ} 0 1 = cc in absurd (omega arith)
+
+pub by-cond : {A : Type 0} (Q : A → Type 0) (b : Bool) (x y : A) → (b ≡ true → Q x) → (b ≡ false → Q y) → Q (cond b x y)
+by-cond Q true x y p q = p refl
+by-cond Q false x y p q = q refl
+
+module _ (Q : Stretch → Type 0) where
+  -- a stretch and what goes on after it
+  pub then-by : (g : ℕ) (x : Stretch) (go : ℕ → Wires → Stretch) → (isMade (x .wires .claim) ≡ true → Q x)
+      → (isMade (x .wires .claim) ≡ false → Q (after (x .nodes) (go (g + length (x .nodes)) (x .wires)))) → Q (andThen g x go)
+  then-by g x go = by-cond Q (isMade (x .wires .claim)) x (after (x .nodes) (go (g + length (x .nodes)) (x .wires)))
+
+  module _ (bs : List ℕ) (h : Header) (t : Target) (g array i : ℕ) (k : Counts) (s : Wires) (go : ℕ → Wires → Stretch) where
+    -- the named access, and another one
+    pub access-by : (eqb (accesses k) (t .access) ≡ true
+        → Q (record {
+          nodes = claimNodes (t .side) g (bitsOf bs s i) (arraySize bs h array) (width bs i);
+          wires = claiming s (claimLit (t .side) g (bitsOf bs s i) (arraySize bs h array) (width bs i));
+        }))
+        → (eqb (accesses k) (t .access) ≡ false
+        → Q (after (accessNodes g (bitsOf bs s i) (arraySize bs h array) (width bs i) (s .arrival))
+        (go (g + length (accessNodes g (bitsOf bs s i) (arraySize bs h array) (width bs i) (s .arrival)))
+        (arriving s (accessArrival g (bitsOf bs s i) (arraySize bs h array) (width bs i))))))
+        → Q (access bs h t g array i k s go)
+    access-by = by-cond Q (eqb (accesses k) (t .access)) _ _
+
+-- ---- the parts of an if
+
+module _ (bs : List ℕ) (h : Header) (d g : ℕ) (c : Condition) (s : Wires) (first second : ℕ → Wires → Stretch) where
+  -- the gates before the arms
+  abbrev pub frontOf : List Node
+  frontOf = conditionNodes bs g c s ++ branchNodes d (s .arrival) (conditionLit bs g c)
+
+  abbrev pub afterCondition : ℕ
+  afterCondition = g + length (conditionNodes bs g c s)
+
+  abbrev pub firstFrom : ℕ
+  firstFrom = afterCondition + length (branchNodes d (s .arrival) (conditionLit bs g c))
+
+  -- the wires before the first arm, and its stretch
+  abbrev pub firstWires : Wires
+  firstWires = arriving s (firstLit d afterCondition)
+
+  abbrev pub firstOf : Stretch
+  firstOf = first firstFrom firstWires
+
+  abbrev pub secondFrom : ℕ
+  secondFrom = firstFrom + length (firstOf .nodes)
+
+  -- the wires before the else, and its stretch
+  abbrev pub secondWires : Wires
+  secondWires = arriving s (elseLit d afterCondition (s .arrival) (conditionLit bs g c))
+
+  abbrev pub secondOf : Stretch
+  secondOf = second secondFrom secondWires
+
+  abbrev pub joinFrom : ℕ
+  joinFrom = secondFrom + length (secondOf .nodes)
+
+  abbrev pub joinOf : Stretch
+  joinOf = joined bs h joinFrom (conditionLit bs g c) (firstOf .wires) (secondOf .wires)
+
+  -- the claim was made in the first arm, or in the else, or in neither
+  pub fork-by : (Q : Stretch → Type 0) → (isMade (firstOf .wires .claim) ≡ true → Q (after frontOf firstOf))
+      → (isMade (firstOf .wires .claim) ≡ false → isMade (secondOf .wires .claim) ≡ true → Q (after frontOf (after (firstOf .nodes) secondOf)))
+      → (isMade (firstOf .wires .claim) ≡ false → isMade (secondOf .wires .claim) ≡ false
+      → Q (after frontOf (after (firstOf .nodes) (after (secondOf .nodes) joinOf)))) → Q (forked bs h d g c s first second)
+  fork-by Q p q r =
+      by-cond (λ (x : Stretch). Q (after frontOf x)) (isMade (firstOf .wires .claim)) firstOf _ p
+      (λ e. by-cond (λ (x : Stretch). Q (after frontOf (after (firstOf .nodes) x))) (isMade (secondOf .wires .claim)) secondOf
+      (after (secondOf .nodes) joinOf) (q e) (r e))
+
+-- ---- the number of places
+
+joins-length : (bs : List ℕ) (g c : ℕ) (x y : List ℕ) (n : ℕ) → length (joinLits bs g c x y n) ≡ length x
+unfolding joinLits
+joins-length bs g c x y zero = refl
+joins-length bs g c x y (suc v) = put-length bs (joinLits bs g c x y v) v _ ∙ joins-length bs g c x y v
+
+abbrev Keeps : Wires → Stretch → Type 0
+Keeps s x = length (x .wires .lits) ≡ length (s .lits)
+
+joined-length : (bs : List ℕ) (h : Header) (g c : ℕ) (x y : Wires) → Keeps x (joined bs h g c x y)
+unfolding joined
+joined-length bs h g c x y = joins-length bs g c (x .lits) (y .lits) (h .variables)
+
+module _ (bs : List ℕ) (h : Header) (t : Target) (ds : List ℕ) where
+  pub simple-length : (g : ℕ) (c : Simple) (k : Counts) (s : Wires) → length (simple bs h t g c k s .wires .lits) ≡ length (s .lits)
+  unfolding simple
+  simple-length g (Simple.Set d c) k s = put-length bs (s .lits) d (constBit c)
+  simple-length g (Simple.Convert op d a) k s = put-length bs (s .lits) d (convertBits op (width bs a) (bitsOf bs s a))
+  simple-length g (Simple.Compute op d a b) k s = put-length bs (s .lits) d (computeBits op g (width bs d))
+  simple-length g (Simple.Read d array i) k s =
+      access-by (Keeps s) bs h t g array i k s (readInto bs h d k) (λ e. refl)
+      (λ e. put-length bs (s .lits) d (inBit (g + length (accessNodes g (bitsOf bs s i) (arraySize bs h array) (width bs i) (s .arrival)))))
+  simple-length g (Simple.Write array i a) k s = access-by (Keeps s) bs h t g array i k s (λ g₁. still) (λ e. refl) (λ e. refl)
+
+  module _ (first second : ℕ → Wires → Stretch) (one : (g : ℕ) (s : Wires) → Keeps s (first g s)) (two : (g : ℕ) (s : Wires) → Keeps s (second g s)) where
+    fork-length : (d g : ℕ) (c : Condition) (s : Wires) → Keeps s (forked bs h d g c s first second)
+    fork-length d g c s =
+        let x = firstOf bs h d g c s first second in
+        let y = secondOf bs h d g c s first second in
+        let l : Keeps s x = one (firstFrom bs h d g c s first second) (firstWires bs h d g c s first second) in
+        fork-by bs h d g c s first second (Keeps s) (λ e. l)
+        (λ e e₁. two (secondFrom bs h d g c s first second) (secondWires bs h d g c s first second))
+        (λ e e₁. joined-length bs h (joinFrom bs h d g c s first second) (conditionLit bs g c) (x .wires) (y .wires) ∙ l)
+
+  -- an arm keeps the number of places
+  pub arm-length : (a : Arm) (g : ℕ) (s : Wires) → length (armOf bs h t ds a g s .wires .lits) ≡ length (s .lits)
+  unfolding armOf
+  arm-length done g s = refl
+  arm-length (plain at c k rest) g s =
+      let x = simple bs h t g c k s in
+      then-by (Keeps s) g x (armOf bs h t ds rest) (λ e. simple-length g c k s)
+      (λ e. arm-length rest (g + length (x .nodes)) (x .wires) ∙ simple-length g c k s)
+  arm-length (fork at c k first second rest) g s =
+      let x = forked bs h (entry ds (k .ifs)) g c s (armOf bs h t ds first) (armOf bs h t ds second) in
+      let l = fork-length (armOf bs h t ds first) (armOf bs h t ds second) (arm-length first) (arm-length second) (entry ds (k .ifs)) g c s in
+      then-by (Keeps s) g x (armOf bs h t ds rest) (λ e. l) (λ e. arm-length rest (g + length (x .nodes)) (x .wires) ∙ l)

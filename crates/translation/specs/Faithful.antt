@@ -1,0 +1,61 @@
+-- Demand 2: what the translation of an accepted claim says of every run.
+use Prim.Native.Nat.{ℕ, _+_}
+use mathlib.Core.Path.{_≡_}
+use mathlib.Core.Logic.{_↔_}
+use mathlib.Core.List.{List}
+use mathlib.Core.Bool.{true}
+use lib.ListN.{length}
+use Rattle.slices.specs.Bytes.{entry}
+use Rattle.bitvec.specs.declared.Whole.{Whole}
+use Rattle.routine.specs.Header.{arraySize}
+use Rattle.routine.specs.Routine.{Arm}
+use Rattle.routine.specs.declared.Header.{Header}
+use Rattle.routine.specs.declared.Counts.{Counts}
+use Rattle.run.specs.Inputs.{listed}
+use Rattle.run.specs.State.{lies}
+use Rattle.run.specs.Run.{runOf}
+use Rattle.run.specs.declared.Listed.{Listed}
+use Rattle.run.specs.declared.Lies.{Lies}
+use Rattle.circuits.specs.Input.{bitsOfWord}
+use Rattle.netlist.specs.Node.{clausesOf}
+use Rattle.netlist.specs.Meaning.{Assign, Inputs, lit, sat, Extends, Agree}
+use Rattle.translation.specs.Command.{Stretch}
+use Rattle.translation.specs.Translation.{whole}
+use Rattle.translation.specs.Course.{Course, arrived, course, sideOf}
+use Rattle.translation.specs.declared.Claim.{Claim}
+use Rattle.translation.specs.declared.Target.{Target}
+
+-- the bits of an input list: word n, bit j
+abbrev pub bitsOfList : List ℕ → Inputs
+bitsOfList ins n = bitsOfWord (entry ins n)
+
+-- the assignment extends the input list and satisfies the clauses before the last two
+pub record Solves (ins : List ℕ) (x : Stretch) (ρ : Assign) : Type 0 where
+  pub satisfies : sat ρ (clausesOf 1 (x .nodes)) ≡ true
+  pub extends : Extends (bitsOfList ins) ρ 1 (x .nodes)
+
+-- the course of the run of an input list
+abbrev pub courseOf : (bs : List ℕ) → Target → (ds : List ℕ) → Header → Arm → (ins : List ℕ) → Course
+courseOf bs t ds h a ins = course ds (t .access) (runOf bs ins h a .events)
+
+-- the run comes to the named access by the decisions
+pub record Arrives (x : Course) : Type 0 where
+  pub array : ℕ
+  pub index : Whole
+  pub there : x ≡ arrived array index
+
+-- For each accepted input list just one assignment, on the variables, extends it and satisfies the clauses before the last two. There the arrival literal
+-- is true exactly when the run comes to the named access by the decisions, and then the side literal exactly when the index lies on that side.
+pub record Faithful (bs : List ℕ) (t : Target) (ds : List ℕ) (h : Header) (a : Arm) (k : Counts) : Type 0 where
+  pub arrival : ℕ
+  pub side : ℕ
+  pub claims : whole bs t ds h a .wires .claim ≡ Claim.Made arrival side
+  pub solution : (ins : List ℕ) → listed bs ins h a k ≡ Listed.Accepted → Assign
+  pub solves : (ins : List ℕ) (e : listed bs ins h a k ≡ Listed.Accepted) → Solves ins (whole bs t ds h a) (solution ins e)
+  pub only : (ins : List ℕ) → listed bs ins h a k ≡ Listed.Accepted → (ρ σ : Assign) → Solves ins (whole bs t ds h a) ρ → Solves ins (whole bs t ds h a) σ
+      → Agree ρ σ (1 + length (whole bs t ds h a .nodes))
+  pub arrives : (ins : List ℕ) → listed bs ins h a k ≡ Listed.Accepted → (ρ : Assign) → Solves ins (whole bs t ds h a) ρ
+      → (lit ρ arrival ≡ true) ↔ Arrives (courseOf bs t ds h a ins)
+  pub lies : (ins : List ℕ) → listed bs ins h a k ≡ Listed.Accepted → (ρ : Assign) → Solves ins (whole bs t ds h a) ρ
+      → (array : ℕ) (index : Whole) → courseOf bs t ds h a ins ≡ arrived array index
+      → (lit ρ side ≡ true) ↔ (lies (arraySize bs h array) index ≡ Lies.Outside (sideOf (t .side)))

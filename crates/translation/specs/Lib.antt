@@ -1,0 +1,9 @@
+pub mod Refusal
+pub mod Wires
+pub mod Command
+pub mod Walk
+pub mod Translation
+pub mod Course
+pub mod Faithful
+pub mod Walker
+pub mod Answer

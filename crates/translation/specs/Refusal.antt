@@ -1,0 +1,24 @@
+-- The number and the place of each refusal of a translation, as the table of document 01 has them.
+use Prim.Native.Nat.{ℕ}
+use Rattle.routine.specs.Refusal as routine
+use Rattle.translation.specs.declared.Buffer.{Buffer}
+use Rattle.translation.specs.declared.Refusal.{Refusal}
+
+-- the number of a buffer
+abbrev pub bufferNumber : Buffer → ℕ
+bufferNumber Buffer.Words = 0
+bufferNumber Buffer.Starts = 1
+
+-- the number
+abbrev pub numberOf : Refusal → ℕ
+numberOf (Refusal.Routine refusal) = routine.numberOf refusal
+numberOf (Refusal.DecisionCount given) = 11
+numberOf (Refusal.Lead at) = 12
+numberOf (Refusal.TooSmall buffer) = 16
+
+-- the place
+abbrev pub placeOf : Refusal → ℕ
+placeOf (Refusal.Routine refusal) = routine.placeOf refusal
+placeOf (Refusal.DecisionCount given) = given
+placeOf (Refusal.Lead at) = at
+placeOf (Refusal.TooSmall buffer) = bufferNumber buffer

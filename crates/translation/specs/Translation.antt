@@ -1,0 +1,51 @@
+-- The translation of a routine, whole: its netlist, the claim, and the clauses.
+use Prim.Native.Nat.{ℕ, zero, suc, _+_}
+use mathlib.Core.List.{List, [], _∷_, _++_}
+use lib.ListN.{length, replicate}
+use Rattle.routine.specs.Header.{width}
+use Rattle.routine.specs.Routine.{Arm}
+use Rattle.routine.specs.declared.Header.{Header}
+use Rattle.clauses.specs.Clause.{Clause, flatten}
+use Rattle.netlist.specs.Literal.{opp}
+use Rattle.netlist.specs.Node.{Node, one, clausesOf}
+use Rattle.circuits.specs.Input.{inputs, inBit}
+use Rattle.translation.specs.Wires.{bitsPut}
+use Rattle.translation.specs.Command.{Stretch, after}
+use Rattle.translation.specs.Walk.{armOf}
+use Rattle.translation.specs.declared.Claim.{Claim}
+use Rattle.translation.specs.declared.Size.{Size}
+use Rattle.translation.specs.declared.Target.{Target}
+use Rattle.translation.specs.declared.Wires.{Wires}
+
+-- the bits of the first n parameters take the next variables
+unfoldable pub parameterNodes : List ℕ → (n : ℕ) → List Node
+parameterNodes bs zero = []
+parameterNodes bs (suc p) = parameterNodes bs p ++ inputs p (width bs p)
+
+-- their literals; the bits of other variables begin as 3
+unfoldable pub parameterLits : List ℕ → (n : ℕ) → List ℕ
+parameterLits bs zero = replicate 1024 3
+parameterLits bs (suc p) = bitsPut bs (parameterLits bs p) p (inBit (2 + length (parameterNodes bs p)))
+
+-- the beginning: arrival is 2, and there is no claim yet
+unfoldable pub start : List ℕ → (parameters : ℕ) → Wires
+start bs parameters = record { lits = parameterLits bs parameters; arrival = 2; claim = Claim.Open }
+
+-- variable 1 is true, then come the parameters' bits, then the commands
+unfoldable pub whole : List ℕ → Target → (ds : List ℕ) → Header → Arm → Stretch
+whole bs t ds h a =
+    after (one ∷ parameterNodes bs (h .parameters))
+    (armOf bs h t ds a (2 + length (parameterNodes bs (h .parameters))) (start bs (h .parameters)))
+
+-- the last two clauses: {arrival}, {-side literal}
+abbrev pub lastClauses : Claim → List Clause
+lastClauses Claim.Open = []
+lastClauses (Claim.Made arrival side) = (arrival ∷ []) ∷ (opp side ∷ []) ∷ []
+
+-- the clauses of a translation
+unfoldable pub clausesOfAll : Stretch → List Clause
+clausesOfAll x = clausesOf 1 (x .nodes) ++ lastClauses (x .wires .claim)
+
+-- the counts of clauses, words and variables
+abbrev pub sizeOf : Stretch → Size
+sizeOf x = record { clauses = length (clausesOfAll x); words = length (flatten (clausesOfAll x)); variables = length (x .nodes) }

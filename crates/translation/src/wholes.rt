@@ -1,0 +1,116 @@
+// The whole translation: counted over empty slices, and written where it fits.
+use crate::Buffer;
+use crate::Claim;
+use crate::Refusal;
+use crate::Size;
+use crate::Target;
+use crate::Translated;
+use crate::parameters::begin;
+use crate::walks::arm_made;
+use crate::walks::walk;
+use clauses::Store;
+use clauses::append1;
+use netlist::Net;
+use netlist::opposite;
+use routine::Counts;
+use routine::Header;
+use routine::headers::first_command;
+ghost use mathlib.Core.Path.{_≡_};
+ghost use Prim.Native.Nat.{min};
+ghost use Rattle.routine.specs.Decode.{IsRoutine};
+ghost use Rattle.clauses.specs.Clause.{Appended, Room};
+ghost use Rattle.translation.specs.Translation.{lastClauses};
+ghost use Rattle.translation.specs.Walker.{WholeMade};
+ghost use Rattle.translation.specs.Answer.{Fitted};
+
+// The last two clauses: {arrival}, {-side literal}.
+fn append_claim(words: &mut [u32], starts: &mut [u32], s: Store, claim: Claim) -> Store
+    requires { ⌜ Room s 2 ⌝ }
+    ensures { λ r. ⌜ Appended (now (words .entry)) (now (starts .entry)) s (lastClauses claim) (now (words .exit)) (now (starts .exit)) r ⌝ }
+{
+    match claim {
+        Claim::Open => s,
+        Claim::Made { arrival, side } => {
+            let other = opposite(side);
+            let s1 = append1(words, starts, s, arrival);
+            append1(words, starts, s1, other)
+        }
+    }
+}
+
+// Variable 1, the parameters, the commands as far as the named access, and the last two clauses.
+fn make(
+    words: &mut [u32],
+    starts: &mut [u32],
+    bytes: &[u8],
+    h: Header,
+    t: Target,
+    decisions: &[u8],
+) -> Size
+    requires { ⌜ IsRoutine (now bytes) h ⌝ }
+    ensures { λ r. ⌜ WholeMade (now (bytes .entry)) h t (now (decisions .entry)) (now (words .entry)) (now (starts .entry)) (now (words .exit)) (now (starts .exit)) r ⌝ }
+{
+    let none = Store {
+        words: 0,
+        clauses: 0,
+    };
+    let one = append1(words, starts, none, 2);
+    let n = Net {
+        store: one,
+        next: 2,
+    };
+    let m = begin(n, bytes, h);
+    let net = m.net;
+    let wires = m.wires;
+    let counts = Counts {
+        ifs: 0,
+        reads: 0,
+        writes: 0,
+    };
+    let start = walk(first_command(h), counts, net, wires);
+    let r = arm_made(words, starts, bytes, h, t, decisions, 0, 0x00, start);
+    let last = r.net;
+    let store = last.store;
+    let left = r.wires;
+    let claim = left.claim;
+    let all = append_claim(words, starts, store, claim);
+    Size {
+        clauses: all.clauses,
+        words: all.words,
+        variables: last.next - 1,
+    }
+}
+
+// Only the first 16,777,216 entries of a buffer are used.
+fn usable(len: usize) -> usize
+    ensures { λ r. ⌜ r ≡ min len 16777216 ⌝ }
+{
+    if len < 16777216 { len } else { 16777216 }
+}
+
+// 16: words, then starts. What is needed is counted first, so that a refusal leaves both as they were.
+pub fn fit(
+    routine: &[u8],
+    h: Header,
+    t: Target,
+    decisions: &[u8],
+    words: &mut [u32],
+    starts: &mut [u32],
+) -> Translated
+    requires { ⌜ IsRoutine (now routine) h ⌝ }
+    ensures { λ r. ⌜ Fitted (now (routine .entry)) h t (now (decisions .entry)) (now (words .entry)) (now (starts .entry)) (now (words .exit)) (now (starts .exit)) r ⌝ }
+{
+    let mut no_words = [0u32; 0];
+    let mut no_starts = [0u32; 0];
+    let w = usable(words.len());
+    let c = usable(starts.len());
+    let need = make(&mut no_words, &mut no_starts, routine, h, t, decisions);
+    if w < need.words as usize {
+        return Translated::Refused(Refusal::TooSmall(Buffer::Words));
+    }
+    if c < need.clauses as usize {
+        return Translated::Refused(Refusal::TooSmall(Buffer::Starts));
+    }
+    let made = make(&mut words[..w], &mut starts[..c], routine, h, t, decisions);
+    Translated::Made(made)
+}
