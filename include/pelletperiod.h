@@ -1,5 +1,5 @@
 /*
- * pelletperiod.h - checking and running loop-free pick routines.
+ * pelletperiod.h - checking, running and translating loop-free pick routines.
  *
  * Every buffer is lent for the time of the call as a pointer and a number of
  * entries. A pointer must not be null, also where the number of entries is 0,
@@ -26,11 +26,20 @@
  *           such byte
  *        9  number of words given     wrong number of inputs
  *       10  number of the input       input too great for its variable
- *       16  3 for `values`,           buffer too small
+ *       11  number of decisions       wrong number of decisions
+ *           given
+ *       12  0 for the access, 1 for   access, side or decision out of range
+ *           the side, 2 + k for the
+ *           decision of if k
+ *       16  0 for `words`,            buffer too small
+ *           1 for `starts`,
+ *           3 for `values`,
  *           4 for `trail`
  *
  * The refusals are looked for in this order, 3 to 7 command by command.
- * Entries of `answer` that are not named are left alone.
+ * Entries of `answer` that are not named are left alone. Only the first
+ * 16,777,216 entries of a buffer are used; needing more of them counts as a
+ * buffer that is too small.
  */
 #ifndef PELLETPERIOD_H
 #define PELLETPERIOD_H
@@ -91,6 +100,40 @@ uint8_t pellet_run(const uint8_t *routine, size_t routine_len,
                    uint32_t *values, size_t values_len,
                    uint8_t *trail, size_t trail_len,
                    uint64_t *answer, size_t answer_len);
+
+/*
+ * Translates a routine into clauses about the runs that come to one access by
+ * the given decisions with an index that is not on the given side; refuses
+ * with 1 to 8, 11, 12 and 16.
+ *
+ * `access` is the number of the access, in the order of the text; `side` is 0
+ * for below and 1 for above. `decisions` holds one byte for each if, in the
+ * order of the text: 0 for its first arm, 1 for its else, 2 where it is free.
+ *
+ * Variables are numbered from 1; variable 1 is true. Literal 2v is variable v,
+ * literal 2v + 1 its opposite.
+ *
+ * On 0 the answer holds:
+ *
+ *   answer[0]  number of clauses
+ *   answer[1]  number of words that the clauses take
+ *   answer[2]  number of variables
+ *
+ * The first answer[1] entries of `words` hold the clauses one behind the
+ * other, each as the count of its literals and then the literals; the first
+ * answer[0] entries of `starts` hold the offset of each clause's count. The
+ * last two clauses have one literal each: that the run arrives, and that the
+ * index is not on the side. What lies beyond is left alone. A refusal leaves
+ * `words` and `starts` alone altogether.
+ *
+ * `routine` and `decisions` are only read.
+ */
+uint8_t pellet_translate(const uint8_t *routine, size_t routine_len,
+                         uint8_t access, uint8_t side,
+                         const uint8_t *decisions, size_t decisions_len,
+                         uint32_t *words, size_t words_len,
+                         uint32_t *starts, size_t starts_len,
+                         uint64_t *answer, size_t answer_len);
 
 #ifdef __cplusplus
 }

@@ -1,4 +1,4 @@
--- The reply of a run, from what the run and the filling of the answer said. Assumes nothing.
+-- The reply of a run or a translation, from what it and the filling of the answer said. Assumes nothing.
 use mathlib.Core.Path.{_≡_, ap, _∙_}
 use mathlib.Core.List.{List}
 use mathlib.Core.Bool.{false}
@@ -7,7 +7,9 @@ use lib.ListN.{length}
 use lib.Dec.{ltb}
 use Rattle.run.specs.Answer.{Answer, Answers}
 use Rattle.run.specs.declared.Ran.{Ran}
-use Rattle.capi.specs.Reply.{Reply, Fills, runFills, RunReply, runGives, runReply, RunsReply}
+use Rattle.translation.specs.Answer as translated
+use Rattle.translation.specs.declared.Translated.{Translated}
+use Rattle.capi.specs.Reply.{Reply, Fills, runFills, RunReply, runGives, runReply, RunsReply, translateFills, TranslateReply, translateGives, translateReply, TranslatesReply}
 
 abbrev put : ℕ → (values trail ans : List ℕ) → RunReply
 put code values trail ans = record { code = code; values = values; trail = trail; answer = ans }
@@ -19,4 +21,17 @@ replies bs ins values trail ans values₁ trail₁ ans₁ r {ran} f x e = record
   equal =
       ap (λ (y : Reply). put (y .code) values₁ trail₁ (y .answer)) (f .equal)
       ∙ rw e (ap (λ (y : Answer). runGives y ans) (x .equal));
+}
+
+abbrev putTranslated : ℕ → (words starts ans : List ℕ) → TranslateReply
+putTranslated code words starts ans = record { code = code; words = words; starts = starts; answer = ans }
+
+pub translate-replies : (bs : List ℕ) (access side : ℕ) (ds words starts ans words₁ starts₁ ans₁ : List ℕ) (r : ℕ) {t : Translated}
+    → Fills (translateFills t ans) ans₁ r → translated.Answers bs (translated.targetOf access side) ds words starts words₁ starts₁ t
+    → ltb (length ans) 8 ≡ false → TranslatesReply bs access side ds words starts ans words₁ starts₁ ans₁ r
+unfolding translateReply
+translate-replies bs access side ds words starts ans words₁ starts₁ ans₁ r {t} f x e = record {
+  equal =
+      ap (λ (y : Reply). putTranslated (y .code) words₁ starts₁ (y .answer)) (f .equal)
+      ∙ rw e (ap (λ (y : translated.Answer). translateGives y ans) (x .equal));
 }

@@ -18,6 +18,10 @@ use Rattle.run.specs.Refusal as run
 use Rattle.run.specs.declared.Side.{Side}
 use Rattle.run.specs.declared.Side.the-variants.{Below, Above}
 use Rattle.run.specs.declared.Ran.{Ran}
+use Rattle.translation.specs.Answer as translated
+use Rattle.translation.specs.Refusal as translation
+use Rattle.translation.specs.declared.Size.{Size}
+use Rattle.translation.specs.declared.Translated.{Translated}
 
 -- 0 below, 1 above
 abbrev pub sideNumber : Side → ℕ
@@ -52,6 +56,10 @@ countsOf h k = h .variables ∷ h .parameters ∷ h .arrays ∷ k .ifs ∷ acces
 abbrev pub stoppedOf : (access : ℕ) → Whole → Side → List ℕ
 stoppedOf access index side = 1 ∷ access ∷ sideNumber side ∷ isNegative index ∷ magnitude index ∷ []
 
+-- clauses, words, variables
+abbrev pub sizesOf : Size → List ℕ
+sizesOf size = size .clauses ∷ size .words ∷ size .variables ∷ []
+
 -- what checking a routine gives
 abbrev pub checkFills : Checked → List ℕ → Reply
 checkFills (Checked.Accepted h k) ans = record { code = 0; answer = filled ans 0 (countsOf h k) }
@@ -62,6 +70,11 @@ abbrev pub runFills : Ran → List ℕ → Reply
 runFills Ran.Ended ans = record { code = 0; answer = set ans 0 0 }
 runFills (Ran.Stopped access index side) ans = record { code = 0; answer = filled ans 0 (stoppedOf access index side) }
 runFills (Ran.Refused refusal) ans = record { code = run.numberOf refusal; answer = set ans 0 (run.placeOf refusal) }
+
+-- what a translation gives
+abbrev pub translateFills : Translated → List ℕ → Reply
+translateFills (Translated.Made size) ans = record { code = 0; answer = filled ans 0 (sizesOf size) }
+translateFills (Translated.Refused refusal) ans = record { code = translation.numberOf refusal; answer = set ans 0 (translation.placeOf refusal) }
 
 -- the reply is the number r, and the answer became ans₁
 pub record Fills (reply : Reply) (ans₁ : List ℕ) (r : ℕ) : Type 0 where
@@ -95,3 +108,30 @@ runReply bs ins values trail ans =
 
 pub record RunsReply (bs ins values trail ans values₁ trail₁ ans₁ : List ℕ) (r : ℕ) : Type 0 where
   pub equal : _≡_ {A = RunReply} (record { code = r; values = values₁; trail = trail₁; answer = ans₁ }) (runReply bs ins values trail ans)
+
+-- the number returned, and all three buffers
+pub record TranslateReply : Type 0 where
+  pub code : ℕ
+  pub words : List ℕ
+  pub starts : List ℕ
+  pub answer : List ℕ
+
+-- what a translation's answer gives
+abbrev pub translateGives : translated.Answer → List ℕ → TranslateReply
+translateGives x ans =
+    record {
+      code = translateFills (x .translated) ans .code;
+      words = x .words;
+      starts = x .starts;
+      answer = translateFills (x .translated) ans .answer;
+    }
+
+-- what `pellet_translate` replies
+unfoldable pub translateReply : (bs : List ℕ) → (access side : ℕ) → (ds words starts ans : List ℕ) → TranslateReply
+translateReply bs access side ds words starts ans =
+    cond (ltb (length ans) 8)
+    (record { code = 255; words = words; starts = starts; answer = ans })
+    (translateGives (translated.answer bs (translated.targetOf access side) ds words starts) ans)
+
+pub record TranslatesReply (bs : List ℕ) (access side : ℕ) (ds words starts ans words₁ starts₁ ans₁ : List ℕ) (r : ℕ) : Type 0 where
+  pub equal : _≡_ {A = TranslateReply} (record { code = r; words = words₁; starts = starts₁; answer = ans₁ }) (translateReply bs access side ds words starts ans)

@@ -7,10 +7,12 @@ use routine::headers::first_command;
 use routine::steps::accesses_of;
 use run::Ran;
 use run::Side;
+use translation::Size;
+use translation::Translated;
 ghost use mathlib.Core.Path.{_≡_};
 ghost use Prim.Native.Nat.{_≤_};
 ghost use lib.ListN.{length, set};
-ghost use Rattle.capi.specs.Reply.{sideNumber, isNegative, magnitude, countsOf, stoppedOf, filled, checkFills, runFills, Fills};
+ghost use Rattle.capi.specs.Reply.{sideNumber, isNegative, magnitude, countsOf, stoppedOf, sizesOf, filled, checkFills, runFills, translateFills, Fills};
 
 fn wide8(x: u8) -> u64
     ensures { λ r. ⌜ r ≡ x ⌝ }
@@ -91,6 +93,16 @@ fn fill_stop(access: u32, index: Whole, side: Side, answer: &mut [u64])
     answer[4] = magnitude_of(index);
 }
 
+// The counts of a translation.
+fn fill_size(size: Size, answer: &mut [u64])
+    requires { ⌜ 8 ≤ length (now answer) ⌝ }
+    ensures { λ r. ⌜ now (answer .exit) ≡ filled (now (answer .entry)) 0 (sizesOf size) ⌝ }
+{
+    answer[0] = wide32(size.clauses);
+    answer[1] = wide32(size.words);
+    answer[2] = wide32(size.variables);
+}
+
 // What checking a routine answered.
 pub fn fill_check(checked: Checked, answer: &mut [u64]) -> u8
     requires { ⌜ 8 ≤ length (now answer) ⌝ }
@@ -129,6 +141,23 @@ pub fn fill_run(ran: Ran, answer: &mut [u64]) -> u8
         Ran::Refused(refusal) => {
             fill_place(run::refusals::place_of(refusal), answer);
             run::refusals::number_of(refusal)
+        }
+    }
+}
+
+// What a translation answered.
+pub fn fill_translate(translated: Translated, answer: &mut [u64]) -> u8
+    requires { ⌜ 8 ≤ length (now answer) ⌝ }
+    ensures { λ r. ⌜ Fills (translateFills translated (now (answer .entry))) (now (answer .exit)) r ⌝ }
+{
+    match translated {
+        Translated::Made(size) => {
+            fill_size(size, answer);
+            0
+        }
+        Translated::Refused(refusal) => {
+            fill_place(translation::refusals::place_of(refusal), answer);
+            translation::refusals::number_of(refusal)
         }
     }
 }

@@ -3,7 +3,8 @@ mod filling;
 
 use filling::fill_check;
 use filling::fill_run;
-ghost use Rattle.capi.specs.Reply.{ChecksReply, RunsReply};
+use filling::fill_translate;
+ghost use Rattle.capi.specs.Reply.{ChecksReply, RunsReply, TranslatesReply};
 
 // Checks a routine.
 #[no_mangle]
@@ -31,4 +32,26 @@ pub extern "C" fn pellet_run(
         return 255;
     }
     fill_run(run::run(routine, inputs, values, trail), answer)
+}
+
+// Translates a claim on a routine into clauses.
+#[no_mangle]
+pub extern "C" fn pellet_translate(
+    routine: &[u8],
+    access: u8,
+    side: u8,
+    decisions: &[u8],
+    words: &mut [u32],
+    starts: &mut [u32],
+    answer: &mut [u64],
+) -> u8
+    ensures { λ r. ⌜ TranslatesReply (now (routine .entry)) access side (now (decisions .entry)) (now (words .entry)) (now (starts .entry)) (now (answer .entry)) (now (words .exit)) (now (starts .exit)) (now (answer .exit)) r ⌝ }
+{
+    if answer.len() < 8 {
+        return 255;
+    }
+    fill_translate(
+        translation::translate(routine, access, side, decisions, words, starts),
+        answer,
+    )
 }
