@@ -146,7 +146,7 @@ fn make_too_great(rng: &mut Rng, widths: &[u32], inputs: &mut [u32]) {
 }
 
 /// The length of a buffer: just enough, more, or too little.
-fn draw_len(rng: &mut Rng, needed: usize) -> usize {
+pub(crate) fn draw_len(rng: &mut Rng, needed: usize) -> usize {
     match rng.below(20) {
         0 => 0,
         1 => needed.saturating_sub(1),
@@ -156,7 +156,7 @@ fn draw_len(rng: &mut Rng, needed: usize) -> usize {
     }
 }
 
-fn draw_answer_len(rng: &mut Rng) -> usize {
+pub(crate) fn draw_answer_len(rng: &mut Rng) -> usize {
     match rng.below(25) {
         0 => rng.below(ANSWER_LEN),
         1..=9 => ANSWER_LEN + rng.within(1, 4),

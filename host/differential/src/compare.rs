@@ -17,7 +17,7 @@ pub enum Verdict<T> {
 }
 
 impl<T> Verdict<T> {
-    fn new(answer: &Lent<u64>, result: impl FnOnce() -> Result<T, Refusal>) -> Self {
+    pub(crate) fn new(answer: &Lent<u64>, result: impl FnOnce() -> Result<T, Refusal>) -> Self {
         if answer.len() < ANSWER_LEN {
             return Verdict::AnswerTooShort;
         }
@@ -28,7 +28,7 @@ impl<T> Verdict<T> {
     }
 
     /// What the C function returns.
-    fn status(&self) -> u8 {
+    pub(crate) fn status(&self) -> u8 {
         match self {
             Verdict::Done(_) => 0,
             Verdict::Refused(refusal) => refusal.number,
@@ -38,6 +38,7 @@ impl<T> Verdict<T> {
 }
 
 /// What both calls of a case come to.
+#[derive(Debug)]
 pub struct Verdicts {
     pub check: Verdict<Counts>,
     pub run: Verdict<Run>,
@@ -145,10 +146,10 @@ fn run_answer(verdict: &Verdict<Run>) -> Vec<u64> {
 }
 
 /// The differences found in one call.
-struct Differences(Vec<String>);
+pub(crate) struct Differences(Vec<String>);
 
 impl Differences {
-    fn new(expected: u8, got: u8) -> Self {
+    pub fn new(expected: u8, got: u8) -> Self {
         let mut differences = Vec::new();
         if expected != got {
             differences.push(format!("returned: expected {expected}, got {got}"));
@@ -156,13 +157,23 @@ impl Differences {
         Differences(differences)
     }
 
-    fn note<T: Noise>(&mut self, name: &str, expected: &Lent<T>, got: &Lent<T>) {
+    pub fn note<T: Noise>(&mut self, name: &str, expected: &Lent<T>, got: &Lent<T>) {
         let found = expected.differences(got);
         self.0
             .extend(found.iter().map(|found| format!("{name}: {found}")));
     }
 
-    fn finish<T: Debug>(self, call: &str, case: &Case, verdict: &Verdict<T>) -> Result<(), String> {
+    pub fn add(&mut self, difference: Option<String>) {
+        self.0.extend(difference);
+    }
+
+    /// Nothing, or a report of the call, its case and all differences.
+    pub fn finish<T: Debug>(
+        self,
+        call: &str,
+        case: &impl fmt::Display,
+        verdict: &Verdict<T>,
+    ) -> Result<(), String> {
         if self.0.is_empty() {
             return Ok(());
         }
@@ -189,7 +200,7 @@ impl fmt::Display for Case {
     }
 }
 
-fn hex(bytes: &[u8]) -> String {
+pub(crate) fn hex(bytes: &[u8]) -> String {
     let mut text = String::new();
     for byte in bytes {
         write!(text, "{byte:02X} ").expect("writing to a string");

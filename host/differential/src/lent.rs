@@ -3,6 +3,8 @@
 use crate::rng::{Noise, Rng};
 
 const MAX_GUARD: usize = 8;
+/// The most differences that are named; a buffer can have millions.
+const MAX_NAMED: usize = 20;
 
 #[derive(Clone)]
 pub struct Lent<T> {
@@ -53,8 +55,8 @@ impl<T: Noise> Lent<T> {
         self.slice_mut()[..first.len()].copy_from_slice(first);
     }
 
-    /// Names the entries, guards included, in which `got` differs. Entry 0 is
-    /// the first one lent.
+    /// Names the first entries, guards included, in which `got` differs. Entry 0
+    /// is the first one lent.
     pub fn differences(&self, got: &Lent<T>) -> Vec<String> {
         assert_eq!(
             self.whole.len(),
@@ -64,6 +66,7 @@ impl<T: Noise> Lent<T> {
         let pairs = self.whole.iter().zip(&got.whole).enumerate();
         pairs
             .filter(|(_, (expected, got))| expected != got)
+            .take(MAX_NAMED)
             .map(|(k, (expected, got))| {
                 let entry = k as i64 - self.from as i64;
                 format!("entry {entry}: expected {expected:?}, got {got:?}")

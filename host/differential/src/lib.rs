@@ -5,16 +5,27 @@
 //! returned number and every entry of every buffer, lent or not, with what the
 //! oracle says. [`tally::Tally`] counts what the cases came to, so that a
 //! generator that has lost sight of some shape or refusal fails the test.
+//!
+//! The same for translations: [`translation_case::TranslationCase`] with
+//! [`translation_compare::compare_translation`], clause by clause, and
+//! [`translation_tally::TranslationTally`].
 
 #![forbid(unsafe_code)]
 
 pub mod case;
 pub mod compare;
+pub mod counter;
 pub mod damage;
 pub mod draft;
 pub mod fault;
 pub mod lent;
+pub mod limit;
+pub mod narrow;
 pub mod plan;
 pub mod rng;
+pub mod seeded;
 pub mod survey;
 pub mod tally;
+pub mod translation_case;
+pub mod translation_compare;
+pub mod translation_tally;

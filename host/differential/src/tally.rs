@@ -3,11 +3,11 @@
 
 use crate::case::Case;
 use crate::compare::{Verdict, Verdicts};
+use crate::counter::Counter;
 use crate::survey::{AccessSite, IfSite, Survey};
 use oracle::refusal::{BUFFER, COMMAND, TRAIL_BUFFER, VALUES_BUFFER};
 use oracle::{Arm, Counts, Outcome, Refusal, Routine, Run, Side};
 use pellet::ANSWER_LEN;
-use std::collections::BTreeMap;
 use std::fmt;
 
 /// Something a case can come to.
@@ -215,15 +215,21 @@ fn goals() -> Vec<(Event, u64)> {
     goals
 }
 
-#[derive(Default)]
-pub struct Tally {
-    cases: u64,
-    counts: BTreeMap<Event, u64>,
+pub struct Tally(Counter<Event>);
+
+impl Default for Tally {
+    fn default() -> Self {
+        Tally(Counter::new(goals()))
+    }
 }
 
 impl Tally {
+    pub fn counter(&self) -> &Counter<Event> {
+        &self.0
+    }
+
     pub fn add(&mut self, case: &Case, verdicts: &Verdicts) {
-        self.cases += 1;
+        self.0.begin_case();
         match &verdicts.check {
             Verdict::Done(_) => self.hit(Event::Accepted),
             Verdict::Refused(refusal) => self.check_refused(case, refusal),
@@ -239,7 +245,7 @@ impl Tally {
     }
 
     fn hit(&mut self, event: Event) {
-        *self.counts.entry(event).or_default() += 1;
+        self.0.hit(event);
     }
 
     fn check_refused(&mut self, case: &Case, refusal: &Refusal) {
@@ -305,28 +311,5 @@ impl Tally {
                 Arm::NotComeTo => {}
             }
         }
-    }
-
-    /// The events that came up less often than they must.
-    pub fn missed(&self) -> Vec<String> {
-        goals()
-            .into_iter()
-            .filter(|(event, least)| self.count(event) < *least)
-            .map(|(event, least)| format!("{event}: {}, not {least}", self.count(&event)))
-            .collect()
-    }
-
-    fn count(&self, event: &Event) -> u64 {
-        self.counts.get(event).copied().unwrap_or(0)
-    }
-}
-
-impl fmt::Display for Tally {
-    fn fmt(&self, f: &mut fmt::Formatter<'_>) -> fmt::Result {
-        writeln!(f, "{:>9}  cases", self.cases)?;
-        for (event, _) in goals() {
-            writeln!(f, "{:>9}  {event}", self.count(&event))?;
-        }
-        Ok(())
     }
 }

@@ -1,6 +1,7 @@
-//! An evaluator of loop-free pick routines, written from the scope document
-//! (sections "The routine", "The run" and "What is turned down") and sharing
-//! nothing with the library that is compared with it.
+//! An evaluator of loop-free pick routines and a translator of them, written
+//! from the scope document (sections "The routine", "The run", "The
+//! translation" and "What is turned down") and sharing nothing with the library
+//! that is compared with it.
 //!
 //! It favours the reading over the speed: a routine is parsed into a tree, the
 //! tree is walked, values are reduced by a remainder in 64 bits, and an index
@@ -9,10 +10,19 @@
 #![forbid(unsafe_code)]
 
 pub mod arithmetic;
+mod circuits;
+pub mod clauses;
+pub mod exhaustive;
+mod netlist;
+mod parser;
+pub mod propagation;
 pub mod refusal;
 pub mod routine;
 pub mod run;
+pub mod translation;
 
+pub use clauses::{Clauses, Discard, Literal, Sink};
 pub use refusal::Refusal;
 pub use routine::{check, parse, Branch, Command, Counts, Routine};
-pub use run::{run, Arm, Outcome, Run, Side};
+pub use run::{run, Arm, Event, Outcome, Run, Side};
+pub use translation::{measure, translate, Translation, MAX_ENTRIES};

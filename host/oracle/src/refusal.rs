@@ -1,4 +1,4 @@
-//! The numbers under which a routine or a run is turned down.
+//! The numbers under which a routine, a run or a translation is turned down.
 
 /// A refusal: its number and its place. What the place says goes with the
 /// number: an offset, a length, an input number or a buffer number.
@@ -34,9 +34,18 @@ pub const TRAILING: u8 = 8;
 pub const INPUT_COUNT: u8 = 9;
 /// An input too great for its variable; the place is the input's number.
 pub const INPUT_RANGE: u8 = 10;
+/// Wrong number of decisions; the place is the number given.
+pub const DECISION_COUNT: u8 = 11;
+/// Access, side or decision out of range; the place is 0 for the access, 1 for
+/// the side, 2 and the if's number for a decision.
+pub const LEAD_RANGE: u8 = 12;
 /// A buffer too small; the place is the buffer's number.
 pub const BUFFER: u8 = 16;
 
+/// The number of the words buffer in a refusal 16.
+pub const WORDS_BUFFER: usize = 0;
+/// The number of the starts buffer in a refusal 16.
+pub const STARTS_BUFFER: usize = 1;
 /// The number of the values buffer in a refusal 16.
 pub const VALUES_BUFFER: usize = 3;
 /// The number of the trail buffer in a refusal 16.

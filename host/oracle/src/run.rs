@@ -42,13 +42,24 @@ impl Arm {
     }
 }
 
+/// Something a run comes to.
+#[derive(Clone, Copy, Debug, PartialEq, Eq)]
+pub enum Event {
+    /// The if of this number, and the arm taken there.
+    If { number: usize, arm: Arm },
+    /// The access of this number, whether the run stops there or not.
+    Access { number: usize },
+}
+
 /// A finished run: the values of all variables and the trail, both as they
-/// were when the run ended or stopped.
+/// were when the run ended or stopped, and the ifs and accesses that it came
+/// to, in their order.
 #[derive(Clone, Debug, PartialEq, Eq)]
 pub struct Run {
     pub outcome: Outcome,
     pub values: Vec<u32>,
     pub trail: Vec<Arm>,
+    pub events: Vec<Event>,
 }
 
 /// Runs a routine: 1 to 8, then 9, 10 and 16, then the commands. The lengths
@@ -93,7 +104,7 @@ fn check_buffers(routine: &Routine, values_len: usize, trail_len: usize) -> Resu
     Ok(())
 }
 
-fn carry_out(routine: &Routine, inputs: &[u32]) -> Run {
+pub(crate) fn carry_out(routine: &Routine, inputs: &[u32]) -> Run {
     let (parameters, words) = inputs.split_at(routine.header.parameters);
     let mut values = parameters.to_vec();
     values.resize(routine.header.widths.len(), 0);
@@ -102,6 +113,7 @@ fn carry_out(routine: &Routine, inputs: &[u32]) -> Run {
         words,
         values,
         trail: vec![Arm::NotComeTo; routine.ifs],
+        events: Vec::new(),
     };
     let outcome = match machine.walk(&routine.commands) {
         ControlFlow::Continue(()) => Outcome::Ended,
@@ -111,6 +123,7 @@ fn carry_out(routine: &Routine, inputs: &[u32]) -> Run {
         outcome,
         values: machine.values,
         trail: machine.trail,
+        events: machine.events,
     }
 }
 
@@ -120,6 +133,7 @@ struct Machine<'a> {
     words: &'a [u32],
     values: Vec<u32>,
     trail: Vec<Arm>,
+    events: Vec<Event>,
 }
 
 impl Machine<'_> {
@@ -170,13 +184,18 @@ impl Machine<'_> {
             (Arm::Else, &branch.other)
         };
         self.trail[branch.number] = arm;
+        self.events.push(Event::If {
+            number: branch.number,
+            arm,
+        });
         self.walk(commands)
     }
 
     /// The index is read as a two's complement number of its variable's width
     /// and compared with the size as a whole number; outside stops the run.
-    fn access(&self, access: usize, array: usize, i: usize) -> ControlFlow<Outcome> {
+    fn access(&mut self, access: usize, array: usize, i: usize) -> ControlFlow<Outcome> {
         let index = signed(self.values[i], self.width(i));
+        self.events.push(Event::Access { number: access });
         let side = if index < 0 {
             Side::Below
         } else if index >= i64::from(self.routine.header.sizes[array]) {

@@ -10,6 +10,10 @@ pub const ANSWER_LEN: usize = 8;
 /// Returned when `answer` has fewer than [`ANSWER_LEN`] entries.
 pub const ANSWER_TOO_SHORT: u8 = 255;
 
+/// Only so many entries of a buffer are used; a call that needs more refuses
+/// the buffer as too small.
+pub const MAX_ENTRIES: usize = 16_777_216;
+
 mod ffi {
     extern "C" {
         pub fn pellet_check(
@@ -28,6 +32,21 @@ mod ffi {
             values_len: usize,
             trail: *mut u8,
             trail_len: usize,
+            answer: *mut u64,
+            answer_len: usize,
+        ) -> u8;
+
+        pub fn pellet_translate(
+            routine: *const u8,
+            routine_len: usize,
+            access: u8,
+            side: u8,
+            decisions: *const u8,
+            decisions_len: usize,
+            words: *mut u32,
+            words_len: usize,
+            starts: *mut u32,
+            starts_len: usize,
             answer: *mut u64,
             answer_len: usize,
         ) -> u8;
@@ -72,6 +91,38 @@ pub fn run(
             values.len(),
             trail.as_mut_ptr(),
             trail.len(),
+            answer.as_mut_ptr(),
+            answer.len(),
+        )
+    }
+}
+
+/// Translates a routine into clauses that say how a run comes to this access
+/// with an index not on this side. On 0, `answer` begins with the numbers of
+/// clauses, words and variables; `words` holds the clauses, each as a count and
+/// its literals, and `starts` the offset of each count.
+pub fn translate(
+    routine: &[u8],
+    access: u8,
+    side: u8,
+    decisions: &[u8],
+    words: &mut [u32],
+    starts: &mut [u32],
+    answer: &mut [u64],
+) -> u8 {
+    // SAFETY: as in `run`.
+    unsafe {
+        ffi::pellet_translate(
+            routine.as_ptr(),
+            routine.len(),
+            access,
+            side,
+            decisions.as_ptr(),
+            decisions.len(),
+            words.as_mut_ptr(),
+            words.len(),
+            starts.as_mut_ptr(),
+            starts.len(),
             answer.as_mut_ptr(),
             answer.len(),
         )

@@ -69,12 +69,51 @@ fn tells_refusals_by_number_and_place() {
 }
 
 #[test]
+fn translates_the_bench_routine() {
+    // The top bit of the parameter is variable 9: not below.
+    let clauses = "c clauses 3 words 6 variables 9\np cnf 9 3\n1 0\n1 0\n-9 0\n";
+    for none in ["-", ""] {
+        assert_eq!(
+            printed(&["translate", "examples/bench.bin", "0", "0", none]),
+            (clauses.to_string(), Some(0))
+        );
+    }
+    let (above, status) = printed(&["translate", "examples/bench.bin", "0", "1", "-"]);
+    let lines: Vec<&str> = above.lines().collect();
+    assert_eq!(status, Some(0));
+    assert_eq!(lines[0], "c clauses 115 words 454 variables 33");
+    assert_eq!(lines[1], "p cnf 33 115");
+    // The first gate is XOR(bit 0, -bit 0 of 100), which is true.
+    assert_eq!(lines[2..5], ["1 0", "-10 2 1 0", "-10 -2 -1 0"]);
+    assert_eq!(lines[115..], ["1 0", "-33 0"]);
+    assert_eq!(lines.len(), 2 + 115);
+}
+
+#[test]
+fn tells_refusals_of_translations() {
+    for (lead, line) in [
+        (["0", "0", "2"], "refused 11 place 1\n"),
+        (["1", "0", "-"], "refused 12 place 0\n"),
+        (["0", "2", "-"], "refused 12 place 1\n"),
+    ] {
+        let [access, side, decisions] = lead;
+        assert_eq!(
+            printed(&["translate", "examples/bench.bin", access, side, decisions]),
+            (line.to_string(), Some(1))
+        );
+    }
+}
+
+#[test]
 fn bad_usage_is_2() {
     for words in [
         &[][..],
         &["check"],
         &["run", "examples/bench.bin", "x"],
         &["check", "no such file"],
+        &["translate", "examples/bench.bin", "0", "0"],
+        &["translate", "examples/bench.bin", "256", "0", "-"],
+        &["translate", "examples/bench.bin", "0", "0", "x"],
     ] {
         let output = pelletperiod(words);
         assert_eq!(output.status.code(), Some(2));

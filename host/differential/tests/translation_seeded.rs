@@ -1,0 +1,65 @@
+//! Seeded random translations, compared with the oracle clause by clause, and
+//! seeded narrow routines whose clauses, read back from the library's buffers,
+//! are checked on every input list. How to make a translation again is said in
+//! `differential::seeded`.
+
+use differential::compare::Verdict;
+use differential::narrow::{draw_followed, draw_narrow};
+use differential::rng::Rng;
+use differential::seeded::{go_through, settle, show};
+use differential::translation_case::TranslationCase;
+use differential::translation_compare::{compare_translation, read_clauses};
+use differential::translation_tally::TranslationTally;
+use oracle::exhaustive::{check_every_input, Lists};
+
+const SEED: u64 = 0x50E1_1E7D_2026_0003;
+const CASES: u64 = 12_000;
+const NARROW_SEED: u64 = 0x50E1_1E7D_2026_0004;
+const NARROW_CASES: u64 = 6000;
+
+#[test]
+fn seeded_translations_agree() {
+    let mut tally = TranslationTally::default();
+    let compare = |case: &_| compare_translation(case).map(|agreed| agreed.verdict);
+    let note = |case: &_, verdict: &_| tally.add(case, verdict);
+    if go_through(SEED, CASES, TranslationCase::draw, compare, note) {
+        settle(tally.counter());
+    }
+}
+
+#[test]
+fn narrow_translations_say_what_the_runs_say() {
+    let (mut all, mut met) = (Lists::default(), Lists::default());
+    for number in 0..NARROW_CASES {
+        let rng = &mut Rng::for_case(NARROW_SEED, number);
+        let lists = check_narrow(rng).unwrap_or_else(|report| panic!("case {number}, {report}"));
+        all.all += lists.all;
+        all.arriving += lists.arriving;
+        all.on_side += lists.on_side;
+        met.all += 1;
+        met.arriving += usize::from(lists.arriving > 0);
+        met.on_side += usize::from(lists.on_side > 0);
+    }
+    show(&format!("input lists {all:?}, translations {met:?}\n"));
+    // Most are to be about something: an access that some run comes to.
+    assert!(met.arriving * 3 > met.all && met.on_side * 8 > met.all);
+    assert!(all.arriving < all.all && all.on_side < all.arriving);
+}
+
+/// Translates one narrow routine into buffers of just enough entries and
+/// checks what stands in them.
+fn check_narrow(rng: &mut Rng) -> Result<Lists, String> {
+    let (bytes, routine) = draw_narrow(rng);
+    let decisions = draw_followed(rng, &bytes, &routine);
+    let access = rng.below(routine.accesses) as u8;
+    let lead = (access, rng.below(2) as u8, decisions.as_slice());
+    let translation = oracle::measure(&bytes, lead.0, lead.1, lead.2).expect("a valid lead");
+    let lent = (translation.words, translation.clauses);
+    let case = TranslationCase::lending(rng, &bytes, lead, lent);
+    let agreed = compare_translation(&case)?;
+    assert!(matches!(agreed.verdict, Verdict::Done(_)));
+    let (words, starts) = (agreed.words.slice(), agreed.starts.slice());
+    let clauses = read_clauses(words, starts, translation.clauses);
+    check_every_input(&bytes, lead, &translation, &clauses)
+        .map_err(|problem| format!("{case}{problem}"))
+}

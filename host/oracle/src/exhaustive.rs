@@ -1,0 +1,129 @@
+//! The check of a translation against the run on every accepted input list:
+//! the clauses before the last two leave one assignment that extends the list,
+//! its arrival literal is true exactly where the run comes to the named access
+//! by the decisions, and its side literal then exactly where the index lies on
+//! the named side.
+
+use crate::clauses::{Clauses, Literal};
+use crate::propagation::{propagate, Assignment};
+use crate::routine::{parse, Routine};
+use crate::run::{carry_out, Arm, Event, Outcome, Run};
+use crate::translation::{Decision, Named, Translation};
+
+/// The most input bits that are gone through.
+pub const MAX_INPUT_BITS: u32 = 10;
+
+/// What the input lists came to.
+#[derive(Clone, Copy, Debug, Default, PartialEq, Eq)]
+pub struct Lists {
+    pub all: usize,
+    /// The run comes to the named access by the decisions.
+    pub arriving: usize,
+    /// And its index lies on the named side.
+    pub on_side: usize,
+}
+
+/// How many bits the input words of a routine have together.
+pub fn input_bits(routine: &Routine) -> u32 {
+    routine.input_widths().iter().sum()
+}
+
+/// Checks clauses, wherever they come from, on every accepted input list. The
+/// translation tells only where the input bits are and how many variables
+/// there are; the two literals are those of the last two clauses.
+pub fn check_every_input(
+    bytes: &[u8],
+    (access, side, decisions): (u8, u8, &[u8]),
+    translation: &Translation,
+    clauses: &Clauses,
+) -> Result<Lists, String> {
+    let refused = |refusal| format!("refused: {refusal:?}");
+    let routine = parse(bytes).map_err(refused)?;
+    let named = Named::new(&routine, access, side, decisions).map_err(refused)?;
+    let (arrival, on_side) = last_two(clauses)?;
+    if input_bits(&routine) > MAX_INPUT_BITS {
+        return Err(format!("{} input bits", input_bits(&routine)));
+    }
+    let mut lists = Lists::default();
+    for number in 0..1_u64 << input_bits(&routine) {
+        let inputs = nth_list(&routine, number);
+        let run = carry_out(&routine, &inputs);
+        let assignment = extend(translation, clauses, &inputs)
+            .map_err(|problem| format!("inputs {inputs:?}: {problem}"))?;
+        let expected = meaning(&run, &named);
+        let arrives = assignment.value(arrival) == Some(true);
+        let found = (arrives, arrives && assignment.value(on_side) == Some(true));
+        if found != expected {
+            return Err(format!(
+                "inputs {inputs:?}: arrival and side are {found:?}, the run's are {expected:?}"
+            ));
+        }
+        lists.all += 1;
+        lists.arriving += usize::from(expected.0);
+        lists.on_side += usize::from(expected.1);
+    }
+    Ok(lists)
+}
+
+/// The arrival and the side literal, from the last two clauses.
+fn last_two(clauses: &Clauses) -> Result<(Literal, Literal), String> {
+    let count = clauses.len();
+    if count < 2 {
+        return Err(format!("only {count} clauses"));
+    }
+    match (clauses.get(count - 2), clauses.get(count - 1)) {
+        (&[arrival], &[opposite]) => Ok((arrival, -opposite)),
+        last => Err(format!("the last two clauses are {last:?}")),
+    }
+}
+
+/// The input list of this number: its bits are dealt out to the words.
+fn nth_list(routine: &Routine, mut number: u64) -> Vec<u32> {
+    let mut words = Vec::new();
+    for width in routine.input_widths() {
+        words.push((number % (1 << width)) as u32);
+        number >>= width;
+    }
+    words
+}
+
+/// The assignment that unit propagation finds from the input bits. It decides
+/// every variable, so no other one extends the list.
+fn extend(
+    translation: &Translation,
+    clauses: &Clauses,
+    inputs: &[u32],
+) -> Result<Assignment, String> {
+    let mut assignment = translation.assignment(inputs);
+    let first = clauses.first(clauses.len() - 2);
+    propagate(first, &mut assignment).map_err(|number| format!("conflict in clause {number}"))?;
+    match assignment.first_undecided() {
+        None => Ok(assignment),
+        Some(variable) => Err(format!("variable {variable} is not decided")),
+    }
+}
+
+/// Whether a run comes to the named access by the decisions, and whether its
+/// index then lies on the named side.
+fn meaning(run: &Run, named: &Named) -> (bool, bool) {
+    let came_to = Event::Access {
+        number: named.access,
+    };
+    let before = match run.events.iter().position(|&event| event == came_to) {
+        None => return (false, false),
+        Some(position) => &run.events[..position],
+    };
+    let by_the_decisions = before.iter().all(|event| match *event {
+        Event::If { number, arm } => match named.decisions[number] {
+            Decision::First => arm == Arm::First,
+            Decision::Else => arm == Arm::Else,
+            Decision::Free => true,
+        },
+        Event::Access { .. } => true,
+    });
+    let on_side = match run.outcome {
+        Outcome::Stopped { access, side, .. } => access == named.access && side == named.side,
+        Outcome::Ended => false,
+    };
+    (by_the_decisions, by_the_decisions && on_side)
+}
