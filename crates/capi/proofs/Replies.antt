@@ -7,6 +7,7 @@ use lib.ListN.{length}
 use lib.Dec.{ltb}
 use Rattle.run.specs.Answer.{Answer, Answers}
 use Rattle.run.specs.declared.Ran.{Ran}
+use Rattle.lead.specs.Lead.{targetOf}
 use Rattle.translation.specs.Answer as translated
 use Rattle.translation.specs.declared.Translated.{Translated}
 use Rattle.capi.specs.Reply.{Reply, Fills, runFills, RunReply, runGives, runReply, RunsReply, translateFills, TranslateReply, translateGives, translateReply, TranslatesReply}
@@ -27,7 +28,7 @@ abbrev putTranslated : ℕ → (words starts ans : List ℕ) → TranslateReply
 putTranslated code words starts ans = record { code = code; words = words; starts = starts; answer = ans }
 
 pub translate-replies : (bs : List ℕ) (access side : ℕ) (ds words starts ans words₁ starts₁ ans₁ : List ℕ) (r : ℕ) {t : Translated}
-    → Fills (translateFills t ans) ans₁ r → translated.Answers bs (translated.targetOf access side) ds words starts words₁ starts₁ t
+    → Fills (translateFills t ans) ans₁ r → translated.Answers bs (targetOf access side) ds words starts words₁ starts₁ t
     → ltb (length ans) 8 ≡ false → TranslatesReply bs access side ds words starts ans words₁ starts₁ ans₁ r
 unfolding translateReply
 translate-replies bs access side ds words starts ans words₁ starts₁ ans₁ r {t} f x e = record {

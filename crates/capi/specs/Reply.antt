@@ -6,18 +6,19 @@ use mathlib.Core.Bool.{cond}
 use lib.ListN.{length, set}
 use lib.Dec.{ltb}
 use Rattle.bitvec.specs.declared.Whole.{Whole}
-use Rattle.routine.specs.Header.{firstCommand}
-use Rattle.routine.specs.Step.{accesses}
+use Rattle.header.specs.Header.{firstCommand}
+use Rattle.command.specs.Step.{accesses}
 use Rattle.routine.specs.Decode.{checked}
 use Rattle.routine.specs.Refusal as routine
-use Rattle.routine.specs.declared.Header.{Header}
-use Rattle.routine.specs.declared.Counts.{Counts}
+use Rattle.header.specs.declared.Header.{Header}
+use Rattle.command.specs.declared.Counts.{Counts}
 use Rattle.routine.specs.declared.Checked.{Checked}
 use Rattle.run.specs.Answer.{Answer, answer}
 use Rattle.run.specs.Refusal as run
-use Rattle.run.specs.declared.Side.{Side}
-use Rattle.run.specs.declared.Side.the-variants.{Below, Above}
+use Rattle.machine.specs.declared.Side.{Side}
+use Rattle.machine.specs.declared.Side.the-variants.{Below, Above}
 use Rattle.run.specs.declared.Ran.{Ran}
+use Rattle.lead.specs.Lead.{targetOf}
 use Rattle.translation.specs.Answer as translated
 use Rattle.translation.specs.Refusal as translation
 use Rattle.translation.specs.declared.Size.{Size}
@@ -131,7 +132,7 @@ unfoldable pub translateReply : (bs : List ℕ) → (access side : ℕ) → (ds 
 translateReply bs access side ds words starts ans =
     cond (ltb (length ans) 8)
     (record { code = 255; words = words; starts = starts; answer = ans })
-    (translateGives (translated.answer bs (translated.targetOf access side) ds words starts) ans)
+    (translateGives (translated.answer bs (targetOf access side) ds words starts) ans)
 
 pub record TranslatesReply (bs : List ℕ) (access side : ℕ) (ds words starts ans words₁ starts₁ ans₁ : List ℕ) (r : ℕ) : Type 0 where
   pub equal : _≡_ {A = TranslateReply} (record { code = r; words = words₁; starts = starts₁; answer = ans₁ }) (translateReply bs access side ds words starts ans)

@@ -1,12 +1,12 @@
 // What is written into the lent `answer`, which has at least 8 entries. Entries that are not named are left alone.
 use bitvec::Whole;
+use command::Counts;
+use command::steps::accesses_of;
+use header::Header;
+use header::first_command;
+use machine::Side;
 use routine::Checked;
-use routine::Counts;
-use routine::Header;
-use routine::headers::first_command;
-use routine::steps::accesses_of;
 use run::Ran;
-use run::Side;
 use translation::Size;
 use translation::Translated;
 ghost use mathlib.Core.Path.{_≡_};

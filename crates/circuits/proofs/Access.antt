@@ -10,15 +10,15 @@ use lib.Dec.{leb, ltb}
 use lib.ListN.{length}
 use lib.Pow.{pow-mono, pow-pos}
 use borrow.Author.Tests.{le-ltb, lt-leb, lt-ltb, ltb-false, ltb-true}
-use Rattle.circuits.proofs.Adder.{carry-before, length-adder}
+use Rattle.adders.proofs.Adder.{carry-before, length-adder}
 use Rattle.circuits.proofs.Compare.{offset, signed-formed, signed-value, size-less}
-use Rattle.circuits.proofs.Extend.{const-before, const-word}
-use Rattle.circuits.proofs.Values.{AllBefore, not-less, order, value, value-lt}
+use Rattle.bits.proofs.Extend.{const-before, const-word}
+use Rattle.bits.proofs.Values.{AllBefore, not-less, order, value, value-lt}
 use Rattle.circuits.specs.Access.{aboveLit, aboveNodes, beyond}
-use Rattle.circuits.specs.Adder.{carryAt, oppBits}
-use Rattle.circuits.specs.Bits.{Bits}
+use Rattle.adders.specs.Adder.{carryAt, oppBits}
+use Rattle.bits.specs.Bits.{Bits}
 use Rattle.circuits.specs.Compare.{flipped, signedLess}
-use Rattle.circuits.specs.Extend.{constBit}
+use Rattle.bits.specs.Extend.{constBit}
 use Rattle.netlist.proofs.Formed.{before-neg, before-opp, before-pos}
 use Rattle.netlist.proofs.Literals.{lit-false, lit-opp}
 use Rattle.netlist.proofs.Model.{Before, WellFormed}

@@ -11,10 +11,10 @@ use native.Mathlib.Omega.{arith}
 use lib.Dec.{eqb, ltb}
 use lib.ListN.{length, length-append}
 use borrow.Author.Tests.{eq-eqb, le-ltb, lt-ltb, ne-eqb}
-use Rattle.circuits.proofs.Adder.{adder-cong, less-value, subtractor-formed}
-use Rattle.circuits.proofs.Values.{AllBefore, bit, order, value, value-cong, value-lt}
-use Rattle.circuits.specs.Adder.{carryAt, oppBits}
-use Rattle.circuits.specs.Bits.{Bits}
+use Rattle.adders.proofs.Adder.{adder-cong, less-value, subtractor-formed}
+use Rattle.bits.proofs.Values.{AllBefore, bit, order, value, value-cong, value-lt}
+use Rattle.adders.specs.Adder.{carryAt, oppBits}
+use Rattle.bits.specs.Bits.{Bits}
 use Rattle.circuits.specs.Compare.{equality, flipped, same, sameAt, signedLess}
 use Rattle.netlist.proofs.Emitting.{emitted-then}
 use Rattle.netlist.proofs.Formed.{before-later, before-neg, before-opp, before-pos, formed-append}

@@ -8,8 +8,8 @@ use native.Mathlib.Omega.{arith}
 use lib.Dec.{eqb}
 use lib.ListN.{length, length-append}
 use borrow.Author.Tests.{eqb-true}
-use Rattle.circuits.proofs.Values.{AllBefore, up-to, value, value-lits}
-use Rattle.circuits.specs.Bits.{Bits}
+use Rattle.bits.proofs.Values.{AllBefore, up-to, value, value-lits}
+use Rattle.bits.specs.Bits.{Bits}
 use Rattle.circuits.specs.Join.{join, joinBit, joinOne}
 use Rattle.netlist.proofs.Emitting.{emitted-then}
 use Rattle.netlist.proofs.Formed.{before-later, before-pos, formed-append}

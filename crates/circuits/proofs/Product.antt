@@ -11,10 +11,10 @@ use lib.ListN.{length, length-append}
 use lib.Pow.{pow-add, pow-pos}
 use borrow.Author.Tests.{le-ltb, lt-ltb, ltb-false}
 use Rattle.bitvec.specs.Word.{multiply}
-use Rattle.circuits.proofs.Adder.{adder-cong, adder-formed, adder-sum, length-adder}
-use Rattle.circuits.proofs.Values.{AllBefore, bit, high-part, scaled, value, value-zero}
-use Rattle.circuits.specs.Adder.{adder}
-use Rattle.circuits.specs.Bits.{Bits}
+use Rattle.adders.proofs.Adder.{adder-cong, adder-formed, adder-sum, length-adder}
+use Rattle.bits.proofs.Values.{AllBefore, bit, high-part, scaled, value, value-zero}
+use Rattle.adders.specs.Adder.{adder}
+use Rattle.bits.specs.Bits.{Bits}
 use Rattle.circuits.specs.Product.{accBit, addRow, product, row, rowBit, rowStart}
 use Rattle.netlist.proofs.Emitting.{emitted-then}
 use Rattle.netlist.proofs.Formed.{before-later, before-neg, before-pos, formed-append}

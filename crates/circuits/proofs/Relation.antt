@@ -12,11 +12,11 @@ use borrow.Author.Tests.{le-ltb, lt-ltb}
 use Rattle.bitvec.proofs.Laws.{signed-high, signed-low}
 use Rattle.bitvec.specs.Relation.{relates}
 use Rattle.bitvec.specs.Signed.{less, signed}
-use Rattle.circuits.proofs.Adder.{carry-before, length-adder, less-value, subtractor-formed}
+use Rattle.adders.proofs.Adder.{carry-before, length-adder, less-value, subtractor-formed}
 use Rattle.circuits.proofs.Compare.{equality-formed, equality-value, length-equality, ltb-iff, offset, offset-high, offset-low, same-before, signed-formed, signed-value}
-use Rattle.circuits.proofs.Values.{AllBefore, not-less, order, value, value-lt}
-use Rattle.circuits.specs.Adder.{carryAt, oppBits, subtractor}
-use Rattle.circuits.specs.Bits.{Bits}
+use Rattle.bits.proofs.Values.{AllBefore, not-less, order, value, value-lt}
+use Rattle.adders.specs.Adder.{carryAt, oppBits, subtractor}
+use Rattle.bits.specs.Bits.{Bits}
 use Rattle.circuits.specs.Compare.{equality, flipped, sameAt, signedLess}
 use Rattle.circuits.specs.Relation.{relLit, relNodes}
 use Rattle.netlist.proofs.Formed.{before-opp, before-pos}

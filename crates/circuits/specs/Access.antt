@@ -3,10 +3,10 @@ use mathlib.Core.Bool.{Bool, cond}
 use mathlib.Core.List.{List, []}
 use Prim.Native.Nat.{_-_, _/_, _^_, ℕ}
 use lib.Dec.{ltb}
-use Rattle.circuits.specs.Adder.{carryAt}
-use Rattle.circuits.specs.Bits.{Bits}
+use Rattle.adders.specs.Adder.{carryAt}
+use Rattle.bits.specs.Bits.{Bits}
 use Rattle.circuits.specs.Compare.{signedLess}
-use Rattle.circuits.specs.Extend.{constBit}
+use Rattle.bits.specs.Extend.{constBit}
 use Rattle.netlist.specs.Literal.{opp}
 use Rattle.netlist.specs.Node.{Node}
 

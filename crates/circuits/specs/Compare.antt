@@ -3,8 +3,8 @@ use mathlib.Core.Bool.{cond}
 use mathlib.Core.List.{List, [], _++_, _∷_}
 use Prim.Native.Nat.{_*_, _+_, _-_, suc, zero, ℕ}
 use lib.Dec.{eqb}
-use Rattle.circuits.specs.Adder.{subtractor}
-use Rattle.circuits.specs.Bits.{Bits}
+use Rattle.adders.specs.Adder.{subtractor}
+use Rattle.bits.specs.Bits.{Bits}
 use Rattle.netlist.specs.Literal.{neg, opp, pos}
 use Rattle.netlist.specs.Node.{Node, and, xor}
 

@@ -4,7 +4,7 @@ use mathlib.Core.List.{List, [], _++_, _∷_}
 use Prim.Native.Nat.{_+_, suc, zero, ℕ}
 use lib.Dec.{eqb}
 use lib.ListN.{length}
-use Rattle.circuits.specs.Bits.{Bits}
+use Rattle.bits.specs.Bits.{Bits}
 use Rattle.netlist.specs.Literal.{pos}
 use Rattle.netlist.specs.Node.{Node, mux}
 

@@ -1,9 +1,5 @@
-pub mod Bits
-pub mod Adder
 pub mod Compare
 pub mod Relation
 pub mod Product
 pub mod Join
-pub mod Extend
-pub mod Input
 pub mod Access

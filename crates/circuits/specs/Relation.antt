@@ -3,8 +3,8 @@ use mathlib.Core.Bool.{cond}
 use mathlib.Core.List.{List}
 use Prim.Native.Nat.{ℕ}
 use lib.Dec.{eqb}
-use Rattle.circuits.specs.Adder.{carryAt, subtractor}
-use Rattle.circuits.specs.Bits.{Bits}
+use Rattle.adders.specs.Adder.{carryAt, subtractor}
+use Rattle.bits.specs.Bits.{Bits}
 use Rattle.circuits.specs.Compare.{equality, sameAt, signedLess}
 use Rattle.netlist.specs.Literal.{opp}
 use Rattle.netlist.specs.Node.{Node}

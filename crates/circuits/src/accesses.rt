@@ -1,13 +1,13 @@
 // The literal that says that an index is at or above an array's size.
 use crate::Test;
 use crate::comparisons::less_signed;
-use crate::constants::const_bits;
+use bits::constants::const_bits;
 use netlist::Net;
 ghost use mathlib.Core.Path.{_≡_};
 ghost use Prim.Native.Nat.{_<_, _≤_};
 ghost use lib.ListN.{length};
 ghost use Rattle.circuits.specs.Access.{aboveLit, aboveNodes};
-ghost use Rattle.circuits.specs.Bits.{litAt};
+ghost use Rattle.bits.specs.Bits.{litAt};
 ghost use Rattle.netlist.specs.Emit.{Emitted, Ready};
 
 // Literal 3, without gates, where no index of this width reaches the size; else the opposite of index <s size.

@@ -1,12 +1,12 @@
 // Comparisons of two numbers of one width.
 use crate::Test;
-use crate::adders::subtract;
+use adders::subtract;
 use netlist::Net;
 ghost use mathlib.Core.Path.{_≡_};
 ghost use Prim.Native.Nat.{_*_, _-_, _<_, _≤_};
 ghost use lib.ListN.{length};
-ghost use Rattle.circuits.specs.Adder.{carryAt, subtractor};
-ghost use Rattle.circuits.specs.Bits.{Filled, litAt};
+ghost use Rattle.adders.specs.Adder.{carryAt, subtractor};
+ghost use Rattle.bits.specs.Bits.{Filled, litAt};
 ghost use Rattle.circuits.specs.Compare.{equality, flipped, same, sameAt, signedLess};
 ghost use Rattle.netlist.specs.Emit.{Emitted, Ready};
 ghost use Rattle.netlist.specs.Literal.{opp};

@@ -7,7 +7,7 @@ ghost use mathlib.Core.Path.{_≡_};
 ghost use Prim.Native.Nat.{_≤_};
 ghost use lib.Dec.{eqb};
 ghost use lib.ListN.{length};
-ghost use Rattle.circuits.specs.Bits.{Filled, litAt};
+ghost use Rattle.bits.specs.Bits.{Filled, litAt};
 ghost use Rattle.circuits.specs.Join.{join, joinBit, joinOne};
 ghost use Rattle.netlist.specs.Emit.{Emitted, Ready};
 ghost use Rattle.netlist.specs.Literal.{pos};

@@ -1,10 +1,6 @@
-// Circuits over the bits of numbers: one module for each. A number's bits are a slice of literals, the lowest first.
+// Circuits over the bits of numbers: one module for each.
 pub mod accesses;
-pub mod adders;
 mod comparisons;
-pub mod constants;
-pub mod extensions;
-pub mod inputs;
 pub mod joins;
 pub mod products;
 pub mod relations;

@@ -1,12 +1,12 @@
 // Multiplication: a row of ANDs for each bit of the second number, added to the sum so far.
 use crate::Bundle;
-use crate::adders::add;
-use crate::adders::sum_bits;
+use adders::add;
+use adders::sum_bits;
 use netlist::Net;
 ghost use mathlib.Core.Path.{_≡_};
 ghost use Prim.Native.Nat.{_^_, _≤_};
 ghost use lib.ListN.{length};
-ghost use Rattle.circuits.specs.Bits.{Filled, litAt};
+ghost use Rattle.bits.specs.Bits.{Filled, litAt};
 ghost use Rattle.circuits.specs.Product.{accBit, addRow, product, row, rowBit};
 ghost use Rattle.netlist.specs.Emit.{Emitted, Ready};
 

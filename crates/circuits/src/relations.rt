@@ -7,7 +7,7 @@ use netlist::Net;
 ghost use mathlib.Core.Path.{_≡_};
 ghost use Prim.Native.Nat.{_*_, _<_, _≤_};
 ghost use lib.ListN.{length};
-ghost use Rattle.circuits.specs.Bits.{litAt};
+ghost use Rattle.bits.specs.Bits.{litAt};
 ghost use Rattle.circuits.specs.Relation.{relLit, relNodes};
 ghost use Rattle.netlist.specs.Emit.{Emitted, Ready};
 ghost use Rattle.netlist.specs.Literal.{opp};

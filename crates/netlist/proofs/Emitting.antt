@@ -71,3 +71,7 @@ ready-one {k = k} p r h = ready-after k p r (leb-true _ _ h)
 pub ready-two : {w t : List ℕ} {n : Net} {a : List Node} {w₁ t₁ : List ℕ} {n₁ : Net} {b : List Node} {w₂ t₂ : List ℕ} {n₂ : Net} {k j : ℕ}
     → Emitted w t n a w₁ t₁ n₁ → Emitted w₁ t₁ n₁ b w₂ t₂ n₂ → Ready n j → leb (length (a ++ b) + k) j ≡ true → Ready n₂ k
 ready-two {k = k} p q r h = ready-after k (emitted-then p q) r (leb-true _ _ h)
+
+-- room for more is room for less
+pub ready-weaken : {n : Net} {j k : ℕ} → j ≤ k → Ready n k → Ready n j
+ready-weaken l r = record { words = r .words; clauses = r .clauses; next = omega (arith, r .next) }

@@ -7,13 +7,13 @@ use native.Mathlib.Omega.{arith}
 use lib.ListN.{length}
 use lib.Dec.{leb, eqb}
 use borrow.Author.Tests.{eqb-true, leb-true}
-use Rattle.routine.specs.Header.{headerOf, firstCommand}
+use Rattle.header.specs.Header.{headerOf, firstCommand}
 use Rattle.routine.specs.Routine.{Arm, Parsed, refused, parsed, arm}
 use Rattle.routine.specs.Decode.{Decoded, rejected, routine, noCounts, decodeArm, decodeHead, decode, answer, checked}
 use Rattle.routine.specs.Stands.{Stands}
-use Rattle.routine.specs.declared.Header.{Header}
-use Rattle.routine.specs.declared.Head.{Head}
-use Rattle.routine.specs.declared.Counts.{Counts}
+use Rattle.header.specs.declared.Header.{Header}
+use Rattle.header.specs.declared.Head.{Head}
+use Rattle.command.specs.declared.Counts.{Counts}
 use Rattle.routine.specs.declared.Refusal.{Refusal}
 use Rattle.routine.specs.declared.Checked.{Checked}
 

@@ -1,35 +1,17 @@
--- Laws of the first wrong place, and of what `check` answers. Assumes nothing.
+-- Laws of what `check` answers. Assumes nothing.
 use mathlib.Core.Path.{_≡_, refl, sym, ap, _∙_}
 use mathlib.Core.Bool.{Bool, true, false, cond}
 use mathlib.Core.List.{List}
-use Prim.Native.Nat.{ℕ, zero, suc, _+_, _-_, _≤_, _<_}
-use native.Mathlib.Numerals.{sub-one}
-use native.Mathlib.Omega.{arith}
+use Prim.Native.Nat.{ℕ}
 use lib.ListN.{length}
 use lib.Dec.{eqb}
-use Rattle.routine.specs.Header.{firstBad, firstCommand}
+use Rattle.header.specs.Header.{firstCommand}
 use Rattle.routine.specs.Routine.{Arm, Parsed, refused, parsed, arm, walked, walkArm}
 use Rattle.routine.specs.Decode.{Decoded, rejected, routine, noCounts, decodeArm, answer, checkedCommands}
-use Rattle.routine.specs.declared.Header.{Header}
+use Rattle.header.specs.declared.Header.{Header}
 use Rattle.routine.specs.declared.Walked.{Walked}
 use Rattle.routine.specs.declared.Refusal.{Refusal}
 use Rattle.routine.specs.declared.Checked.{Checked}
-
-module _ (ok : ℕ → Bool) (step at : ℕ) where
-  pub bad-none : (n : ℕ) → n ≤ 0 → at ≡ firstBad ok step n at
-  unfolding firstBad
-  bad-none zero l = refl
-  bad-none (suc n) l = absurd (omega arith)
-
-  pub bad-here : (n : ℕ) → 0 < n → ok at ≡ false → at ≡ firstBad ok step n at
-  unfolding firstBad
-  bad-here zero l e = absurd (omega arith)
-  bad-here (suc n) l e = rw e
-
-  pub bad-next : (n : ℕ) → 0 < n → ok at ≡ true → firstBad ok step (n - 1) (at + step) ≡ firstBad ok step n at
-  unfolding firstBad
-  bad-next zero l e = absurd (omega arith)
-  bad-next (suc n) l e = rw (e, sub-one)
 
 -- what follows a walk over the commands of n bytes
 abbrev pub commandsBy : ℕ → Header → Walked → Checked

@@ -7,20 +7,20 @@ use native.Mathlib.Omega.{arith}
 use lib.ListN.{length}
 use lib.Dec.{leb, ltb, eqb}
 use borrow.Author.Tests.{leb-true, ltb-true}
-use Rattle.routine.specs.Command.{sizeOf, sizeOfSimple, commandOf, commandAt}
-use Rattle.routine.specs.Header.{width}
-use Rattle.routine.specs.Step.{inRange, widthsFit, tooMany, after, unless, refusing, simpleStep, oneIf, conditionInRange, ifStep, stepOf}
+use Rattle.command.specs.Command.{sizeOf, sizeOfSimple, commandOf, commandAt}
+use Rattle.header.specs.Header.{width}
+use Rattle.command.specs.Step.{inRange, widthsFit, tooMany, after, unless, refusing, simpleStep, oneIf, conditionInRange, ifStep, stepOf}
 use Rattle.routine.specs.Routine.{Parsed, refused, parsed, plain, fork, andThen, Reader, ifArms, armStep, stepAt, armBy, arm, walked, walkArm, walkIf}
-use Rattle.routine.specs.Stands.{Sound, SoundIf}
-use Rattle.routine.specs.declared.Header.{Header}
-use Rattle.routine.specs.declared.Condition.{Condition}
-use Rattle.routine.specs.declared.Counts.{Counts}
-use Rattle.routine.specs.declared.Simple.{Simple}
-use Rattle.routine.specs.declared.Command.{Command}
-use Rattle.routine.specs.declared.Fault.{Fault}
-use Rattle.routine.specs.declared.Step.{Step}
+use Rattle.command.specs.Sound.{Sound, SoundIf}
+use Rattle.header.specs.declared.Header.{Header}
+use Rattle.command.specs.declared.Condition.{Condition}
+use Rattle.command.specs.declared.Counts.{Counts}
+use Rattle.command.specs.declared.Simple.{Simple}
+use Rattle.command.specs.declared.Command.{Command}
+use Rattle.command.specs.declared.Fault.{Fault}
+use Rattle.command.specs.declared.Step.{Step}
 use Rattle.routine.specs.declared.Walked.{Walked}
-use Rattle.routine.proofs.Sizes.{size-pos, simple-size}
+use Rattle.command.proofs.Sizes.{size-pos, simple-size}
 
 -- ---- a command that stands at an offset is whole
 

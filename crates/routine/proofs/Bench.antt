@@ -2,12 +2,12 @@
 use mathlib.Core.Path.{_≡_, refl}
 use mathlib.Core.List.{[], _∷_}
 use Rattle.slices.specs.Bytes.{half, word}
-use Rattle.routine.specs.Header.{within, sizeOk, firstBad, headerOf}
-use Rattle.routine.specs.Command.{commandBy, commandAt}
-use Rattle.routine.specs.Step.{inRange, widthsFit, tooMany, simpleStep, ifStep, stepOf}
+use Rattle.header.specs.Header.{within, sizeOk, firstBad, headerOf}
+use Rattle.command.specs.Command.{commandBy, commandAt}
+use Rattle.command.specs.Step.{inRange, widthsFit, tooMany, simpleStep, ifStep, stepOf}
 use Rattle.routine.specs.Routine.{armBy}
 use Rattle.routine.specs.Decode.{decode, checked}
-use Rattle.routine.specs.declared.Fault.{Fault}
+use Rattle.command.specs.declared.Fault.{Fault}
 use Rattle.routine.specs.declared.Refusal.{Refusal}
 use Rattle.routine.specs.declared.Checked.{Checked}
 

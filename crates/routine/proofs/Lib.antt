@@ -1,11 +1,8 @@
 -- What the proofs of several functions use, and the laws for the layers above.
 mod Answers
-pub mod Tests
-pub mod Sizes
 pub mod Arms
 pub mod Views
 pub mod Accepted
-pub mod Fine
 pub mod Walking
 mod Passing
 pub mod Text

@@ -3,15 +3,15 @@
 use mathlib.Core.Path.{_≡_, refl, sym, _∙_}
 use mathlib.Core.List.{List}
 use Prim.Native.Nat.{ℕ, _+_}
-use Rattle.routine.specs.Command.{sizeOfSimple, commandAt}
-use Rattle.routine.specs.Step.{after, oneIf}
+use Rattle.command.specs.Command.{sizeOfSimple, commandAt}
+use Rattle.command.specs.Step.{after, oneIf}
 use Rattle.routine.specs.Routine.{Arm, done, plain, fork}
 use Rattle.routine.specs.Stands.{Stands}
-use Rattle.routine.specs.declared.Header.{Header}
-use Rattle.routine.specs.declared.Condition.{Condition}
-use Rattle.routine.specs.declared.Counts.{Counts}
-use Rattle.routine.specs.declared.Simple.{Simple}
-use Rattle.routine.specs.declared.Command.{Command}
+use Rattle.header.specs.declared.Header.{Header}
+use Rattle.command.specs.declared.Condition.{Condition}
+use Rattle.command.specs.declared.Counts.{Counts}
+use Rattle.command.specs.declared.Simple.{Simple}
+use Rattle.command.specs.declared.Command.{Command}
 use Rattle.routine.proofs.Views.{by-close, by-simple, by-if}
 
 -- what is left of the arm a

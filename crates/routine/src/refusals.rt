@@ -1,6 +1,6 @@
 // The number and the place that document 01 gives each refusal.
-use crate::Fault;
 use crate::Refusal;
+use command::Fault;
 ghost use mathlib.Core.Path.{_≡_};
 ghost use Rattle.routine.specs.Refusal.{numberOfFault, numberOf, placeOf};
 

@@ -1,15 +1,15 @@
 // Walking over the commands. An arm is a list of commands, and a command may be an if with two arms: the two walks call each other.
 use crate::Checked;
-use crate::Counts;
-use crate::Header;
 use crate::Passed;
 use crate::Refusal;
-use crate::Step;
 use crate::Walked;
-use crate::commands::command_at;
-use crate::commands::simple_size;
-use crate::headers::first_command;
-use crate::steps::step_of;
+use command::Counts;
+use command::Step;
+use command::commands::command_at;
+use command::commands::simple_size;
+use command::steps::step_of;
+use header::Header;
+use header::first_command;
 ghost use mathlib.Core.Path.{_≡_};
 ghost use Prim.Native.Nat.{_+_, _<_, _≤_};
 ghost use lib.ListN.{length};

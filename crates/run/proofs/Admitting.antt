@@ -9,22 +9,22 @@ use lib.Dec.{leb}
 use borrow.Author.Tests.{eq-eqb, ne-eqb, leb-true}
 use Rattle.routine.specs.Routine.{Arm, done}
 use Rattle.routine.specs.Decode.{Decoded, rejected, routine, decode, checked, IsRoutine}
-use Rattle.routine.specs.declared.Header.{Header}
-use Rattle.routine.specs.declared.Counts.{Counts}
+use Rattle.header.specs.declared.Header.{Header}
+use Rattle.command.specs.declared.Counts.{Counts}
 use Rattle.routine.specs.declared.Checked.{Checked}
 use Rattle.routine.specs.declared.Refusal as declared
 use Rattle.routine.proofs.Accepted.{accepted, refused-by, decoded}
 use Rattle.routine.proofs.Counting.{few-ifs}
-use Rattle.routine.proofs.Fine.{fine}
+use Rattle.command.proofs.Fine.{fine}
 use Rattle.run.specs.Inputs.{inputVariables, firstGreat, listed}
-use Rattle.run.specs.State.{over}
+use Rattle.machine.specs.State.{over}
 use Rattle.run.specs.Walker.{Lists, RunsRoutine}
 use Rattle.run.specs.Answer.{Admission, refused, runs, byList, byRoutine, admission, withoutTree, admittedRoom, admitted, ranBy, answer, Answers}
 use Rattle.run.specs.declared.Listed.{Listed}
 use Rattle.run.specs.declared.Buffer.{Buffer}
 use Rattle.run.specs.declared.Refusal.{Refusal}
 use Rattle.run.specs.declared.Admitted.{Admitted}
-use Rattle.run.specs.declared.State.{State}
+use Rattle.machine.specs.declared.State.{State}
 use Rattle.run.specs.declared.Ran.{Ran}
 
 -- ---- the input list

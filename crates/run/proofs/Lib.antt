@@ -1,6 +1,4 @@
 -- What the proofs of several functions use, and the laws for the layers above.
-pub mod Laid
-mod Operands
 mod Lists
 mod Running
 mod Admitting

@@ -8,16 +8,16 @@ use native.Mathlib.Omega.{arith}
 use lib.ListN.{length}
 use lib.Dec.{ltb}
 use Rattle.slices.specs.Bytes.{entry}
-use Rattle.routine.specs.Header.{width, firstCommand}
-use Rattle.routine.specs.Command.{sizeOf, commandAt}
+use Rattle.header.specs.Header.{width, firstCommand}
+use Rattle.command.specs.Command.{sizeOf, commandAt}
 use Rattle.routine.specs.Routine.{Arm, textOf}
 use Rattle.routine.specs.Decode.{routine, decode, IsRoutine}
-use Rattle.routine.specs.declared.Header.{Header}
-use Rattle.routine.specs.declared.Counts.{Counts}
-use Rattle.routine.specs.declared.Simple.{Simple}
-use Rattle.routine.specs.declared.Command.{Command}
+use Rattle.header.specs.declared.Header.{Header}
+use Rattle.command.specs.declared.Counts.{Counts}
+use Rattle.command.specs.declared.Simple.{Simple}
+use Rattle.command.specs.declared.Command.{Command}
 use Rattle.routine.proofs.Accepted.{decoded}
-use Rattle.routine.proofs.Sizes.{size-pos}
+use Rattle.command.proofs.Sizes.{size-pos}
 use Rattle.routine.proofs.Text.{Text, over, closes, forks, steps, text}
 use Rattle.run.specs.Inputs.{variablesFrom, joined, readVariables, firstGreat}
 use Rattle.run.specs.Walker.{readBy, ScansReads}

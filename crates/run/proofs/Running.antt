@@ -5,29 +5,30 @@ use mathlib.Core.Bool.{Bool, true, false, cond}
 use Prim.Native.Nat.{ℕ, _+_, _*_, _-_, _≤_, _<_}
 use native.Mathlib.Omega.{arith}
 use lib.ListN.{length}
-use Rattle.routine.specs.Command.{sizeOfSimple, commandAt}
-use Rattle.routine.specs.Header.{firstCommand}
-use Rattle.routine.specs.Step.{after, tooMany, oneIf}
+use Rattle.command.specs.Command.{sizeOfSimple, commandAt}
+use Rattle.header.specs.Header.{firstCommand}
+use Rattle.command.specs.Step.{after, tooMany, oneIf}
 use Rattle.routine.specs.Routine.{Arm}
 use Rattle.routine.specs.Decode.{noCounts, IsRoutine}
-use Rattle.routine.specs.Stands.{Stands, SomeArm, SomeIf, Sound, SoundIf, Fine}
+use Rattle.routine.specs.Stands.{Stands, SomeArm, SomeIf}
+use Rattle.command.specs.Sound.{Sound, SoundIf, Fine}
 use Rattle.routine.specs.Passes.{Passes}
-use Rattle.routine.specs.declared.Header.{Header}
-use Rattle.routine.specs.declared.Condition.{Condition}
-use Rattle.routine.specs.declared.Counts.{Counts}
-use Rattle.routine.specs.declared.Simple.{Simple}
-use Rattle.routine.specs.declared.Command.{Command}
+use Rattle.header.specs.declared.Header.{Header}
+use Rattle.command.specs.declared.Condition.{Condition}
+use Rattle.command.specs.declared.Counts.{Counts}
+use Rattle.command.specs.declared.Simple.{Simple}
+use Rattle.command.specs.declared.Command.{Command}
 use Rattle.routine.specs.declared.Passed.{Passed}
 use Rattle.routine.proofs.Views.{onward, by-missing, by-close, by-simple, by-if}
 use Rattle.routine.proofs.Accepted.{decoded}
-use Rattle.routine.proofs.Fine.{fine}
+use Rattle.command.proofs.Fine.{fine}
 use Rattle.routine.proofs.Walking as walking
-use Rattle.run.specs.State.{start, take, holds, carry}
+use Rattle.machine.specs.State.{start, take, holds, carry}
 use Rattle.run.specs.Run as run
 use Rattle.run.specs.Run.{Event, Stretch, unlessStopped, andThen, eventsAt, runArm, runOf}
 use Rattle.run.specs.Walker.{isOver, reachedAt, Arrives, RunsArm, RunsIf, ranIf, RunsRoutine}
-use Rattle.run.specs.declared.Outcome.{Outcome}
-use Rattle.run.specs.declared.State.{State}
+use Rattle.machine.specs.declared.Outcome.{Outcome}
+use Rattle.machine.specs.declared.State.{State}
 use Rattle.run.specs.declared.Reached.{Reached}
 
 -- ---- going on, or not

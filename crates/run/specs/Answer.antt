@@ -7,14 +7,14 @@ use lib.ListN.{length}
 use lib.Dec.{leb}
 use Rattle.routine.specs.Routine.{Arm, done}
 use Rattle.routine.specs.Decode.{Decoded, rejected, routine, decode}
-use Rattle.routine.specs.declared.Header.{Header}
-use Rattle.routine.specs.declared.Counts.{Counts}
+use Rattle.header.specs.declared.Header.{Header}
+use Rattle.command.specs.declared.Counts.{Counts}
 use Rattle.run.specs.Inputs.{listed}
-use Rattle.run.specs.State.{over}
+use Rattle.machine.specs.State.{over}
 use Rattle.run.specs.Run.{runOf}
 use Rattle.run.specs.declared.Listed.{Listed}
-use Rattle.run.specs.declared.Outcome.{Outcome}
-use Rattle.run.specs.declared.State.{State}
+use Rattle.machine.specs.declared.Outcome.{Outcome}
+use Rattle.machine.specs.declared.State.{State}
 use Rattle.run.specs.declared.Buffer.{Buffer}
 use Rattle.run.specs.declared.Refusal.{Refusal}
 use Rattle.run.specs.declared.Admitted.{Admitted}

@@ -5,11 +5,11 @@ use mathlib.Core.Bool.{cond}
 use lib.ListN.{length}
 use lib.Dec.{ltb, eqb}
 use Rattle.slices.specs.Bytes.{entry}
-use Rattle.routine.specs.Header.{width}
+use Rattle.header.specs.Header.{width}
 use Rattle.routine.specs.Routine.{Arm, textOf}
-use Rattle.routine.specs.declared.Header.{Header}
-use Rattle.routine.specs.declared.Counts.{Counts}
-use Rattle.routine.specs.declared.Simple.{Simple}
+use Rattle.header.specs.declared.Header.{Header}
+use Rattle.command.specs.declared.Counts.{Counts}
+use Rattle.command.specs.declared.Simple.{Simple}
 use Rattle.run.specs.declared.Reads.{Reads}
 use Rattle.run.specs.declared.Listed.{Listed}
 

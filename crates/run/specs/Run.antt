@@ -3,14 +3,14 @@ use Prim.Native.Nat.{ℕ}
 use mathlib.Core.List.{List, [], _∷_, _++_}
 use mathlib.Core.Bool.{cond}
 use Rattle.bitvec.specs.declared.Whole.{Whole}
-use Rattle.routine.specs.Step.{accesses}
+use Rattle.command.specs.Step.{accesses}
 use Rattle.routine.specs.Routine.{Arm, done, plain, fork}
-use Rattle.routine.specs.declared.Header.{Header}
-use Rattle.routine.specs.declared.Counts.{Counts}
-use Rattle.routine.specs.declared.Simple.{Simple}
-use Rattle.run.specs.State.{start, take, holds, indexOf, carry}
-use Rattle.run.specs.declared.Outcome.{Outcome}
-use Rattle.run.specs.declared.State.{State}
+use Rattle.header.specs.declared.Header.{Header}
+use Rattle.command.specs.declared.Counts.{Counts}
+use Rattle.command.specs.declared.Simple.{Simple}
+use Rattle.machine.specs.State.{start, take, holds, indexOf, carry}
+use Rattle.machine.specs.declared.Outcome.{Outcome}
+use Rattle.machine.specs.declared.State.{State}
 
 -- what a run comes to: an if, with the arm taken there (0 first, 1 else), or an access, with its array and its index
 pub data Event : Type 0 where

@@ -3,22 +3,22 @@ use Prim.Native.Nat.{ℕ, _+_}
 use mathlib.Core.Path.{_≡_}
 use mathlib.Core.List.{List}
 use mathlib.Core.Bool.{Bool, true, false, cond}
-use Rattle.routine.specs.Step.{oneIf}
+use Rattle.command.specs.Step.{oneIf}
 use Rattle.routine.specs.Routine.{Arm, textOf}
 use Rattle.routine.specs.Decode.{routine, decode}
 use Rattle.routine.specs.Stands.{Stands}
-use Rattle.routine.specs.declared.Header.{Header}
-use Rattle.routine.specs.declared.Condition.{Condition}
-use Rattle.routine.specs.declared.Counts.{Counts}
+use Rattle.header.specs.declared.Header.{Header}
+use Rattle.command.specs.declared.Condition.{Condition}
+use Rattle.command.specs.declared.Counts.{Counts}
 use Rattle.run.specs.Inputs.{readBySimple, readVariables, firstGreat, listed}
-use Rattle.run.specs.State.{take, holds}
+use Rattle.machine.specs.State.{take, holds}
 use Rattle.run.specs.Run.{runArm, runOf}
 use Rattle.run.specs.declared.Listed.{Listed}
-use Rattle.run.specs.declared.Outcome.{Outcome}
-use Rattle.run.specs.declared.State.{State}
+use Rattle.machine.specs.declared.Outcome.{Outcome}
+use Rattle.machine.specs.declared.State.{State}
 use Rattle.run.specs.declared.Reached.{Reached}
 use Rattle.run.specs.declared.Reads.{Reads}
-use Rattle.routine.specs.declared.Command.{Command}
+use Rattle.command.specs.declared.Command.{Command}
 
 -- an access stopped the run
 abbrev pub isOver : Outcome → Bool

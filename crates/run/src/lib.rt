@@ -3,41 +3,13 @@ mod buffers;
 pub mod inputs;
 pub mod refusals;
 mod runs;
-pub mod states;
 
 use bitvec::Whole;
-use routine::Counts;
-use routine::Header;
+use command::Counts;
+use header::Header;
+use machine::Side;
+use machine::State;
 ghost use Rattle.run.specs.Answer.{Answers};
-
-// Where an index lies outside its array: below 0, or at or above the size.
-pub enum Side {
-    Below,
-    Above,
-}
-
-// Where an index lies.
-pub enum Lies {
-    Inside,
-    Outside(Side),
-}
-
-// A run is going, or an access stopped it.
-pub enum Outcome {
-    Going,
-    Stopped {
-        access: u32,
-        index: Whole,
-        side: Side,
-    },
-}
-
-// The state of a run: the variables' values, the arm taken at each if (0 first, 1 else, 2 not come to), and whether it is over.
-pub struct State {
-    pub values: [u32; 32],
-    pub trail: [u8; 32],
-    pub outcome: Outcome,
-}
 
 // A run at the end of an arm or an if: the offset and the counts there, and the state. Where it stopped before, only the state tells something.
 pub struct Reached {

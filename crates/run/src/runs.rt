@@ -1,23 +1,24 @@
 // Running an arm and running an if: the two call each other, and the arm that is not taken is passed.
-use crate::Outcome;
 use crate::Ran;
 use crate::Reached;
-use crate::State;
-use routine::Command;
-use routine::Condition;
-use routine::Counts;
-use routine::Header;
-use routine::commands::command_at;
-use routine::commands::simple_size;
-use routine::headers::first_command;
-use routine::steps::counts_after;
-use routine::steps::counts_after_if;
+use command::Command;
+use command::Condition;
+use command::Counts;
+use command::commands::command_at;
+use command::commands::simple_size;
+use command::steps::counts_after;
+use command::steps::counts_after_if;
+use header::Header;
+use header::first_command;
+use machine::Outcome;
+use machine::State;
 use routine::walks::pass_arm;
 ghost use mathlib.Core.Path.{_≡_};
 ghost use Prim.Native.Nat.{_<_};
-ghost use Rattle.routine.specs.Step.{oneIf};
+ghost use Rattle.command.specs.Step.{oneIf};
 ghost use Rattle.routine.specs.Decode.{IsRoutine};
-ghost use Rattle.routine.specs.Stands.{SomeArm, SomeIf, SoundIf, Fine};
+ghost use Rattle.routine.specs.Stands.{SomeArm, SomeIf};
+ghost use Rattle.command.specs.Sound.{SoundIf, Fine};
 ghost use Rattle.run.specs.Walker.{isOver, reachedAt, RunsArm, RunsIf, RunsRoutine};
 ghost use Rattle.run.specs.Answer.{ranBy};
 

@@ -5,33 +5,36 @@ use mathlib.Core.Bool.{true, cond}
 use Prim.Native.Nat.{ℕ, _+_, _≤_}
 use lib.ListN.{length}
 use Rattle.slices.specs.Bytes.{entry}
-use Rattle.routine.specs.Step.{after, oneIf}
-use Rattle.routine.specs.Command.{sizeOfSimple}
+use Rattle.command.specs.Step.{after, oneIf}
+use Rattle.command.specs.Command.{sizeOfSimple}
 use Rattle.routine.specs.Routine.{Arm}
-use Rattle.routine.specs.Stands.{Stands, Fine}
-use Rattle.routine.specs.declared.Header.{Header}
-use Rattle.routine.specs.declared.Counts.{Counts}
+use Rattle.routine.specs.Stands.{Stands}
+use Rattle.command.specs.Sound.{Fine}
+use Rattle.header.specs.declared.Header.{Header}
+use Rattle.command.specs.declared.Counts.{Counts}
 use Rattle.routine.proofs.Views.{induction}
-use Rattle.run.specs.State.{take, holds, carry}
+use Rattle.machine.specs.State.{take, holds, carry}
 use Rattle.run.specs.Run as run
 use Rattle.run.specs.Run.{took, eventsAt, runArm}
-use Rattle.run.specs.declared.State.{State}
+use Rattle.machine.specs.declared.State.{State}
 use Rattle.netlist.specs.Meaning.{Assign, Inputs}
 use Rattle.netlist.proofs.Truth.{Models, models-append}
-use Rattle.translation.specs.Command.{Stretch, simple}
-use Rattle.translation.specs.Walk.{isMade, andThen, forked, armOf}
+use Rattle.wiring.specs.Command.{Stretch, simple}
+use Rattle.wiring.specs.Wires.{isMade}
+use Rattle.translation.specs.Walk.{andThen, forked, armOf}
 use Rattle.translation.specs.Course.{course}
 use Rattle.translation.specs.Faithful.{bitsOfList}
-use Rattle.translation.specs.declared.Claim.{Claim}
-use Rattle.translation.specs.declared.Target.{Target}
-use Rattle.translation.specs.declared.Wires.{Wires}
+use Rattle.wiring.specs.declared.Claim.{Claim}
+use Rattle.lead.specs.declared.Target.{Target}
+use Rattle.wiring.specs.declared.Wires.{Wires}
 use Rattle.translation.proofs.Claimed.{simple-claims, fork-claims, arm-claims}
 use Rattle.translation.proofs.Dead.{Deadens, arm-dead}
 use Rattle.translation.proofs.Fitting.{Fit}
 use Rattle.translation.proofs.Forks.{Runs, Arms, fork-alive}
 use Rattle.translation.proofs.Numbers.{Elsewhere, accesses-grow, misses}
 use Rattle.translation.proofs.Simples.{alive-through, simple-alive}
-use Rattle.translation.proofs.Stretches.{not-both, then-by, arm-length}
+use Rattle.command.proofs.Tests.{not-both}
+use Rattle.translation.proofs.Stretches.{then-by, arm-length}
 use Rattle.translation.proofs.Tally.{Tallies, tally-then}
 
 module _ (bs ins : List ℕ) (h : Header) (fine : Fine bs h) (t : Target) (ds : List ℕ) (ρ : Assign) (o : ρ 1 ≡ true) where

@@ -9,18 +9,19 @@ use lib.ListN.{length, List·getD-eq-default}
 use lib.Dec.{ltb, leb, eqb, lit<}
 use borrow.Author.Tests.{ltb-true, leb-true, eqb-true}
 use Rattle.slices.specs.Bytes.{entry}
-use Rattle.routine.specs.Step.{accesses}
+use Rattle.command.specs.Step.{accesses}
 use Rattle.routine.specs.Routine.{Arm}
 use Rattle.routine.specs.Decode.{routine, decode}
-use Rattle.routine.specs.declared.Header.{Header}
-use Rattle.routine.specs.declared.Counts.{Counts}
-use Rattle.routine.proofs.Fine.{all-ok}
-use Rattle.circuits.proofs.Values.{order}
-use Rattle.translation.specs.Answer.{Admission, firstOdd, unless, admission, answerBy, answer, Answers, Demand2}
+use Rattle.header.specs.declared.Header.{Header}
+use Rattle.command.specs.declared.Counts.{Counts}
+use Rattle.command.proofs.Fine.{all-ok}
+use Rattle.bits.proofs.Values.{order}
+use Rattle.lead.specs.Lead.{Admission, firstOdd, unless, admission}
+use Rattle.translation.specs.Answer.{answerBy, answer, Answers, Demand2}
 use Rattle.translation.specs.Faithful.{Faithful}
-use Rattle.translation.specs.declared.Refusal.{Refusal}
+use Rattle.lead.specs.declared.Refusal.{Refusal}
 use Rattle.translation.specs.declared.Size.{Size}
-use Rattle.translation.specs.declared.Target.{Target}
+use Rattle.lead.specs.declared.Target.{Target}
 use Rattle.translation.specs.declared.Translated.{Translated}
 use Rattle.translation.proofs.Demand.{faithful}
 

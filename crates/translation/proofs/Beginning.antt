@@ -5,21 +5,21 @@ use Prim.Native.Nat.{ℕ, zero, suc, _+_, _*_, _≤_}
 use native.Mathlib.Omega.{arith}
 use native.Mathlib.Numerals.{add-one}
 use lib.ListN.{length, take, length-append}
-use Rattle.routine.specs.Header.{width}
-use Rattle.routine.specs.Stands.{Fine}
-use Rattle.routine.specs.declared.Header.{Header}
+use Rattle.header.specs.Header.{width}
+use Rattle.command.specs.Sound.{Fine}
+use Rattle.header.specs.declared.Header.{Header}
 use Rattle.netlist.specs.Node.{Node}
 use Rattle.netlist.specs.Emit.{Emitted}
 use Rattle.netlist.specs.declared.Net.{Net}
 use Rattle.netlist.proofs.Emitting.{emitted-then}
-use Rattle.circuits.specs.Bits.{Filled, tabulate}
-use Rattle.circuits.specs.Input.{inputs, inBit, TakesInputs}
-use Rattle.circuits.proofs.Input.{length-inputs}
+use Rattle.bits.specs.Bits.{Filled, tabulate}
+use Rattle.bits.specs.Input.{inputs, inBit, TakesInputs}
+use Rattle.bits.proofs.Input.{length-inputs}
 use Rattle.translation.specs.Translation.{parameterNodes, parameterLits, start}
-use Rattle.translation.specs.Walker.{storing}
-use Rattle.translation.specs.declared.Wires.{Wires}
-use Rattle.translation.proofs.Ranges.{ranged}
-use Rattle.translation.proofs.Parts.{filled-table}
+use Rattle.wiring.specs.Makes.{storing}
+use Rattle.wiring.specs.declared.Wires.{Wires}
+use Rattle.wiring.proofs.Ranges.{ranged}
+use Rattle.operands.proofs.Parts.{filled-table}
 
 pub some-few : (bs : List ℕ) (h : Header) → Fine bs h → (p : ℕ) → p ≤ h .parameters → length (parameterNodes bs p) ≤ 32 * p
 unfolding parameterNodes

@@ -1,10 +1,10 @@
 -- How many variables a translation takes at most. Assumes nothing.
 use Rattle.clauses.specs.Clause.{flatten}
 use Rattle.clauses.proofs.Appending.{flatten-append}
-use Rattle.netlist.specs.Node.{nodeClauses, clausesOf}
+use Rattle.netlist.specs.Node.{nodeClauses, clausesOf, Node}
 use Rattle.netlist.proofs.Nodes.{clausesOf-few, clausesOf-short}
-use Rattle.translation.specs.Translation.{lastClauses, clausesOfAll}
-use Rattle.translation.specs.declared.Claim.{Claim}
+use Rattle.translation.specs.Translation.{lastClauses, clausesOfAll, parameterNodes, start, whole}
+use Rattle.wiring.specs.declared.Claim.{Claim}
 use mathlib.Core.Path.{_≡_, ap, subst, _∙_}
 use mathlib.Core.List.{List, [], _++_}
 use mathlib.Core.Bool.{Bool, true, false}
@@ -14,38 +14,39 @@ use native.Mathlib.Omega.{arith}
 use lib.ListN.{length, length-append}
 use lib.Dec.{eqb}
 use Rattle.slices.specs.Bytes.{entry}
-use Rattle.routine.specs.Header.{width, arraySize}
+use Rattle.header.specs.Header.{width, arraySize}
 use Rattle.routine.specs.Routine.{Arm, done, plain, fork}
 use Rattle.routine.specs.Decode.{routine, decode}
-use Rattle.routine.specs.Stands.{Stands, Sound, SoundIf, Fine}
-use Rattle.routine.specs.declared.Header.{Header}
-use Rattle.routine.specs.declared.Condition.{Condition}
-use Rattle.routine.specs.declared.Counts.{Counts}
-use Rattle.routine.specs.declared.Simple.{Simple}
+use Rattle.routine.specs.Stands.{Stands}
+use Rattle.command.specs.Sound.{Sound, SoundIf, Fine}
+use Rattle.header.specs.declared.Header.{Header}
+use Rattle.command.specs.declared.Condition.{Condition}
+use Rattle.command.specs.declared.Counts.{Counts}
+use Rattle.command.specs.declared.Simple.{Simple}
 use Rattle.routine.proofs.Views.{induction}
 use Rattle.routine.proofs.Accepted.{decoded}
-use Rattle.routine.proofs.Fine.{fine, compute-fine, read-fine, write-fine, condition-fine}
+use Rattle.command.proofs.Fine.{fine, compute-fine, read-fine, write-fine, condition-fine}
 use Rattle.routine.proofs.Counting.{few-ifs}
 use Rattle.netlist.specs.Literal.{opp}
-use Rattle.netlist.specs.Node.{Node}
 use Rattle.netlist.specs.Emit.{Ready}
 use Rattle.netlist.specs.declared.Net.{Net}
-use Rattle.circuits.specs.Bits.{Bits}
-use Rattle.circuits.specs.Adder.{adder, subtractor, oppBits}
+use Rattle.bits.specs.Bits.{Bits}
+use Rattle.adders.specs.Adder.{adder, subtractor, oppBits}
 use Rattle.circuits.specs.Product.{product}
 use Rattle.circuits.specs.Access.{aboveNodes}
-use Rattle.circuits.proofs.Adder.{length-adder}
+use Rattle.adders.proofs.Adder.{length-adder}
 use Rattle.circuits.proofs.Product.{product-short}
-use Rattle.circuits.proofs.Input.{length-inputs}
+use Rattle.bits.proofs.Input.{length-inputs}
 use Rattle.circuits.proofs.Join.{length-join}
 use Rattle.circuits.proofs.Access.{above-short}
 use Rattle.circuits.proofs.Relation.{relation-short}
-use Rattle.translation.specs.Wires.{bitsIn, bitsOf, arriving}
-use Rattle.translation.specs.Command.{Stretch, still, computeNodes, accessNodes, accessArrival, claimNodes, access, readInto, simple}
-use Rattle.translation.specs.Walk.{andThen, conditionNodes, conditionLit, armNodes, branchNodes, joinNodes, joined, forked, armOf}
-use Rattle.translation.specs.Translation.{parameterNodes, start, whole}
-use Rattle.translation.specs.declared.Target.{Target}
-use Rattle.translation.specs.declared.Wires.{Wires}
+use Rattle.wiring.specs.Wires.{bitsIn, bitsOf, arriving}
+use Rattle.wiring.specs.Command.{Stretch, still, access, readInto, simple}
+use Rattle.operands.specs.Operation.{computeNodes, accessNodes, accessArrival, claimNodes}
+use Rattle.translation.specs.Walk.{andThen, forked, armOf}
+use Rattle.wiring.specs.Branch.{conditionNodes, conditionLit, armNodes, branchNodes, joinNodes, joined}
+use Rattle.lead.specs.declared.Target.{Target}
+use Rattle.wiring.specs.declared.Wires.{Wires}
 use Rattle.translation.proofs.Stretches.{by-cond, then-by, access-by, fork-by, frontOf, firstFrom, firstWires, firstOf, secondFrom, secondWires, secondOf, joinFrom, joinOf}
 use Rattle.translation.proofs.Counted.{commandsIn, ifsIn, all-ifs, few-commands}
 

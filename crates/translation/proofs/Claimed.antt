@@ -7,22 +7,24 @@ use native.Mathlib.Omega.{arith}
 use lib.ListN.{length}
 use borrow.Author.Tests.{eqb-true, eqb-false}
 use Rattle.slices.specs.Bytes.{entry}
-use Rattle.routine.specs.Step.{accesses, after, oneIf}
+use Rattle.command.specs.Step.{accesses, after, oneIf}
 use Rattle.routine.specs.Routine.{Arm, done, plain, fork}
 use Rattle.routine.specs.Stands.{Stands}
-use Rattle.routine.specs.declared.Header.{Header}
-use Rattle.routine.specs.declared.Condition.{Condition}
-use Rattle.routine.specs.declared.Counts.{Counts}
-use Rattle.routine.specs.declared.Simple.{Simple}
+use Rattle.header.specs.declared.Header.{Header}
+use Rattle.command.specs.declared.Condition.{Condition}
+use Rattle.command.specs.declared.Counts.{Counts}
+use Rattle.command.specs.declared.Simple.{Simple}
 use Rattle.routine.proofs.Views.{induction}
-use Rattle.translation.specs.Wires.{claiming}
-use Rattle.translation.specs.Command.{Stretch, still, readInto, simple}
-use Rattle.translation.specs.Walk.{isMade, andThen, joined, forked, armOf}
-use Rattle.translation.specs.declared.Claim.{Claim}
-use Rattle.translation.specs.declared.Target.{Target}
-use Rattle.translation.specs.declared.Wires.{Wires}
+use Rattle.wiring.specs.Wires.{claiming, isMade}
+use Rattle.wiring.specs.Command.{Stretch, still, readInto, simple}
+use Rattle.translation.specs.Walk.{andThen, forked, armOf}
+use Rattle.wiring.specs.Branch.{joined}
+use Rattle.wiring.specs.declared.Claim.{Claim}
+use Rattle.lead.specs.declared.Target.{Target}
+use Rattle.wiring.specs.declared.Wires.{Wires}
 use Rattle.translation.proofs.Numbers.{after-grows, accesses-grow}
-use Rattle.translation.proofs.Stretches.{not-both, then-by, access-by, fork-by, firstFrom, firstWires, firstOf, secondFrom, secondWires, secondOf}
+use Rattle.command.proofs.Tests.{not-both}
+use Rattle.translation.proofs.Stretches.{then-by, access-by, fork-by, firstFrom, firstWires, firstOf, secondFrom, secondWires, secondOf}
 
 pub open-of : (c : Claim) → isMade c ≡ false → c ≡ Claim.Open
 open-of Claim.Open e = refl

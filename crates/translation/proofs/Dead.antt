@@ -6,19 +6,21 @@ use Prim.Native.Nat.{ℕ, _+_}
 use lib.ListN.{length}
 use lib.Dec.{eqb}
 use Rattle.slices.specs.Bytes.{entry}
-use Rattle.routine.specs.Header.{width, arraySize}
+use Rattle.header.specs.Header.{width, arraySize}
 use Rattle.routine.specs.Routine.{Arm, done, plain, fork}
-use Rattle.routine.specs.declared.Header.{Header}
-use Rattle.routine.specs.declared.Condition.{Condition}
-use Rattle.routine.specs.declared.Counts.{Counts}
-use Rattle.routine.specs.declared.Simple.{Simple}
+use Rattle.header.specs.declared.Header.{Header}
+use Rattle.command.specs.declared.Condition.{Condition}
+use Rattle.command.specs.declared.Counts.{Counts}
+use Rattle.command.specs.declared.Simple.{Simple}
 use Rattle.netlist.specs.Meaning.{Assign, Inputs, lit}
 use Rattle.netlist.proofs.Truth.{Models, models-append}
-use Rattle.translation.specs.Wires.{bitsOf}
-use Rattle.translation.specs.Command.{Stretch, still, accessNodes, accessArrival, readInto, simple}
-use Rattle.translation.specs.Walk.{forked, armOf, conditionNodes, conditionLit, branchNodes}
-use Rattle.translation.specs.declared.Target.{Target}
-use Rattle.translation.specs.declared.Wires.{Wires}
+use Rattle.wiring.specs.Wires.{bitsOf}
+use Rattle.wiring.specs.Command.{Stretch, still, readInto, simple}
+use Rattle.operands.specs.Operation.{accessNodes, accessArrival}
+use Rattle.translation.specs.Walk.{forked, armOf}
+use Rattle.wiring.specs.Branch.{conditionNodes, conditionLit, branchNodes}
+use Rattle.lead.specs.declared.Target.{Target}
+use Rattle.wiring.specs.declared.Wires.{Wires}
 use Rattle.translation.proofs.Gates.{models-three, access-lit, first-lit, else-lit, joined-lit}
 use Rattle.translation.proofs.Stretches.{then-by, access-by, fork-by, firstFrom, firstWires, firstOf, secondFrom, secondWires, secondOf, joinFrom, joinOf}
 

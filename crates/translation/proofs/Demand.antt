@@ -8,42 +8,44 @@ use native.Mathlib.Omega.{arith}
 use lib.ListN.{length}
 use Rattle.slices.specs.Bytes.{entry}
 use Rattle.bitvec.specs.declared.Whole.{Whole}
-use Rattle.routine.specs.Header.{arraySize, firstCommand}
-use Rattle.routine.specs.Step.{accesses}
+use Rattle.header.specs.Header.{arraySize, firstCommand}
+use Rattle.command.specs.Step.{accesses}
 use Rattle.routine.specs.Routine.{Arm}
 use Rattle.routine.specs.Decode.{routine, decode, noCounts}
-use Rattle.routine.specs.Stands.{Stands, Fine}
-use Rattle.routine.specs.declared.Header.{Header}
-use Rattle.routine.specs.declared.Counts.{Counts}
+use Rattle.routine.specs.Stands.{Stands}
+use Rattle.command.specs.Sound.{Fine}
+use Rattle.header.specs.declared.Header.{Header}
+use Rattle.command.specs.declared.Counts.{Counts}
 use Rattle.routine.proofs.Accepted.{decoded}
-use Rattle.routine.proofs.Fine.{fine}
+use Rattle.command.proofs.Fine.{fine}
 use Rattle.run.specs.Inputs.{listed}
-use Rattle.run.specs.State as state
-use Rattle.run.specs.State.{lies}
+use Rattle.machine.specs.State as state
+use Rattle.machine.specs.State.{lies}
 use Rattle.run.specs.Run.{runOf}
 use Rattle.run.specs.declared.Listed.{Listed}
-use Rattle.run.specs.declared.Lies.{Lies}
-use Rattle.run.specs.declared.State.{State}
+use Rattle.machine.specs.declared.Lies.{Lies}
+use Rattle.machine.specs.declared.State.{State}
 use Rattle.netlist.specs.Node.{Node}
 use Rattle.netlist.specs.Meaning.{Assign, Inputs, lit, nodeVal}
 use Rattle.netlist.proofs.Literals.{lit-true}
 use Rattle.netlist.proofs.Model.{WellFormed, valueAt, eval, satisfied-iff, evaluated}
 use Rattle.netlist.proofs.Truth.{Models, models-iff, models-append}
-use Rattle.translation.specs.Command.{Stretch}
-use Rattle.translation.specs.Walk.{isMade, armOf}
+use Rattle.wiring.specs.Command.{Stretch}
+use Rattle.wiring.specs.Wires.{isMade}
+use Rattle.translation.specs.Walk.{armOf}
 use Rattle.translation.specs.Translation.{parameterNodes, start, whole}
 use Rattle.translation.specs.Course.{Course, arrived, sideOf}
 use Rattle.translation.specs.Faithful.{bitsOfList, Solves, courseOf, Arrives, Faithful}
-use Rattle.translation.specs.declared.Claim.{Claim}
-use Rattle.translation.specs.declared.Target.{Target}
-use Rattle.translation.specs.declared.Wires.{Wires}
+use Rattle.wiring.specs.declared.Claim.{Claim}
+use Rattle.lead.specs.declared.Target.{Target}
+use Rattle.wiring.specs.declared.Wires.{Wires}
 use Rattle.translation.proofs.Alive.{arm-alive}
 use Rattle.translation.proofs.Claimed.{MadeBy, made-by, arm-claims, arm-settled}
 use Rattle.translation.proofs.Fitting.{Fitting, fitting}
 use Rattle.translation.proofs.Formed.{whole-formed}
 use Rattle.translation.proofs.Numbers.{Elsewhere}
 use Rattle.translation.proofs.Simples.{Alive}
-use Rattle.translation.proofs.Stretches.{not-both}
+use Rattle.command.proofs.Tests.{not-both}
 use Rattle.translation.proofs.Tally.{Tally, through, lost, missed, here}
 use Rattle.translation.proofs.Worth.{parameters-worth}
 

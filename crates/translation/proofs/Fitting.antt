@@ -10,14 +10,14 @@ use lib.ListN.{length}
 use lib.Dec.{ltb, eqb}
 use borrow.Author.Tests.{ltb-true}
 use Rattle.slices.specs.Bytes.{entry}
-use Rattle.routine.specs.Header.{width}
-use Rattle.routine.specs.Step.{after}
+use Rattle.header.specs.Header.{width}
+use Rattle.command.specs.Step.{after}
 use Rattle.routine.specs.Routine.{Arm, done, plain, fork, textOf}
 use Rattle.routine.specs.Decode.{routine, decode, noCounts}
 use Rattle.routine.specs.Stands.{Stands}
-use Rattle.routine.specs.declared.Header.{Header}
-use Rattle.routine.specs.declared.Counts.{Counts}
-use Rattle.routine.specs.declared.Simple.{Simple}
+use Rattle.header.specs.declared.Header.{Header}
+use Rattle.command.specs.declared.Counts.{Counts}
+use Rattle.command.specs.declared.Simple.{Simple}
 use Rattle.routine.proofs.Accepted.{decoded}
 use Rattle.routine.proofs.Views.{induction}
 use Rattle.run.specs.Inputs.{variablesFrom, joined, readBySimple, readVariables, firstGreat, listed}

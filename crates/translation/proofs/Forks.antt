@@ -9,32 +9,34 @@ use lib.ListN.{length}
 use lib.Dec.{eqb}
 use Rattle.slices.specs.Bytes.{entry}
 use Rattle.bitvec.specs.Relation.{relates}
-use Rattle.routine.specs.Header.{width}
-use Rattle.routine.specs.Stands.{SoundIf, Fine}
-use Rattle.routine.specs.declared.Header.{Header}
-use Rattle.routine.specs.declared.Condition.{Condition}
-use Rattle.routine.proofs.Fine.{condition-fine}
-use Rattle.run.specs.State.{take, holds}
+use Rattle.header.specs.Header.{width}
+use Rattle.command.specs.Sound.{SoundIf, Fine}
+use Rattle.header.specs.declared.Header.{Header}
+use Rattle.command.specs.declared.Condition.{Condition}
+use Rattle.command.proofs.Fine.{condition-fine}
+use Rattle.machine.specs.State.{take, holds}
 use Rattle.run.specs.Run as run
 use Rattle.run.specs.Run.{took}
-use Rattle.run.specs.declared.State.{State}
+use Rattle.machine.specs.declared.State.{State}
 use Rattle.netlist.specs.Meaning.{Assign, Inputs, lit}
 use Rattle.netlist.proofs.Truth.{Models, models-append}
-use Rattle.circuits.proofs.Values.{value}
+use Rattle.bits.proofs.Values.{value}
 use Rattle.circuits.proofs.Relation.{relation-value}
-use Rattle.translation.specs.Wires.{bitsOf, arriving}
-use Rattle.translation.specs.Command.{Stretch}
-use Rattle.translation.specs.Walk.{isMade, conditionNodes, conditionLit, branchNodes, firstLit, elseLit, joined, forked}
+use Rattle.wiring.specs.Wires.{bitsOf, arriving, isMade}
+use Rattle.wiring.specs.Command.{Stretch}
+use Rattle.wiring.specs.Branch.{conditionNodes, conditionLit, branchNodes, firstLit, elseLit, joined}
+use Rattle.translation.specs.Walk.{forked}
 use Rattle.translation.specs.Course.{Course, astray, follows, course}
 use Rattle.translation.specs.Faithful.{bitsOfList}
-use Rattle.translation.specs.declared.Claim.{Claim}
-use Rattle.translation.specs.declared.Target.{Target}
-use Rattle.translation.specs.declared.Wires.{Wires}
+use Rattle.wiring.specs.declared.Claim.{Claim}
+use Rattle.lead.specs.declared.Target.{Target}
+use Rattle.wiring.specs.declared.Wires.{Wires}
 use Rattle.translation.proofs.Dead.{Deadens}
 use Rattle.translation.proofs.Gates.{models-three, first-lit, else-lit, joined-lit, joined-gates}
 use Rattle.translation.proofs.Numbers.{Elsewhere}
 use Rattle.translation.proofs.Simples.{Alive}
-use Rattle.translation.proofs.Stretches.{not-both, by-cond, fork-by, afterCondition, firstFrom, firstWires, firstOf, secondFrom, secondWires, secondOf, joinFrom, joinOf}
+use Rattle.command.proofs.Tests.{not-both}
+use Rattle.translation.proofs.Stretches.{by-cond, fork-by, afterCondition, firstFrom, firstWires, firstOf, secondFrom, secondWires, secondOf, joinFrom, joinOf}
 use Rattle.translation.proofs.Tally.{Tally, through, lost, missed, here, Tallies, not-here, ended-elsewhere}
 use Rattle.translation.proofs.Worth.{Worth, join-first, join-second}
 

@@ -8,41 +8,44 @@ use native.Mathlib.Omega.{arith}
 use lib.ListN.{length, length-append, getD, getD-replicate}
 use lib.Dec.{eqb}
 use Rattle.slices.specs.Bytes.{entry}
-use Rattle.routine.specs.Header.{width, arraySize}
+use Rattle.header.specs.Header.{width, arraySize}
 use Rattle.routine.specs.Routine.{Arm}
-use Rattle.routine.specs.Stands.{Stands, Sound, SoundIf, Fine}
-use Rattle.routine.specs.declared.Header.{Header}
-use Rattle.routine.specs.declared.Condition.{Condition}
-use Rattle.routine.specs.declared.Counts.{Counts}
-use Rattle.routine.specs.declared.Simple.{Simple}
+use Rattle.routine.specs.Stands.{Stands}
+use Rattle.command.specs.Sound.{Sound, SoundIf, Fine}
+use Rattle.header.specs.declared.Header.{Header}
+use Rattle.command.specs.declared.Condition.{Condition}
+use Rattle.command.specs.declared.Counts.{Counts}
+use Rattle.command.specs.declared.Simple.{Simple}
 use Rattle.routine.proofs.Views.{induction}
-use Rattle.routine.proofs.Fine.{convert-fine, compute-fine, read-fine, write-fine, condition-fine}
+use Rattle.command.proofs.Fine.{convert-fine, compute-fine, read-fine, write-fine, condition-fine}
 use Rattle.netlist.specs.Literal.{opp, pos}
 use Rattle.netlist.specs.Node.{Node, one, and}
 use Rattle.netlist.proofs.Model.{Before, WellFormed}
 use Rattle.netlist.proofs.Formed.{before-later, before-opp, before-pos, before-neg, formed-append}
-use Rattle.circuits.specs.Bits.{Bits}
-use Rattle.circuits.specs.Adder.{adder, subtractor, sumBit, oppBits}
+use Rattle.bits.specs.Bits.{Bits}
+use Rattle.adders.specs.Adder.{adder, subtractor, sumBit, oppBits}
 use Rattle.circuits.specs.Product.{product, accBit}
-use Rattle.circuits.specs.Extend.{constBit}
-use Rattle.circuits.specs.Input.{inputs, inBit}
+use Rattle.bits.specs.Extend.{constBit}
+use Rattle.bits.specs.Input.{inputs, inBit}
 use Rattle.circuits.specs.Join.{join, joinBit}
 use Rattle.circuits.specs.Access.{aboveNodes, aboveLit}
-use Rattle.circuits.proofs.Values.{AllBefore}
-use Rattle.circuits.proofs.Adder.{length-adder, adder-formed, subtractor-formed, sum-before}
+use Rattle.bits.proofs.Values.{AllBefore}
+use Rattle.adders.proofs.Adder.{length-adder, adder-formed, subtractor-formed, sum-before}
 use Rattle.circuits.proofs.Product.{product-formed, product-before}
-use Rattle.circuits.proofs.Extend.{const-before, extend-before}
-use Rattle.circuits.proofs.Input.{length-inputs, inputs-formed, input-before}
+use Rattle.bits.proofs.Extend.{const-before, extend-before}
+use Rattle.bits.proofs.Input.{length-inputs, inputs-formed, input-before}
 use Rattle.circuits.proofs.Join.{join-formed, join-before}
 use Rattle.circuits.proofs.Access.{above-formed, above-before}
 use Rattle.circuits.proofs.Relation.{relation-formed, relation-before}
-use Rattle.translation.specs.Wires.{bitsIn, bitsPut, bitsOf, put, arriving}
-use Rattle.translation.specs.Command.{Stretch, after, still, convertBits, computeNodes, computeBits, top, accessNodes, accessArrival, claimNodes, claimLit, access, readInto, simple}
-use Rattle.translation.specs.Walk.{andThen, conditionNodes, conditionLit, armNodes, armLit, branchNodes, firstLit, elseLit, joinNodes, joinLits, joined, forked, armOf}
+use Rattle.wiring.specs.Wires.{bitsIn, bitsPut, bitsOf, put, arriving}
+use Rattle.wiring.specs.Command.{Stretch, after, still, access, readInto, simple}
+use Rattle.operands.specs.Operation.{convertBits, computeNodes, computeBits, top, accessNodes, accessArrival, claimNodes, claimLit}
+use Rattle.translation.specs.Walk.{andThen, forked, armOf}
+use Rattle.wiring.specs.Branch.{conditionNodes, conditionLit, armNodes, armLit, branchNodes, firstLit, elseLit, joinNodes, joinLits, joined}
 use Rattle.translation.specs.Translation.{parameterNodes, parameterLits, start, whole}
-use Rattle.translation.specs.declared.Claim.{Claim}
-use Rattle.translation.specs.declared.Target.{Target}
-use Rattle.translation.specs.declared.Wires.{Wires}
+use Rattle.wiring.specs.declared.Claim.{Claim}
+use Rattle.lead.specs.declared.Target.{Target}
+use Rattle.wiring.specs.declared.Wires.{Wires}
 use Rattle.translation.proofs.Places.{bits-place, put-length, put-keeps}
 use Rattle.translation.proofs.Stretches.{by-cond, then-by, access-by, fork-by, firstFrom, firstWires, firstOf, secondFrom, secondWires, secondOf, joinFrom, joinOf}
 

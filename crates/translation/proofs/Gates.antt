@@ -7,17 +7,17 @@ use native.Mathlib.Nat.{add-assoc}
 use native.Mathlib.Numerals.{add-one}
 use lib.ListN.{length, length-append}
 use lib.Dec.{eqb}
-use Rattle.routine.specs.declared.Header.{Header}
+use Rattle.header.specs.declared.Header.{Header}
 use Rattle.netlist.specs.Literal.{opp, pos}
 use Rattle.netlist.specs.Node.{Node, and}
 use Rattle.netlist.specs.Meaning.{Assign, Inputs, lit, nodeVal}
 use Rattle.netlist.proofs.Literals.{lit-pos, lit-neg, lit-opp, lit-false}
 use Rattle.netlist.proofs.Truth.{Models, models-append}
-use Rattle.circuits.specs.Bits.{Bits}
+use Rattle.bits.specs.Bits.{Bits}
 use Rattle.circuits.specs.Access.{aboveNodes, aboveLit}
-use Rattle.translation.specs.Command.{top, accessNodes, accessArrival}
-use Rattle.translation.specs.Walk.{armNodes, armLit, branchNodes, firstLit, elseLit, joinNodes, joined}
-use Rattle.translation.specs.declared.Wires.{Wires}
+use Rattle.operands.specs.Operation.{top, accessNodes, accessArrival}
+use Rattle.wiring.specs.Branch.{armNodes, armLit, branchNodes, firstLit, elseLit, joinNodes, joined}
+use Rattle.wiring.specs.declared.Wires.{Wires}
 
 module _ (ins : Inputs) (ρ : Assign) where
   -- three stretches one after the other

@@ -1,7 +1,4 @@
 -- What the proofs of several functions use, and the laws for the layers above.
-mod Parts
-mod Accessing
-mod Ranges
 mod Admitting
 pub mod Places
 pub mod Stretches
@@ -21,8 +18,6 @@ pub mod Demand
 pub mod Answered
 pub mod Counted
 pub mod Bound
-mod Commanding
-mod Branching
 mod Beginning
 mod Translating
 mod Making

@@ -6,14 +6,14 @@ use Prim.Native.Nat.{ℕ, _+_, _-_, _≤_}
 use native.Mathlib.Nat.{zero-add}
 use native.Mathlib.Omega.{arith}
 use lib.ListN.{length}
-use Rattle.routine.specs.Header.{firstCommand}
+use Rattle.header.specs.Header.{firstCommand}
 use Rattle.routine.specs.Routine.{Arm}
 use Rattle.routine.specs.Decode.{routine, decode, noCounts, IsRoutine}
-use Rattle.routine.specs.Stands.{Fine}
-use Rattle.routine.specs.declared.Header.{Header}
-use Rattle.routine.specs.declared.Counts.{Counts}
+use Rattle.command.specs.Sound.{Fine}
+use Rattle.header.specs.declared.Header.{Header}
+use Rattle.command.specs.declared.Counts.{Counts}
 use Rattle.routine.proofs.Accepted.{decoded}
-use Rattle.routine.proofs.Fine.{fine}
+use Rattle.command.proofs.Fine.{fine}
 use Rattle.clauses.specs.Clause.{Clause, Appended, Room}
 use Rattle.clauses.specs.declared.Store.{Store}
 use Rattle.clauses.proofs.Appending.{appended-then, appended-words-length, appended-starts-length, room-weaken}
@@ -21,15 +21,16 @@ use Rattle.netlist.specs.Node.{one, nodeClauses, clausesOf}
 use Rattle.netlist.specs.Emit.{Emitted, Ready}
 use Rattle.netlist.specs.declared.Net.{Net}
 use Rattle.netlist.proofs.Emitting.{emitted-then, emitted-words-length, emitted-starts-length, ready-after, ready-room}
-use Rattle.translation.specs.Command.{Stretch, after}
-use Rattle.translation.specs.Walk.{isMade, armOf}
+use Rattle.wiring.specs.Command.{Stretch, after}
+use Rattle.wiring.specs.Wires.{isMade}
+use Rattle.translation.specs.Walk.{armOf}
 use Rattle.translation.specs.Translation.{parameterNodes, start, whole, lastClauses, clausesOfAll, sizeOf}
 use Rattle.translation.specs.Walker.{walkAt, Arrives, Roomy, ArmMade, ArmRoom, Begun, WholeMade}
 use Rattle.translation.specs.declared.Size.{Size}
-use Rattle.translation.specs.declared.Target.{Target}
-use Rattle.translation.specs.declared.Wires.{Wires}
+use Rattle.lead.specs.declared.Target.{Target}
+use Rattle.wiring.specs.declared.Wires.{Wires}
 use Rattle.translation.specs.declared.Walk.{Walk}
-use Rattle.translation.specs.declared.Made.{Made}
+use Rattle.wiring.specs.declared.Made.{Made}
 use Rattle.translation.proofs.Bound.{parameters-few, roomy}
 
 -- nothing is stored yet

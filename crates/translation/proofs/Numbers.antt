@@ -9,19 +9,19 @@ use lib.Dec.{eqb}
 use borrow.Author.Tests.{ne-eqb}
 use Rattle.slices.specs.Bytes.{entry}
 use Rattle.bitvec.specs.declared.Whole.{Whole}
-use Rattle.routine.specs.Step.{accesses, after, oneIf}
+use Rattle.command.specs.Step.{accesses, after, oneIf}
 use Rattle.routine.specs.Routine.{Arm}
 use Rattle.routine.specs.Stands.{Stands}
-use Rattle.routine.specs.declared.Header.{Header}
-use Rattle.routine.specs.declared.Counts.{Counts}
-use Rattle.routine.specs.declared.Simple.{Simple}
+use Rattle.header.specs.declared.Header.{Header}
+use Rattle.command.specs.declared.Counts.{Counts}
+use Rattle.command.specs.declared.Simple.{Simple}
 use Rattle.routine.proofs.Views.{induction}
-use Rattle.run.specs.State.{take, holds, carry}
+use Rattle.machine.specs.State.{take, holds, carry}
 use Rattle.run.specs.Run as run
 use Rattle.run.specs.Run.{Event, took, came, unlessStopped, eventsAt, runArm}
-use Rattle.run.specs.declared.Outcome.{Outcome}
-use Rattle.run.specs.declared.Side.{Side}
-use Rattle.run.specs.declared.State.{State}
+use Rattle.machine.specs.declared.Outcome.{Outcome}
+use Rattle.machine.specs.declared.Side.{Side}
+use Rattle.machine.specs.declared.State.{State}
 use Rattle.translation.specs.Course.{Course, astray, passing, arrived, follows, course}
 use Rattle.translation.proofs.Stretches.{by-cond}
 

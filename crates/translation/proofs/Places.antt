@@ -7,10 +7,10 @@ use native.Mathlib.Nat.{add-zero, add-suc, suc-add}
 use native.Mathlib.Omega.{arith}
 use lib.ListN.{length, getD, set, length-set}
 use lib.Seq.{sets, length-sets, getD-set-same, getD-set-other, getD-take, getD-drop}
-use Rattle.routine.specs.Header.{width}
-use Rattle.circuits.specs.Bits.{Bits, tabulate}
-use Rattle.circuits.proofs.Values.{order, length-tabulate, getD-tabulate}
-use Rattle.translation.specs.Wires.{bitsIn, bitsPut}
+use Rattle.header.specs.Header.{width}
+use Rattle.bits.specs.Bits.{Bits, tabulate}
+use Rattle.bits.proofs.Values.{order, length-tabulate, getD-tabulate}
+use Rattle.wiring.specs.Wires.{bitsIn, bitsPut}
 
 -- ---- a list laid over another, from place i on
 

@@ -8,17 +8,17 @@ use native.Mathlib.Omega.{arith}
 use lib.Dec.{ltb, leb}
 use Rattle.bitvec.specs.Signed.{signed}
 use Rattle.bitvec.specs.declared.Whole.{Whole}
-use Rattle.run.specs.State.{lies}
-use Rattle.run.specs.declared.Lies.{Lies}
-use Rattle.run.specs.declared.Side.{Side}
-use Rattle.run.specs.declared.Side.the-variants.{Below, Above}
+use Rattle.machine.specs.State.{lies}
+use Rattle.machine.specs.declared.Lies.{Lies}
+use Rattle.machine.specs.declared.Side.{Side}
+use Rattle.machine.specs.declared.Side.the-variants.{Below, Above}
 use Rattle.netlist.specs.Meaning.{Assign, Inputs, lit}
 use Rattle.netlist.proofs.Truth.{Models}
-use Rattle.circuits.specs.Bits.{Bits}
+use Rattle.bits.specs.Bits.{Bits}
 use Rattle.circuits.specs.Access.{aboveNodes, aboveLit}
-use Rattle.circuits.proofs.Values.{not-less, value, value-lt, top-value}
+use Rattle.bits.proofs.Values.{not-less, value, value-lt, top-value}
 use Rattle.circuits.proofs.Access.{above-value}
-use Rattle.translation.specs.Command.{top, claimNodes, claimLit}
+use Rattle.operands.specs.Operation.{top, claimNodes, claimLit}
 use Rattle.translation.specs.Course.{sideOf}
 
 -- not negative and below the size, at or above it, or negative: p says that the index is not negative, q that it is not below the size

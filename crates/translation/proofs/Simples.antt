@@ -12,39 +12,40 @@ use Rattle.slices.specs.Bytes.{entry}
 use Rattle.bitvec.specs.Word.{add, subtract, multiply, cut, zeroExtend}
 use Rattle.bitvec.specs.Signed.{signed, signExtend}
 use Rattle.bitvec.specs.declared.Whole.{Whole}
-use Rattle.routine.specs.Header.{width, arraySize}
-use Rattle.routine.specs.Step.{accesses, converts, widthsFit}
-use Rattle.routine.specs.Stands.{Sound, Fine}
-use Rattle.routine.specs.declared.Header.{Header}
-use Rattle.routine.specs.declared.Counts.{Counts}
-use Rattle.routine.specs.declared.Simple.{Simple}
-use Rattle.routine.proofs.Fine.{set-fine, convert-fine, compute-fine, read-fine, write-fine}
-use Rattle.run.specs.State as state
-use Rattle.run.specs.State.{converted, computed, indexOf, lies, arrive, accessed, carry}
+use Rattle.header.specs.Header.{width, arraySize}
+use Rattle.command.specs.Step.{accesses, converts, widthsFit}
+use Rattle.command.specs.Sound.{Sound, Fine}
+use Rattle.header.specs.declared.Header.{Header}
+use Rattle.command.specs.declared.Counts.{Counts}
+use Rattle.command.specs.declared.Simple.{Simple}
+use Rattle.command.proofs.Fine.{set-fine, convert-fine, compute-fine, read-fine, write-fine}
+use Rattle.machine.specs.State as state
+use Rattle.machine.specs.State.{converted, computed, indexOf, lies, arrive, accessed, carry}
 use Rattle.run.specs.Run.{came, eventsAt}
-use Rattle.run.specs.declared.Lies.{Lies}
-use Rattle.run.specs.declared.Outcome.{Outcome}
-use Rattle.run.specs.declared.State.{State}
+use Rattle.machine.specs.declared.Lies.{Lies}
+use Rattle.machine.specs.declared.Outcome.{Outcome}
+use Rattle.machine.specs.declared.State.{State}
 use Rattle.netlist.specs.Node.{Node}
 use Rattle.netlist.specs.Meaning.{Assign, Inputs, lit}
 use Rattle.netlist.proofs.Truth.{Models, models-append}
-use Rattle.circuits.specs.Bits.{Bits}
-use Rattle.circuits.specs.Adder.{adder, subtractor, sumBit}
+use Rattle.bits.specs.Bits.{Bits}
+use Rattle.adders.specs.Adder.{adder, subtractor, sumBit}
 use Rattle.circuits.specs.Product.{product, accBit}
-use Rattle.circuits.specs.Extend.{constBit, extend}
-use Rattle.circuits.specs.Input.{inBit}
-use Rattle.circuits.proofs.Values.{value}
-use Rattle.circuits.proofs.Adder.{sum-word, difference-word}
+use Rattle.bits.specs.Extend.{constBit, extend}
+use Rattle.bits.specs.Input.{inBit}
+use Rattle.bits.proofs.Values.{value}
+use Rattle.adders.proofs.Adder.{sum-word, difference-word}
 use Rattle.circuits.proofs.Product.{product-word}
-use Rattle.circuits.proofs.Extend.{const-word, cut-word, zero-extend-word, sign-extend-word}
-use Rattle.circuits.proofs.Input.{input-word}
-use Rattle.translation.specs.Wires.{bitsOf, put, arriving, claiming}
-use Rattle.translation.specs.Command.{Stretch, still, convertBits, computeNodes, computeBits, accessNodes, accessArrival, claimNodes, claimLit, access, readInto, simple}
+use Rattle.bits.proofs.Extend.{const-word, cut-word, zero-extend-word, sign-extend-word}
+use Rattle.bits.proofs.Input.{input-word}
+use Rattle.wiring.specs.Wires.{bitsOf, put, arriving, claiming}
+use Rattle.wiring.specs.Command.{Stretch, still, access, readInto, simple}
+use Rattle.operands.specs.Operation.{convertBits, computeNodes, computeBits, accessNodes, accessArrival, claimNodes, claimLit}
 use Rattle.translation.specs.Course.{Course, passing, arrived, course}
 use Rattle.translation.specs.Faithful.{bitsOfList}
-use Rattle.translation.specs.declared.Claim.{Claim}
-use Rattle.translation.specs.declared.Target.{Target}
-use Rattle.translation.specs.declared.Wires.{Wires}
+use Rattle.wiring.specs.declared.Claim.{Claim}
+use Rattle.lead.specs.declared.Target.{Target}
+use Rattle.wiring.specs.declared.Wires.{Wires}
 use Rattle.translation.proofs.Fitting.{FitSimple}
 use Rattle.translation.proofs.Gates.{access-lit, access-above}
 use Rattle.translation.proofs.Sides.{Entered, within, outside, inside-says, side-says}

@@ -8,8 +8,8 @@ use lib.Seq.{sets, set-append-left, length-take-le}
 use borrow.Author.Tests.{le-leb, lt-leb}
 use Rattle.routine.specs.Routine.{Arm}
 use Rattle.routine.specs.Decode.{routine, decode}
-use Rattle.routine.specs.declared.Header.{Header}
-use Rattle.routine.specs.declared.Counts.{Counts}
+use Rattle.header.specs.declared.Header.{Header}
+use Rattle.command.specs.declared.Counts.{Counts}
 use Rattle.clauses.specs.Clause.{flatten, offsets}
 use Rattle.clauses.proofs.Appending.{length-offsets}
 use Rattle.translation.specs.Translation.{whole, clausesOfAll, sizeOf}
@@ -18,7 +18,7 @@ use Rattle.translation.specs.Answer.{usable, Fitted}
 use Rattle.translation.specs.declared.Buffer.{Buffer}
 use Rattle.translation.specs.declared.Refusal.{Refusal}
 use Rattle.translation.specs.declared.Size.{Size}
-use Rattle.translation.specs.declared.Target.{Target}
+use Rattle.lead.specs.declared.Target.{Target}
 use Rattle.translation.specs.declared.Translated.{Translated}
 
 -- ---- an overlay within the first k entries

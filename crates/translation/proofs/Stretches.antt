@@ -3,32 +3,29 @@ use mathlib.Core.Path.{_≡_, refl, _∙_}
 use mathlib.Core.List.{List, _++_}
 use mathlib.Core.Bool.{Bool, true, false, cond}
 use Prim.Native.Nat.{ℕ, zero, suc, _+_}
-use native.Mathlib.Omega.{arith}
 use lib.ListN.{length}
 use lib.Dec.{eqb}
 use Rattle.slices.specs.Bytes.{entry}
-use Rattle.routine.specs.Header.{width, arraySize}
-use Rattle.routine.specs.Step.{accesses}
+use Rattle.header.specs.Header.{width, arraySize}
+use Rattle.command.specs.Step.{accesses}
 use Rattle.routine.specs.Routine.{Arm, done, plain, fork}
-use Rattle.routine.specs.declared.Header.{Header}
-use Rattle.routine.specs.declared.Condition.{Condition}
-use Rattle.routine.specs.declared.Counts.{Counts}
-use Rattle.routine.specs.declared.Simple.{Simple}
+use Rattle.header.specs.declared.Header.{Header}
+use Rattle.command.specs.declared.Condition.{Condition}
+use Rattle.command.specs.declared.Counts.{Counts}
+use Rattle.command.specs.declared.Simple.{Simple}
 use Rattle.netlist.specs.Node.{Node}
-use Rattle.circuits.specs.Extend.{constBit}
-use Rattle.circuits.specs.Input.{inBit}
-use Rattle.translation.specs.Wires.{bitsOf, arriving, claiming}
-use Rattle.translation.specs.Command.{Stretch, after, still, accessNodes, accessArrival, claimNodes, claimLit, access, simple, convertBits, computeBits, readInto}
-use Rattle.translation.specs.Walk.{isMade, andThen, joinLits, joined, forked, armOf, conditionNodes, conditionLit, branchNodes, firstLit, elseLit}
-use Rattle.translation.specs.declared.Target.{Target}
-use Rattle.translation.specs.declared.Wires.{Wires}
+use Rattle.bits.specs.Extend.{constBit}
+use Rattle.bits.specs.Input.{inBit}
+use Rattle.wiring.specs.Wires.{bitsOf, arriving, claiming, isMade}
+use Rattle.wiring.specs.Command.{Stretch, after, still, access, simple, readInto}
+use Rattle.operands.specs.Operation.{accessNodes, accessArrival, claimNodes, claimLit, convertBits, computeBits}
+use Rattle.translation.specs.Walk.{andThen, forked, armOf}
+use Rattle.wiring.specs.Branch.{joinLits, joined, conditionNodes, conditionLit, branchNodes, firstLit, elseLit}
+use Rattle.lead.specs.declared.Target.{Target}
+use Rattle.wiring.specs.declared.Wires.{Wires}
 use Rattle.translation.proofs.Places.{put-length}
 
 -- ---- by cases
-
--- a test has one answer
-pub not-both : {A : Type 0} (b : Bool) → b ≡ true → b ≡ false → A
-not-both b e f = let z : _≡_ {A = ℕ} 0 1 = cc in absurd (omega arith)
 
 pub by-cond : {A : Type 0} (Q : A → Type 0) (b : Bool) (x y : A) → (b ≡ true → Q x) → (b ≡ false → Q y) → Q (cond b x y)
 by-cond Q true x y p q = p refl

@@ -7,25 +7,26 @@ use mathlib.Core.Bool.{Bool, true, false, cond}
 use Prim.Native.Nat.{ℕ, _+_}
 use lib.ListN.{length}
 use Rattle.bitvec.specs.declared.Whole.{Whole}
-use Rattle.routine.specs.Header.{arraySize}
-use Rattle.routine.specs.Stands.{Fine}
-use Rattle.routine.specs.declared.Header.{Header}
-use Rattle.run.specs.State.{lies}
+use Rattle.header.specs.Header.{arraySize}
+use Rattle.command.specs.Sound.{Fine}
+use Rattle.header.specs.declared.Header.{Header}
+use Rattle.machine.specs.State.{lies}
 use Rattle.run.specs.Run as run
 use Rattle.run.specs.Walker.{isOver}
-use Rattle.run.specs.declared.Lies.{Lies}
-use Rattle.run.specs.declared.Outcome.{Outcome}
-use Rattle.run.specs.declared.State.{State}
+use Rattle.machine.specs.declared.Lies.{Lies}
+use Rattle.machine.specs.declared.Outcome.{Outcome}
+use Rattle.machine.specs.declared.State.{State}
 use Rattle.netlist.specs.Meaning.{Assign, lit}
-use Rattle.translation.specs.Command.{Stretch, after}
-use Rattle.translation.specs.Walk.{isMade, andThen}
+use Rattle.wiring.specs.Command.{Stretch, after}
+use Rattle.wiring.specs.Wires.{isMade}
+use Rattle.translation.specs.Walk.{andThen}
 use Rattle.translation.specs.Course.{Course, astray, passing, arrived, course, sideOf}
-use Rattle.translation.specs.declared.Claim.{Claim}
-use Rattle.translation.specs.declared.Target.{Target}
-use Rattle.translation.specs.declared.Wires.{Wires}
+use Rattle.wiring.specs.declared.Claim.{Claim}
+use Rattle.lead.specs.declared.Target.{Target}
+use Rattle.wiring.specs.declared.Wires.{Wires}
 use Rattle.translation.proofs.Claimed.{open-of}
 use Rattle.translation.proofs.Numbers.{thenCourse, course-append, Elsewhere, elsewhere-then, run-then-by}
-use Rattle.translation.proofs.Stretches.{not-both}
+use Rattle.command.proofs.Tests.{not-both}
 use Rattle.translation.proofs.Worth.{Worth}
 
 -- nothing that comes after can come to the access: the run went astray, or it stopped

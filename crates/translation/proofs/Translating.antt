@@ -7,32 +7,35 @@ use native.Mathlib.Nat.{add-assoc}
 use native.Mathlib.Omega.{arith}
 use lib.ListN.{length, length-append}
 use Rattle.slices.specs.Bytes.{entry}
-use Rattle.routine.specs.Command.{sizeOfSimple, commandAt}
-use Rattle.routine.specs.Step.{tooMany, oneIf}
-use Rattle.routine.specs.Step as step
+use Rattle.command.specs.Command.{sizeOfSimple, commandAt}
+use Rattle.command.specs.Step.{tooMany, oneIf}
+use Rattle.command.specs.Step as step
 use Rattle.routine.specs.Routine.{Arm, parsed}
-use Rattle.routine.specs.Stands.{Stands, SomeArm, SomeIf, Sound, SoundIf}
-use Rattle.routine.specs.declared.Header.{Header}
-use Rattle.routine.specs.declared.Condition.{Condition}
-use Rattle.routine.specs.declared.Counts.{Counts}
-use Rattle.routine.specs.declared.Simple.{Simple}
-use Rattle.routine.specs.declared.Command.{Command}
+use Rattle.routine.specs.Stands.{Stands, SomeArm, SomeIf}
+use Rattle.command.specs.Sound.{Sound, SoundIf}
+use Rattle.header.specs.declared.Header.{Header}
+use Rattle.command.specs.declared.Condition.{Condition}
+use Rattle.command.specs.declared.Counts.{Counts}
+use Rattle.command.specs.declared.Simple.{Simple}
+use Rattle.command.specs.declared.Command.{Command}
 use Rattle.routine.proofs.Views.{onward, by-missing, by-close, by-simple, by-if, BySimple, ByIf}
 use Rattle.netlist.specs.Node.{Node}
 use Rattle.netlist.specs.Emit.{Emitted, Ready}
 use Rattle.netlist.specs.declared.Net.{Net}
-use Rattle.netlist.proofs.Emitting.{emitted-none, emitted-then, ready-after}
-use Rattle.translation.specs.Wires.{arriving}
-use Rattle.translation.specs.Command.{Stretch, after, still, simple}
-use Rattle.translation.specs.Walk.{isMade, andThen, conditionNodes, conditionLit, branchNodes, forked, joined, armOf}
-use Rattle.translation.specs.Walker.{walkAt, Arrives, Roomy, ArmMade, ArmRoom, ifOf, IfMade, IfRoom, Makes, Branched}
-use Rattle.translation.specs.declared.Target.{Target}
-use Rattle.translation.specs.declared.Wires.{Wires}
+use Rattle.netlist.proofs.Emitting.{emitted-none, emitted-then, ready-after, ready-weaken}
+use Rattle.wiring.specs.Wires.{arriving, isMade}
+use Rattle.wiring.specs.Command.{Stretch, after, still, simple}
+use Rattle.translation.specs.Walk.{andThen, forked, armOf}
+use Rattle.wiring.specs.Branch.{conditionNodes, conditionLit, branchNodes, joined}
+use Rattle.translation.specs.Walker.{walkAt, Arrives, Roomy, ArmMade, ArmRoom, ifOf, IfMade, IfRoom}
+use Rattle.wiring.specs.Makes.{Makes, Branched}
+use Rattle.lead.specs.declared.Target.{Target}
+use Rattle.wiring.specs.declared.Wires.{Wires}
 use Rattle.translation.specs.declared.Walk.{Walk}
-use Rattle.translation.specs.declared.Made.{Made}
-use Rattle.translation.specs.declared.Branches.{Branches}
-use Rattle.translation.proofs.Accessing.{ready-weaken}
-use Rattle.translation.proofs.Stretches.{not-both, then-by, fork-by, frontOf, firstFrom, firstOf, secondFrom, secondOf, joinFrom, joinOf}
+use Rattle.wiring.specs.declared.Made.{Made}
+use Rattle.wiring.specs.declared.Branches.{Branches}
+use Rattle.command.proofs.Tests.{not-both}
+use Rattle.translation.proofs.Stretches.{then-by, fork-by, frontOf, firstFrom, firstOf, secondFrom, secondOf, joinFrom, joinOf}
 
 -- ---- stretches
 

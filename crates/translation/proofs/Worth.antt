@@ -11,21 +11,21 @@ use lib.Seq.{getD-set-same, getD-set-other}
 use lib.Dec.{eqb}
 use borrow.Author.Tests.{eqb-true, eqb-false}
 use Rattle.slices.specs.Bytes.{entry}
-use Rattle.routine.specs.Header.{width}
-use Rattle.routine.specs.Stands.{Fine}
-use Rattle.routine.specs.declared.Header.{Header}
-use Rattle.run.specs.State.{over}
+use Rattle.header.specs.Header.{width}
+use Rattle.command.specs.Sound.{Fine}
+use Rattle.header.specs.declared.Header.{Header}
+use Rattle.machine.specs.State.{over}
 use Rattle.netlist.specs.Meaning.{Assign, Inputs, lit}
 use Rattle.netlist.proofs.Literals.{lit-false}
 use Rattle.netlist.proofs.Truth.{Models, models-append}
-use Rattle.circuits.specs.Bits.{Bits}
-use Rattle.circuits.specs.Input.{inputs, inBit}
+use Rattle.bits.specs.Bits.{Bits}
+use Rattle.bits.specs.Input.{inputs, inBit}
 use Rattle.circuits.specs.Join.{join, joinBit}
-use Rattle.circuits.proofs.Values.{bit, value, value-cong, value-zero}
-use Rattle.circuits.proofs.Input.{input-word}
+use Rattle.bits.proofs.Values.{bit, value, value-cong, value-zero}
+use Rattle.bits.proofs.Input.{input-word}
 use Rattle.circuits.proofs.Join.{join-value}
-use Rattle.translation.specs.Wires.{bitsIn, bitsPut}
-use Rattle.translation.specs.Walk.{joinNodes, joinLits}
+use Rattle.wiring.specs.Wires.{bitsIn, bitsPut}
+use Rattle.wiring.specs.Branch.{joinNodes, joinLits}
 use Rattle.translation.specs.Translation.{parameterNodes, parameterLits}
 use Rattle.translation.specs.Faithful.{bitsOfList}
 use Rattle.translation.proofs.Places.{bits-place, put-length, put-same, put-other}

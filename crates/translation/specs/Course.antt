@@ -6,8 +6,8 @@ use lib.Dec.{eqb}
 use Rattle.slices.specs.Bytes.{entry}
 use Rattle.bitvec.specs.declared.Whole.{Whole}
 use Rattle.run.specs.Run.{Event, took, came}
-use Rattle.run.specs.declared.Side.{Side}
-use Rattle.run.specs.declared.Side.the-variants.{Below, Above}
+use Rattle.machine.specs.declared.Side.{Side}
+use Rattle.machine.specs.declared.Side.the-variants.{Below, Above}
 
 -- what a run did: it took another arm than was decided, before it came to the access; it did neither; or it came to the access, in an array, with an index
 pub data Course : Type 0 where

@@ -7,23 +7,23 @@ use mathlib.Core.Bool.{true}
 use lib.ListN.{length}
 use Rattle.slices.specs.Bytes.{entry}
 use Rattle.bitvec.specs.declared.Whole.{Whole}
-use Rattle.routine.specs.Header.{arraySize}
+use Rattle.header.specs.Header.{arraySize}
 use Rattle.routine.specs.Routine.{Arm}
-use Rattle.routine.specs.declared.Header.{Header}
-use Rattle.routine.specs.declared.Counts.{Counts}
+use Rattle.header.specs.declared.Header.{Header}
+use Rattle.command.specs.declared.Counts.{Counts}
 use Rattle.run.specs.Inputs.{listed}
-use Rattle.run.specs.State.{lies}
+use Rattle.machine.specs.State.{lies}
 use Rattle.run.specs.Run.{runOf}
 use Rattle.run.specs.declared.Listed.{Listed}
-use Rattle.run.specs.declared.Lies.{Lies}
-use Rattle.circuits.specs.Input.{bitsOfWord}
+use Rattle.machine.specs.declared.Lies.{Lies}
+use Rattle.bits.specs.Input.{bitsOfWord}
 use Rattle.netlist.specs.Node.{clausesOf}
 use Rattle.netlist.specs.Meaning.{Assign, Inputs, lit, sat, Extends, Agree}
-use Rattle.translation.specs.Command.{Stretch}
+use Rattle.wiring.specs.Command.{Stretch}
 use Rattle.translation.specs.Translation.{whole}
 use Rattle.translation.specs.Course.{Course, arrived, course, sideOf}
-use Rattle.translation.specs.declared.Claim.{Claim}
-use Rattle.translation.specs.declared.Target.{Target}
+use Rattle.wiring.specs.declared.Claim.{Claim}
+use Rattle.lead.specs.declared.Target.{Target}
 
 -- the bits of an input list: word n, bit j
 abbrev pub bitsOfList : List ℕ → Inputs

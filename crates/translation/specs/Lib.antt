@@ -1,6 +1,4 @@
 pub mod Refusal
-pub mod Wires
-pub mod Command
 pub mod Walk
 pub mod Translation
 pub mod Course

@@ -1,6 +1,6 @@
 -- The number and the place of each refusal of a translation, as the table of document 01 has them.
 use Prim.Native.Nat.{ℕ}
-use Rattle.routine.specs.Refusal as routine
+use Rattle.lead.specs.Refusal as lead
 use Rattle.translation.specs.declared.Buffer.{Buffer}
 use Rattle.translation.specs.declared.Refusal.{Refusal}
 
@@ -11,14 +11,10 @@ bufferNumber Buffer.Starts = 1
 
 -- the number
 abbrev pub numberOf : Refusal → ℕ
-numberOf (Refusal.Routine refusal) = routine.numberOf refusal
-numberOf (Refusal.DecisionCount given) = 11
-numberOf (Refusal.Lead at) = 12
+numberOf (Refusal.Lead refusal) = lead.numberOf refusal
 numberOf (Refusal.TooSmall buffer) = 16
 
 -- the place
 abbrev pub placeOf : Refusal → ℕ
-placeOf (Refusal.Routine refusal) = routine.placeOf refusal
-placeOf (Refusal.DecisionCount given) = given
-placeOf (Refusal.Lead at) = at
+placeOf (Refusal.Lead refusal) = lead.placeOf refusal
 placeOf (Refusal.TooSmall buffer) = bufferNumber buffer

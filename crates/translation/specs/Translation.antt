@@ -2,20 +2,20 @@
 use Prim.Native.Nat.{ℕ, zero, suc, _+_}
 use mathlib.Core.List.{List, [], _∷_, _++_}
 use lib.ListN.{length, replicate}
-use Rattle.routine.specs.Header.{width}
+use Rattle.header.specs.Header.{width}
 use Rattle.routine.specs.Routine.{Arm}
-use Rattle.routine.specs.declared.Header.{Header}
+use Rattle.header.specs.declared.Header.{Header}
 use Rattle.clauses.specs.Clause.{Clause, flatten}
 use Rattle.netlist.specs.Literal.{opp}
 use Rattle.netlist.specs.Node.{Node, one, clausesOf}
-use Rattle.circuits.specs.Input.{inputs, inBit}
-use Rattle.translation.specs.Wires.{bitsPut}
-use Rattle.translation.specs.Command.{Stretch, after}
+use Rattle.bits.specs.Input.{inputs, inBit}
+use Rattle.wiring.specs.Wires.{bitsPut}
+use Rattle.wiring.specs.Command.{Stretch, after}
 use Rattle.translation.specs.Walk.{armOf}
-use Rattle.translation.specs.declared.Claim.{Claim}
+use Rattle.wiring.specs.declared.Claim.{Claim}
 use Rattle.translation.specs.declared.Size.{Size}
-use Rattle.translation.specs.declared.Target.{Target}
-use Rattle.translation.specs.declared.Wires.{Wires}
+use Rattle.lead.specs.declared.Target.{Target}
+use Rattle.wiring.specs.declared.Wires.{Wires}
 
 -- the bits of the first n parameters take the next variables
 unfoldable pub parameterNodes : List ℕ → (n : ℕ) → List Node

@@ -1,30 +1,29 @@
 -- What the walkers over the bytes of an accepted routine tell: of whatever arm stands there.
-use Prim.Native.Nat.{ℕ, _+_, _*_, _^_}
+use Prim.Native.Nat.{ℕ, _+_, _^_}
 use mathlib.Core.Path.{_≡_}
-use mathlib.Core.List.{List, _++_}
-use mathlib.Core.Bool.{false, cond}
+use mathlib.Core.List.{List}
+use mathlib.Core.Bool.{false}
 use lib.ListN.{length}
 use lib.Seq.{sets}
-use lib.Dec.{eqb}
 use Rattle.slices.specs.Bytes.{entry}
-use Rattle.routine.specs.Step.{accesses, oneIf}
+use Rattle.command.specs.Step.{oneIf}
 use Rattle.routine.specs.Routine.{Arm}
 use Rattle.routine.specs.Decode.{routine, decode}
 use Rattle.routine.specs.Stands.{Stands, SomeArm, SomeIf}
-use Rattle.routine.specs.declared.Header.{Header}
-use Rattle.routine.specs.declared.Condition.{Condition}
-use Rattle.routine.specs.declared.Counts.{Counts}
+use Rattle.header.specs.declared.Header.{Header}
+use Rattle.command.specs.declared.Condition.{Condition}
+use Rattle.command.specs.declared.Counts.{Counts}
 use Rattle.clauses.specs.Clause.{flatten, offsets}
 use Rattle.netlist.specs.Emit.{Emitted, Ready}
 use Rattle.netlist.specs.declared.Net.{Net}
-use Rattle.translation.specs.Command.{Stretch, claimed, passed}
-use Rattle.translation.specs.Walk.{isMade, conditionNodes, conditionLit, branchNodes, firstLit, elseLit, joinNodes, joinLits, forked, armOf}
+use Rattle.wiring.specs.Command.{Stretch}
+use Rattle.wiring.specs.Wires.{isMade}
+use Rattle.translation.specs.Walk.{forked, armOf}
 use Rattle.translation.specs.Translation.{parameterNodes, start, whole, clausesOfAll, sizeOf}
-use Rattle.translation.specs.declared.Target.{Target}
-use Rattle.translation.specs.declared.Wires.{Wires}
+use Rattle.lead.specs.declared.Target.{Target}
+use Rattle.wiring.specs.declared.Wires.{Wires}
 use Rattle.translation.specs.declared.Walk.{Walk}
-use Rattle.translation.specs.declared.Made.{Made}
-use Rattle.translation.specs.declared.Branches.{Branches}
+use Rattle.wiring.specs.declared.Made.{Made}
 use Rattle.translation.specs.declared.Size.{Size}
 
 -- the walk at an offset, with the counts there
@@ -67,34 +66,6 @@ pub record IfMade (bs : List ℕ) (h : Header) (t : Target) (ds : List ℕ) (dep
 pub record IfRoom (bs : List ℕ) (h : Header) (t : Target) (ds : List ℕ) (depth : ℕ) (c : Condition) (p : Walk) : Type 0 where
   pub some : SomeIf bs h depth (p .next) (oneIf (p .counts))
   pub room : Roomy (p .net) (ifOf bs h t ds c p (some .first) (some .second))
-
--- the wires with these literals from the place of variable v on
-abbrev pub storing : Wires → (v : ℕ) → (vs : List ℕ) → Wires
-storing s v vs = record { lits = sets (s .lits) (32 * v) vs; arrival = s .arrival; claim = s .claim }
-
--- the buffers w and u became w₁ and u₁ by the stretch x
-pub record Makes (w u : List ℕ) (n : Net) (x : Stretch) (w₁ u₁ : List ℕ) (r : Made) : Type 0 where
-  pub emitted : Emitted w u n (x .nodes) w₁ u₁ (r .net)
-  pub wires : r .wires ≡ x .wires
-
--- an access by itself
-abbrev pub accessOf : List ℕ → Header → Target → (g array i : ℕ) → Counts → Wires → Stretch
-accessOf bs h t g array i k s = cond (eqb (accesses k) (t .access)) (claimed bs h t g array i s) (passed bs h g array i s)
-
--- the condition of an if, and the arrivals of its arms; d is the decision
-pub record Branched (bs : List ℕ) (w u : List ℕ) (n : Net) (c : Condition) (d : ℕ) (s : Wires) (w₁ u₁ : List ℕ) (r : Branches) : Type 0 where
-  pub emitted : Emitted w u n (conditionNodes bs (n .next) c s ++ branchNodes d (s .arrival) (conditionLit bs (n .next) c)) w₁ u₁ (r .net)
-  pub condition : r .condition ≡ conditionLit bs (n .next) c
-  pub first : r .first ≡ firstLit d (n .next + length (conditionNodes bs (n .next) c s))
-  pub second : r .second ≡ elseLit d (n .next + length (conditionNodes bs (n .next) c s)) (s .arrival) (conditionLit bs (n .next) c)
-
--- the first n variables joined; arrival and claim are the first arm's still
-abbrev pub joinedVariables : List ℕ → (g c : ℕ) → (x y : Wires) → (n : ℕ) → Stretch
-joinedVariables bs g c x y n =
-    record {
-      nodes = joinNodes bs c (x .lits) (y .lits) n;
-      wires = record { lits = joinLits bs g c (x .lits) (y .lits) n; arrival = x .arrival; claim = x .claim };
-    }
 
 -- the parameters take no clauses, so that no buffer changes
 pub record Begun (bs : List ℕ) (n : Net) (parameters : ℕ) (r : Made) : Type 0 where

@@ -1,38 +1,17 @@
 // The translation of a claim into clauses.
-mod branchings;
-mod commands;
-mod indexes;
-mod leads;
-mod literals;
-mod operations;
 mod parameters;
 pub mod refusals;
 mod walks;
 mod wholes;
 
+use command::Counts;
+use lead::Admitted;
+use lead::Target;
+use lead::admit;
 use netlist::Net;
-use routine::Counts;
-use routine::Header;
-ghost use Rattle.translation.specs.Answer.{targetOf, Answers, Demand2};
-
-// What a claim names: an access, and a side (0 below, 1 above).
-pub struct Target {
-    pub access: u8,
-    pub side: u8,
-}
-
-// The claim: none yet, or at the named access the literal of arrival and that of the side.
-pub enum Claim {
-    Open,
-    Made { arrival: u32, side: u32 },
-}
-
-// The state of a translation: a literal for each bit of each variable, 32 places a variable; arrival; the claim.
-pub struct Wires {
-    pub lits: [u32; 1024],
-    pub arrival: u32,
-    pub claim: Claim,
-}
+use wiring::Wires;
+ghost use Rattle.lead.specs.Lead.{targetOf};
+ghost use Rattle.translation.specs.Answer.{Answers, Demand2};
 
 // A translation at the end of an arm or an if: the offset and the counts there, what is emitted, and the wires. Where the claim was made
 // before, offset and counts tell nothing.
@@ -43,20 +22,6 @@ pub struct Walk {
     pub wires: Wires,
 }
 
-// What a command made: what is emitted, and the wires.
-pub struct Made {
-    pub net: Net,
-    pub wires: Wires,
-}
-
-// The beginning of an if: what is emitted, the literal of its condition, and the arrivals of its arms.
-pub struct Branches {
-    pub net: Net,
-    pub condition: u32,
-    pub first: u32,
-    pub second: u32,
-}
-
 // A lent buffer of a translation.
 pub enum Buffer {
     Words,
@@ -65,18 +30,8 @@ pub enum Buffer {
 
 // Why there is no translation.
 pub enum Refusal {
-    Routine(routine::Refusal),
-    // so many decisions were given
-    DecisionCount(usize),
-    // access, side or a decision is out of range, at this offset of a lead
-    Lead(usize),
+    Lead(lead::Refusal),
     TooSmall(Buffer),
-}
-
-// Whether there is a translation.
-pub enum Admitted {
-    Refused(Refusal),
-    Translates(Header),
 }
 
 // What a translation takes.
@@ -106,8 +61,8 @@ pub fn translate(
     ensures { λ r. ⌜ Demand2 (now (routine .entry)) (targetOf access side) (now (decisions .entry)) r ⌝ }
 {
     let t = Target { access, side };
-    match leads::admit(routine, t, decisions) {
-        Admitted::Refused(refusal) => Translated::Refused(refusal),
+    match admit(routine, t, decisions) {
+        Admitted::Refused(refusal) => Translated::Refused(Refusal::Lead(refusal)),
         Admitted::Translates(h) => wholes::fit(routine, h, t, decisions, words, starts),
     }
 }

@@ -1,15 +1,15 @@
 // The beginning of a translation.
-use crate::Claim;
-use crate::Made;
-use crate::Wires;
-use crate::literals::with_bits;
-use circuits::inputs::input_bits;
-use circuits::inputs::take_inputs;
+use bits::inputs::input_bits;
+use bits::inputs::take_inputs;
+use header::Header;
+use header::width_of;
 use netlist::Net;
-use routine::Header;
-use routine::headers::width_of;
+use wiring::Claim;
+use wiring::Made;
+use wiring::Wires;
+use wiring::literals::with_bits;
 ghost use mathlib.Core.Path.{_≡_};
-ghost use Rattle.routine.specs.Stands.{Fine};
+ghost use Rattle.command.specs.Sound.{Fine};
 ghost use Rattle.netlist.specs.Emit.{Ready};
 ghost use Rattle.translation.specs.Walker.{Begun};
 

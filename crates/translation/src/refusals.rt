@@ -1,7 +1,7 @@
 // The number and the place of a refusal.
 use crate::Buffer;
 use crate::Refusal;
-use routine::refusals;
+use lead::refusals;
 ghost use mathlib.Core.Path.{_≡_};
 ghost use Rattle.translation.specs.Refusal.{numberOf, placeOf, bufferNumber};
 
@@ -10,9 +10,7 @@ pub fn number_of(refusal: Refusal) -> u8
     ensures { λ r. ⌜ r ≡ numberOf refusal ⌝ }
 {
     match refusal {
-        Refusal::Routine(inner) => refusals::number_of(inner),
-        Refusal::DecisionCount(_) => 11,
-        Refusal::Lead(_) => 12,
+        Refusal::Lead(inner) => refusals::number_of(inner),
         Refusal::TooSmall(_) => 16,
     }
 }
@@ -22,9 +20,7 @@ pub fn place_of(refusal: Refusal) -> usize
     ensures { λ r. ⌜ r ≡ placeOf refusal ⌝ }
 {
     match refusal {
-        Refusal::Routine(inner) => refusals::place_of(inner),
-        Refusal::DecisionCount(given) => given,
-        Refusal::Lead(at) => at,
+        Refusal::Lead(inner) => refusals::place_of(inner),
         Refusal::TooSmall(buffer) => number_of_buffer(buffer),
     }
 }

@@ -1,27 +1,27 @@
 // Translating an arm and translating an if: the two call each other, the bytes left falling.
-use crate::Target;
 use crate::Walk;
-use crate::Wires;
-use crate::branchings::branch;
-use crate::branchings::join_arms;
-use crate::commands::simple_made;
-use crate::literals::is_made;
-use crate::literals::with_arrival;
+use command::Command;
+use command::Condition;
+use command::Counts;
+use command::commands::command_at;
+use command::commands::simple_size;
+use command::steps::counts_after;
+use command::steps::counts_after_if;
+use header::Header;
+use lead::Target;
 use netlist::Net;
-use routine::Command;
-use routine::Condition;
-use routine::Counts;
-use routine::Header;
-use routine::commands::command_at;
-use routine::commands::simple_size;
-use routine::steps::counts_after;
-use routine::steps::counts_after_if;
 use slices::byte_at;
+use wiring::Wires;
+use wiring::branchings::branch;
+use wiring::branchings::join_arms;
+use wiring::commands::simple_made;
+use wiring::literals::is_made;
+use wiring::literals::with_arrival;
 ghost use mathlib.Core.Path.{_≡_};
 ghost use mathlib.Core.Bool.{false};
 ghost use Prim.Native.Nat.{_<_};
-ghost use Rattle.routine.specs.Stands.{SoundIf, Fine};
-ghost use Rattle.translation.specs.Walk.{isMade};
+ghost use Rattle.command.specs.Sound.{SoundIf, Fine};
+ghost use Rattle.wiring.specs.Wires.{isMade};
 ghost use Rattle.translation.specs.Walker.{walkAt, ArmMade, ArmRoom, IfMade, IfRoom};
 
 // Translates the arm that stands where the walk is, inside `depth` ifs and ended by the command byte `close`.

@@ -1,20 +1,20 @@
 // The whole translation: counted over empty slices, and written where it fits.
 use crate::Buffer;
-use crate::Claim;
 use crate::Refusal;
 use crate::Size;
-use crate::Target;
 use crate::Translated;
 use crate::parameters::begin;
 use crate::walks::arm_made;
 use crate::walks::walk;
 use clauses::Store;
 use clauses::append1;
+use command::Counts;
+use header::Header;
+use header::first_command;
+use lead::Target;
 use netlist::Net;
 use netlist::opposite;
-use routine::Counts;
-use routine::Header;
-use routine::headers::first_command;
+use wiring::Claim;
 ghost use mathlib.Core.Path.{_≡_};
 ghost use Prim.Native.Nat.{min};
 ghost use Rattle.routine.specs.Decode.{IsRoutine};

@@ -1,5 +1,6 @@
 use borrow.Author.Needs.{needs}
-use Rattle.translation.proofs.Admitting.{refuses, is-routine-by, fits}
+use Rattle.translation.proofs.Admitting.{refuses, fits}
+use Rattle.lead.proofs.Leads.{is-routine-by}
 use Rattle.translation.proofs.Answered.{demand}
 use Rattle.translation.proofs.translate.Statement.{statement}
 use Rattle.translation.proofs.translate.Tie as tie

@@ -6,10 +6,10 @@ use lib.ListN.{length, take}
 use lib.Seq.{getD-take}
 use borrow.Author.Needs.{needs}
 use Rattle.circuits.proofs.Compare.{signed-cong}
-use Rattle.circuits.proofs.Laws.{sized-length}
+use Rattle.bits.proofs.Laws.{sized-length}
 use Rattle.circuits.proofs.accesses.above.Statement.{statement}
-use Rattle.circuits.specs.Bits.{litAt}
-use Rattle.circuits.specs.Extend.{constBit}
+use Rattle.bits.specs.Bits.{litAt}
+use Rattle.bits.specs.Extend.{constBit}
 use Rattle.netlist.proofs.Emitting.{emitted-none}
 use Rattle.netlist.specs.Literal.{opp}
 use Rattle.circuits.proofs.accesses.above.Tie as tie

@@ -6,7 +6,7 @@ use denote.Ref.{now}
 use lib.ListN.{length}
 use Rattle.circuits.proofs.Compare.{equality-turn, length-equality, same-turn}
 use Rattle.circuits.proofs.comparisons.equal.Statement.{statement}
-use Rattle.circuits.specs.Bits.{litAt}
+use Rattle.bits.specs.Bits.{litAt}
 use Rattle.circuits.specs.Compare.{equality, sameAt}
 use Rattle.netlist.proofs.Emitting.{emitted-none, emitted-starts-length, emitted-words-length, ready-after}
 use Rattle.netlist.specs.Emit.{Emitted, Ready}

@@ -5,9 +5,9 @@ use borrow.Author.Needs.{needs}
 use denote.Ref.{now}
 use lib.ListN.{length, getD, length-set}
 use Rattle.circuits.proofs.Compare.{flipped-below, flipped-top}
-use Rattle.circuits.proofs.Laws.{filled-turn}
+use Rattle.bits.proofs.Laws.{filled-turn}
 use Rattle.circuits.proofs.comparisons.flip_top.Statement.{statement}
-use Rattle.circuits.specs.Bits.{litAt}
+use Rattle.bits.specs.Bits.{litAt}
 use Rattle.circuits.specs.Compare.{flipped}
 use Rattle.circuits.proofs.comparisons.flip_top.Tie as tie
 

@@ -4,7 +4,7 @@ use native.Mathlib.Omega.{arith}
 use denote.Ref.{now}
 use lib.ListN.{length}
 use borrow.Author.Needs.{needs}
-use Rattle.circuits.proofs.Adder.{last-carry, length-adder}
+use Rattle.adders.proofs.Adder.{last-carry, length-adder}
 use Rattle.circuits.proofs.comparisons.less.Statement.{statement}
 use Rattle.netlist.specs.Literal.{opp}
 use Rattle.circuits.proofs.comparisons.less.Tie as tie

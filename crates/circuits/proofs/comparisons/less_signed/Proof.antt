@@ -4,11 +4,11 @@ use native.Mathlib.Omega.{arith}
 use denote.Ref.{now}
 use lib.ListN.{length, take}
 use borrow.Author.Needs.{needs}
-use Rattle.circuits.proofs.Adder.{adder-cong}
-use Rattle.circuits.proofs.Laws.{filled-bits, sized-length}
+use Rattle.adders.proofs.Adder.{adder-cong}
+use Rattle.bits.proofs.Laws.{filled-bits, sized-length}
 use Rattle.circuits.proofs.comparisons.less_signed.Statement.{statement}
-use Rattle.circuits.specs.Adder.{oppBits}
-use Rattle.circuits.specs.Bits.{Filled, litAt}
+use Rattle.adders.specs.Adder.{oppBits}
+use Rattle.bits.specs.Bits.{Filled, litAt}
 use Rattle.circuits.specs.Compare.{flipped}
 use Rattle.netlist.specs.Literal.{opp}
 use Rattle.circuits.proofs.comparisons.less_signed.Tie as tie

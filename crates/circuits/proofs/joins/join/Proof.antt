@@ -5,8 +5,8 @@ use borrow.Author.Needs.{needs}
 use denote.Ref.{now}
 use lib.ListN.{length, getD, length-set}
 use Rattle.circuits.proofs.Join.{join-lit, join-turn, length-join}
-use Rattle.circuits.proofs.Laws.{filled-turn}
-use Rattle.circuits.specs.Bits.{litAt}
+use Rattle.bits.proofs.Laws.{filled-turn}
+use Rattle.bits.specs.Bits.{litAt}
 use Rattle.circuits.specs.Join.{join, joinBit}
 use Rattle.netlist.proofs.Emitting.{emitted-none, emitted-starts-length, emitted-words-length, ready-after}
 use Rattle.netlist.specs.Emit.{Emitted}

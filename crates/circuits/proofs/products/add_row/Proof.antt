@@ -5,10 +5,10 @@ use denote.Ref.{now}
 use lib.ListN.{length, take}
 use lib.Seq.{getD-take}
 use borrow.Author.Needs.{needs}
-use Rattle.circuits.proofs.Laws.{sized-length}
+use Rattle.bits.proofs.Laws.{sized-length}
 use Rattle.circuits.proofs.Product.{length-row, row-add}
 use Rattle.circuits.proofs.products.add_row.Statement.{statement}
-use Rattle.circuits.specs.Bits.{litAt}
+use Rattle.bits.specs.Bits.{litAt}
 use Rattle.netlist.proofs.Emitting.{ready-after}
 use Rattle.circuits.proofs.products.add_row.Tie as tie
 

@@ -4,7 +4,7 @@ use native.Mathlib.Omega.{arith}
 use borrow.Author.Needs.{needs}
 use Rattle.circuits.proofs.Product.{length-row, row-turn}
 use Rattle.circuits.proofs.products.and_row.Statement.{statement}
-use Rattle.circuits.specs.Bits.{litAt}
+use Rattle.bits.specs.Bits.{litAt}
 use Rattle.circuits.specs.Product.{row}
 use Rattle.netlist.proofs.Emitting.{emitted-none, emitted-starts-length, emitted-words-length, ready-after}
 use Rattle.netlist.specs.Emit.{Emitted}

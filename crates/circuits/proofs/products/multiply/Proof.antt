@@ -5,11 +5,11 @@ use native.Mathlib.Numerals.{add-one}
 use borrow.Author.Needs.{needs}
 use denote.Ref.{now}
 use lib.ListN.{length, take, getD-replicate}
-use Rattle.circuits.proofs.Laws.{filled-bits, sized-length}
+use Rattle.bits.proofs.Laws.{filled-bits, sized-length}
 use Rattle.circuits.proofs.Product.{length-product, product-turn, rowStart-le}
 use Rattle.circuits.proofs.products.multiply.Statement.{statement}
-use Rattle.circuits.specs.Adder.{sumBit}
-use Rattle.circuits.specs.Bits.{Filled, litAt}
+use Rattle.adders.specs.Adder.{sumBit}
+use Rattle.bits.specs.Bits.{Filled, litAt}
 use Rattle.circuits.specs.Product.{accBit, product, rowStart}
 use Rattle.netlist.proofs.Emitting.{emitted-none, emitted-starts-length, emitted-words-length, ready-after}
 use Rattle.netlist.specs.Emit.{Emitted, Ready}

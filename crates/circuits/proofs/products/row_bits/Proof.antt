@@ -3,7 +3,7 @@ use Prim.Native.Nat.{ℕ, _≤_, _<_, _-_, _+_, _*_}
 use native.Mathlib.Omega.{arith}
 use borrow.Author.Needs.{needs}
 use lib.ListN.{length, getD, length-set, getD-replicate}
-use Rattle.circuits.proofs.Laws.{filled-turn}
+use Rattle.bits.proofs.Laws.{filled-turn}
 use Rattle.circuits.proofs.Product.{rowBit-high, rowBit-low}
 use Rattle.circuits.proofs.products.row_bits.Statement.{statement}
 use Rattle.circuits.specs.Product.{rowBit}

@@ -6,11 +6,11 @@ use lib.ListN.{length}
 use borrow.Author.Needs.{needs}
 use borrow.Fn.Kinds.{In}
 use borrow.Fn.PlainCycle.{Measures, is, falls, and}
-use Rattle.routine.proofs.Sizes.{simple-size}
-use Rattle.routine.proofs.commands.command_at.Reads as command-at-reads
-use Rattle.routine.proofs.commands.simple_size.Reads as simple-size-reads
-use Rattle.routine.proofs.steps.counts_after.Reads as counts-after-reads
-use Rattle.routine.proofs.steps.counts_after_if.Reads as counts-after-if-reads
+use Rattle.command.proofs.Sizes.{simple-size}
+use Rattle.command.proofs.commands.command_at.Reads as command-at-reads
+use Rattle.command.proofs.commands.simple_size.Reads as simple-size-reads
+use Rattle.command.proofs.steps.counts_after.Reads as counts-after-reads
+use Rattle.command.proofs.steps.counts_after_if.Reads as counts-after-if-reads
 use Rattle.routine.proofs.walks.pass_arm.Reads as pass-arm-reads
 use Rattle.run.specs.declared.Reached.{Reached}
 use Rattle.run.proofs.Running.{ran-arm-from, ran-if-from, Going, begun, here, closed, stepped, stopped, forked, fork-stopped, not-missing, close-room, simple-known, some-if, if-room, else-room, first-arm, second-after, second-falls, passed-to, second-passed, first-stopped, first-passed, second-ran}
@@ -20,9 +20,9 @@ use Rattle.run.proofs.runs.+run_arm+run_if.Lts-run_arm as run-arm-lts
 use Rattle.run.proofs.runs.run_if.Reads as run-if
 use Rattle.run.proofs.runs.run_if.Kinds as run-if-kinds
 use Rattle.run.proofs.runs.+run_arm+run_if.Lts-run_if as run-if-lts
-use Rattle.run.proofs.State.carried.Reads as carried-reads
-use Rattle.run.proofs.State.meets.Reads as meets-reads
-use Rattle.run.proofs.State.took.Reads as took-reads
+use Rattle.machine.proofs.State.carried.Reads as carried-reads
+use Rattle.machine.proofs.State.meets.Reads as meets-reads
+use Rattle.machine.proofs.State.took.Reads as took-reads
 use Rattle.run.proofs.runs.is_over.Reads as is-over-reads
 use Rattle.run.proofs.runs.reached.Reads as reached-reads
 use Rattle.run.proofs.runs.+run_arm+run_if.{statement}

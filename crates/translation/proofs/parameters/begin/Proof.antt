@@ -5,10 +5,9 @@ use native.Mathlib.Omega.{arith}
 use denote.Ref.{now}
 use borrow.Author.Needs.{needs}
 use Rattle.netlist.specs.Emit.{Emitted}
-use Rattle.netlist.proofs.Emitting.{emitted-none, ready-after}
+use Rattle.netlist.proofs.Emitting.{emitted-none, ready-after, ready-weaken}
 use Rattle.translation.specs.Translation.{parameterNodes, parameterLits, start}
-use Rattle.translation.proofs.Ranges.{ranged}
-use Rattle.translation.proofs.Accessing.{ready-weaken}
+use Rattle.wiring.proofs.Ranges.{ranged}
 use Rattle.translation.proofs.Beginning.{some-few, parameter-made, parameter-wired}
 use Rattle.translation.proofs.parameters.begin.Statement.{statement}
 use Rattle.translation.proofs.parameters.begin.Tie as tie

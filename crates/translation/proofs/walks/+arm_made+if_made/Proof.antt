@@ -6,11 +6,10 @@ use denote.Ref.{now}
 use lib.ListN.{length}
 use borrow.Author.Needs.{needs}
 use Rattle.routine.specs.Stands.{SomeArm}
-use Rattle.routine.proofs.Sizes.{simple-size}
-use Rattle.netlist.proofs.Emitting.{emitted-then, emitted-words-length, emitted-starts-length}
+use Rattle.command.proofs.Sizes.{simple-size}
+use Rattle.netlist.proofs.Emitting.{emitted-starts-length, emitted-then, emitted-words-length, ready-weaken}
 use Rattle.translation.specs.Walker.{walkAt}
-use Rattle.translation.specs.Wires.{arriving}
-use Rattle.translation.proofs.Accessing.{ready-weaken}
+use Rattle.wiring.specs.Wires.{arriving}
 use Rattle.translation.proofs.Translating.{Left, begun, arm-told, room-here, not-missing, close-room, closed, simple-known, stepped, stopped, if-known, if-roomy, forked-on, fork-stopped, if-falls, second-falls, else-room, first-roomy, second-roomy, branched-at, arm-from, if-from, first-room, first-stops, second-room, second-stops, join-ready, arms-join}
 use borrow.Fn.Kinds.{In}
 use borrow.Fn.PlainCycle.{Measures, is, falls, and}
@@ -20,16 +19,16 @@ use Rattle.translation.proofs.walks.+arm_made+if_made.Lts-arm_made as a
 use Rattle.translation.proofs.walks.if_made.Reads as if-made
 use Rattle.translation.proofs.walks.if_made.Kinds as if-made-kinds
 use Rattle.translation.proofs.walks.+arm_made+if_made.Lts-if_made as if-made-lts
-use Rattle.routine.proofs.commands.command_at.Reads as command-at-reads
-use Rattle.routine.proofs.commands.simple_size.Reads as simple-size-reads
-use Rattle.routine.proofs.steps.counts_after.Reads as counts-after-reads
-use Rattle.routine.proofs.steps.counts_after_if.Reads as counts-after-if-reads
+use Rattle.command.proofs.commands.command_at.Reads as command-at-reads
+use Rattle.command.proofs.commands.simple_size.Reads as simple-size-reads
+use Rattle.command.proofs.steps.counts_after.Reads as counts-after-reads
+use Rattle.command.proofs.steps.counts_after_if.Reads as counts-after-if-reads
 use Rattle.slices.proofs.byte_at.Reads as byte-at-reads
-use Rattle.translation.proofs.branchings.branch.Reads as branch-reads
-use Rattle.translation.proofs.branchings.join_arms.Reads as join-arms-reads
-use Rattle.translation.proofs.commands.simple_made.Reads as simple-made-reads
-use Rattle.translation.proofs.literals.is_made.Reads as is-made-reads
-use Rattle.translation.proofs.literals.with_arrival.Reads as with-arrival-reads
+use Rattle.wiring.proofs.branchings.branch.Reads as branch-reads
+use Rattle.wiring.proofs.branchings.join_arms.Reads as join-arms-reads
+use Rattle.wiring.proofs.commands.simple_made.Reads as simple-made-reads
+use Rattle.wiring.proofs.literals.is_made.Reads as is-made-reads
+use Rattle.wiring.proofs.literals.with_arrival.Reads as with-arrival-reads
 use Rattle.translation.proofs.walks.walk.Reads as walk-reads
 use Rattle.translation.proofs.walks.+arm_made+if_made.{statement}
 use Rattle.translation.proofs.walks.+arm_made+if_made.Tie.{close}

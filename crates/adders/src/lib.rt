@@ -1,0 +1,78 @@
+// Addition and subtraction.
+use netlist::Net;
+ghost use mathlib.Core.Path.{_≡_};
+ghost use Prim.Native.Nat.{_*_, _^_, _≤_};
+ghost use lib.ListN.{length};
+ghost use Rattle.adders.specs.Adder.{adder, fullAdder, oppBits, subtractor, sumBit};
+ghost use Rattle.bits.specs.Bits.{Filled, litAt};
+ghost use Rattle.netlist.specs.Emit.{Emitted, Ready};
+
+// One place of a sum: the half sum, the sum, the carry.
+fn full_adder(words: &mut [u32], starts: &mut [u32], n: Net, a: u32, b: u32, c: u32) -> Net
+    requires { ⌜ Ready n 3 ⌝ }
+    ensures { λ r. ⌜ Emitted (now (words .entry)) (now (starts .entry)) n (fullAdder (n .next) a b c) (now (words .exit)) (now (starts .exit)) r ⌝ }
+{
+    let h = 2 * n.next;
+    let n1 = netlist::xor_gate(words, starts, n, a, b);
+    let n2 = netlist::xor_gate(words, starts, n1, h, c);
+    netlist::maj_gate(words, starts, n2, a, b, c)
+}
+
+// The sum of two numbers of one width and a carry.
+pub fn add(words: &mut [u32], starts: &mut [u32], n: Net, a: &[u32], b: &[u32], c: u32) -> Net
+    requires { ⌜ Ready n (3 * length (now a)) ⌝ }
+    requires { ⌜ length (now b) ≡ length (now a) ⌝ }
+    ensures { λ r. ⌜ Emitted (now (words .entry)) (now (starts .entry)) n (adder (n .next) (litAt (now (a .entry))) (litAt (now (b .entry))) c (length (now (a .entry)))) (now (words .exit)) (now (starts .exit)) r ⌝ }
+{
+    let mut net = n;
+    let mut carry = c;
+    let mut j = 0;
+    while j < a.len() {
+        net = full_adder(words, starts, net, a[j], b[j], carry);
+        carry = 2 * (net.next - 1);
+        j += 1;
+    }
+    net
+}
+
+// The opposite of each bit, in the first places.
+fn opposites(b: &[u32]) -> [u32; 32]
+    requires { ⌜ length (now b) ≤ 32 ⌝ }
+    ensures { λ r. ⌜ Filled r (length (now (b .entry))) (oppBits (litAt (now (b .entry)))) ⌝ }
+{
+    let mut r = [3u32; 32];
+    let mut j = 0;
+    while j < b.len() {
+        r[j] = netlist::opposite(b[j]);
+        j += 1;
+    }
+    r
+}
+
+// The first number minus the second: the opposite bits of the second, and carry 2.
+pub fn subtract(words: &mut [u32], starts: &mut [u32], n: Net, a: &[u32], b: &[u32]) -> Net
+    requires { ⌜ Ready n (3 * length (now a)) ⌝ }
+    requires { ⌜ length (now b) ≡ length (now a) ⌝ }
+    requires { ⌜ length (now a) ≤ 32 ⌝ }
+    ensures { λ r. ⌜ Emitted (now (words .entry)) (now (starts .entry)) n (subtractor (n .next) (litAt (now (a .entry))) (litAt (now (b .entry))) (length (now (a .entry)))) (now (words .exit)) (now (starts .exit)) r ⌝ }
+{
+    let nb = opposites(b);
+    let w = b.len();
+    add(words, starts, n, a, &nb[..w], 2)
+}
+
+// The literals of a sum whose first variable is g.
+pub fn sum_bits(g: u32) -> [u32; 32]
+    requires { ⌜ g ≤ 2 ^ 26 ⌝ }
+    ensures { λ r. ⌜ Filled r 32 (sumBit g) ⌝ }
+{
+    let mut r = [3u32; 32];
+    let mut l = 2 * g + 2;
+    let mut j = 0;
+    while j < 32 {
+        r[j] = l;
+        l += 6;
+        j += 1;
+    }
+    r
+}

@@ -1,0 +1,18 @@
+// The bits of a constant.
+ghost use Rattle.bits.specs.Bits.{Filled};
+ghost use Rattle.bits.specs.Extend.{constBit};
+
+// A constant's literals: 2 where the bit is set, else 3.
+pub fn const_bits(c: u32) -> [u32; 32]
+    ensures { λ r. ⌜ Filled r 32 (constBit c) ⌝ }
+{
+    let mut r = [3u32; 32];
+    let mut x = c;
+    let mut j = 0;
+    while j < 32 {
+        r[j] = 3 - x % 2;
+        x = x / 2;
+        j += 1;
+    }
+    r
+}

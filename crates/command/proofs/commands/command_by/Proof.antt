@@ -1,0 +1,106 @@
+-- `routine::command_by` meets its contract: at each arm the keys, or the bounds of the range, decide the tests of `commandBy`.
+use mathlib.Core.Path.{_≡_}
+use Prim.Native.Nat.{ℕ, _≤_}
+use native.Mathlib.Omega.{arith}
+use borrow.Author.Tests.{ne-eqb, le-leb, lt-leb}
+use Rattle.command.specs.Command.{commandBy}
+use Rattle.command.specs.declared.Simple.{Simple}
+use Rattle.command.specs.declared.Command.{Command}
+use Rattle.command.proofs.commands.command_by.Statement.{statement}
+use Rattle.command.proofs.commands.command_by.Tie as tie
+
+module _ (op a b c k : ℕ) where
+  computes : 3 ≤ op → op ≤ 5 → Command.Simple (Simple.Compute op a b c) ≡ commandBy op a b c k
+  unfolding commandBy
+  computes l h = simp (ne-eqb op 1 (omega arith), ne-eqb op 2 (omega arith), lt-leb 6 op (omega arith), le-leb 3 op l, le-leb op 5 h)
+
+  converts : 6 ≤ op → op ≤ 8 → Command.Simple (Simple.Convert op a b) ≡ commandBy op a b c k
+  unfolding commandBy
+  converts l h = simp (ne-eqb op 1 (omega arith), ne-eqb op 2 (omega arith), le-leb 6 op l, le-leb op 8 h)
+
+  closes : 12 ≤ op → op ≤ 13 → Command.Close op ≡ commandBy op a b c k
+  unfolding commandBy
+  closes l h =
+      simp (
+        ne-eqb op 1 (omega arith),
+        ne-eqb op 2 (omega arith),
+        le-leb 6 op (omega arith),
+        lt-leb op 8 (omega arith),
+        le-leb 3 op (omega arith),
+        lt-leb op 5 (omega arith),
+        ne-eqb op 9 (omega arith),
+        ne-eqb op 10 (omega arith),
+        ne-eqb op 11 (omega arith),
+        ne-eqb op 0 (omega arith),
+        le-leb 12 op l,
+        le-leb op 13 h,
+      )
+
+  unknown : 14 ≤ op → Command.Missing ≡ commandBy op a b c k
+  unfolding commandBy
+  unknown l =
+      simp (
+        ne-eqb op 1 (omega arith),
+        ne-eqb op 2 (omega arith),
+        le-leb 6 op (omega arith),
+        lt-leb op 8 (omega arith),
+        le-leb 3 op (omega arith),
+        lt-leb op 5 (omega arith),
+        ne-eqb op 9 (omega arith),
+        ne-eqb op 10 (omega arith),
+        ne-eqb op 11 (omega arith),
+        ne-eqb op 0 (omega arith),
+        le-leb 12 op (omega arith),
+        lt-leb op 13 (omega arith),
+      )
+
+returns : tie.Need-returns
+unfolding commandBy
+returns c = rw (c .match .keys1)
+
+returns-2 : tie.Need-returns-2
+unfolding commandBy
+returns-2 c = rw (c .match .keys3)
+
+returns-3 : tie.Need-returns-3
+unfolding commandBy
+returns-3 c = rw (c .match .keys4)
+
+returns-4 : tie.Need-returns-4
+unfolding commandBy
+returns-4 c = rw (c .match .keys5)
+
+returns-5 : tie.Need-returns-5
+returns-5 c = computes _ _ _ _ _ (omega arith) (omega arith)
+
+returns-6 : tie.Need-returns-6
+returns-6 c = unknown _ _ _ _ _ (c .if3 .left)
+
+returns-7 : tie.Need-returns-7
+unfolding commandBy
+returns-7 c = rw (c .match .keys2)
+
+returns-8 : tie.Need-returns-8
+returns-8 c = converts _ _ _ _ _ (c .before .if1 .left) (omega arith)
+
+returns-9 : tie.Need-returns-9
+unfolding commandBy
+returns-9 c = rw (c .match .keys6)
+
+returns-10 : tie.Need-returns-10
+returns-10 c = closes _ _ _ _ _ (omega arith) (omega arith)
+
+pub command-by-spec : {M : Type 1} → statement M
+command-by-spec =
+    tie.close
+    (tie.spec
+    returns
+    returns-2
+    returns-3
+    returns-4
+    returns-5
+    returns-6
+    returns-7
+    returns-8
+    returns-9
+    returns-10)

@@ -1,0 +1,93 @@
+// The command at an offset, and its size in bytes.
+use crate::Command;
+use crate::Condition;
+use crate::Simple;
+use slices::byte_at;
+use slices::word_at;
+ghost use mathlib.Core.Path.{_≡_};
+ghost use Prim.Native.Nat.{_<_};
+ghost use lib.ListN.{length};
+ghost use Rattle.command.specs.Command.{commandBy, commandOf, commandAt, sizeOf, sizeOfSimple};
+
+pub fn simple_size(c: Simple) -> usize
+    ensures { λ r. ⌜ r ≡ sizeOfSimple c ⌝ }
+{
+    match c {
+        Simple::Set { .. } => 6,
+        Simple::Convert { .. } => 3,
+        Simple::Compute { .. } => 4,
+        Simple::Read { .. } => 4,
+        Simple::Write { .. } => 4,
+    }
+}
+
+pub fn size_of(command: Command) -> usize
+    ensures { λ r. ⌜ r ≡ sizeOf command ⌝ }
+{
+    match command {
+        Command::Missing => 1,
+        Command::Close(_) => 1,
+        Command::If(_) => 4,
+        Command::Simple(c) => simple_size(c),
+    }
+}
+
+// The command with the byte `op`, its operands a, b, c and, of a set, the constant.
+fn command_by(op: u8, a: u8, b: u8, c: u8, constant: u32) -> Command
+    ensures { λ r. ⌜ r ≡ commandBy op a b c constant ⌝ }
+{
+    match op {
+        0x01 => Command::Simple(Simple::Set { d: a, c: constant }),
+        0x02 | 0x06..=0x08 => Command::Simple(Simple::Convert { op, d: a, s: b }),
+        0x03..=0x05 => Command::Simple(Simple::Compute {
+            op,
+            d: a,
+            s: b,
+            t: c,
+        }),
+        0x09 => Command::Simple(Simple::Read {
+            d: a,
+            array: b,
+            i: c,
+        }),
+        0x0A => Command::Simple(Simple::Write {
+            array: a,
+            i: b,
+            s: c,
+        }),
+        0x0B => Command::If(Condition {
+            relation: a,
+            s: b,
+            t: c,
+        }),
+        0x00 | 0x0C..=0x0D => Command::Close(op),
+        _ => Command::Missing,
+    }
+}
+
+// The command that begins at `at`, with 0 for the bytes past the end.
+fn command_of(bytes: &[u8], at: usize) -> Command
+    requires { ⌜ at < length (now bytes) ⌝ }
+    ensures { λ r. ⌜ r ≡ commandOf (now (bytes .entry)) at ⌝ }
+{
+    let op = byte_at(bytes, at);
+    let a = byte_at(bytes, at + 1);
+    let b = byte_at(bytes, at + 2);
+    let c = byte_at(bytes, at + 3);
+    command_by(op, a, b, c, word_at(bytes, at + 2))
+}
+
+// The whole command at `at`.
+pub fn command_at(bytes: &[u8], at: usize) -> Command
+    ensures { λ r. ⌜ r ≡ commandAt (now (bytes .entry)) at ⌝ }
+{
+    if bytes.len() <= at {
+        return Command::Missing;
+    }
+    let command = command_of(bytes, at);
+    if size_of(command) <= bytes.len() - at {
+        command
+    } else {
+        Command::Missing
+    }
+}

@@ -1,0 +1,60 @@
+// The commands of a routine: the command at an offset, and what is refused of it where it stands.
+pub mod commands;
+pub mod steps;
+
+// How many ifs, reads and writes were met. Reads and writes are the accesses.
+pub struct Counts {
+    pub ifs: u8,
+    pub reads: u8,
+    pub writes: u8,
+}
+
+// The condition of an if.
+pub struct Condition {
+    pub relation: u8,
+    pub s: u8,
+    pub t: u8,
+}
+
+// A command that is no part of an if: its operands as they stand in the bytes.
+pub enum Simple {
+    Set { d: u8, c: u32 },
+    // 0x02 copy, 0x06 cut, 0x07 zero-extend, 0x08 sign-extend
+    Convert { op: u8, d: u8, s: u8 },
+    // 0x03 add, 0x04 subtract, 0x05 multiply
+    Compute { op: u8, d: u8, s: u8, t: u8 },
+    Read { d: u8, array: u8, i: u8 },
+    Write { array: u8, i: u8, s: u8 },
+}
+
+// What stands at an offset.
+pub enum Command {
+    // unknown or cut short, or no command there
+    Missing,
+    // 0x00 end, 0x0C else, 0x0D end of if
+    Close(u8),
+    If(Condition),
+    Simple(Simple),
+}
+
+// What is wrong with a command.
+pub enum Fault {
+    // unknown or cut short, or no command there
+    Unknown,
+    // an operand or the constant is out of range
+    Operand,
+    // the widths are not as the command asks
+    Widths,
+    // else, end of if or end out of place, or an if inside eight others
+    Misplaced,
+    // the 33rd if, the 65th access
+    TooMany,
+}
+
+// What a command is where it stands: refused, the end of its arm, or a command with the counts after it.
+pub enum Step {
+    Refused(Fault),
+    Closed,
+    Plain(Simple, Counts),
+    Fork(Condition, Counts),
+}

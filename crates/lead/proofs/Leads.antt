@@ -1,0 +1,124 @@
+-- Whether there is a claim to translate, from what the parts answered. Assumes nothing.
+use mathlib.Core.Path.{_≡_, refl, sym, _∙_}
+use mathlib.Core.List.{List}
+use mathlib.Core.Bool.{Bool, true, false, cond}
+use Prim.Native.Nat.{ℕ, zero, suc, _+_, _≤_}
+use native.Mathlib.Omega.{arith}
+use lib.ListN.{length}
+use lib.Dec.{ltb, leb, eqb}
+use Rattle.slices.specs.Bytes.{entry}
+use Rattle.header.specs.Header.{firstBad}
+use Rattle.header.specs.declared.Header.{Header}
+use Rattle.command.specs.Step.{accesses}
+use Rattle.command.specs.declared.Counts.{Counts}
+use Rattle.routine.specs.Routine.{Arm, done}
+use Rattle.routine.specs.Decode.{Decoded, rejected, routine, decode, checked, IsRoutine}
+use Rattle.routine.specs.declared.Checked.{Checked}
+use Rattle.routine.specs.declared.Refusal as declared
+use Rattle.routine.proofs.Accepted.{accepted, refused-by}
+use Rattle.lead.specs.Lead.{Admission, refused, translates, firstOdd, unless, byLead, byRoutine, admission, withoutTree, admittedLead, admitted}
+use Rattle.lead.specs.declared.Refusal.{Refusal}
+use Rattle.lead.specs.declared.Target.{Target}
+use Rattle.lead.specs.declared.Admitted.{Admitted}
+
+-- ---- the decisions
+
+module _ (ds : List ℕ) where
+  -- decision i is 0, 1 or 2
+  abbrev pub isDecision : ℕ → Bool
+  isDecision i = leb (entry ds i) 2
+
+  -- the first of n decisions from number i on that is above 2, or the number after them
+  abbrev pub oddFrom : (n i : ℕ) → ℕ
+  oddFrom n i = firstBad isDecision 1 n i
+
+  odd-le : (n i : ℕ) → oddFrom n i ≤ i + n
+  unfolding firstBad
+  odd-le zero i = omega arith
+  odd-le (suc n) i = go (leb (entry ds i) 2) (odd-le n (i + 1))
+    where
+      go : (b : Bool) {x : ℕ} → x ≤ i + 1 + n → cond b x i ≤ i + suc n
+      go true l = omega arith
+      go false l = omega arith
+
+  pub first-odd-le : firstOdd ds ≤ length ds
+  unfolding firstOdd
+  first-odd-le = let l : oddFrom (length ds) 0 ≤ 0 + length ds = odd-le (length ds) 0 in omega arith
+
+-- ---- what `admit` answers
+
+-- a test that two admissions have in common hides no difference of their trees
+same-unless : (b : Bool) (refusal : Refusal) (x y : Admission) → withoutTree x ≡ withoutTree y
+    → withoutTree (unless b refusal x) ≡ withoutTree (unless b refusal y)
+same-unless true refusal x y e = e
+same-unless false refusal x y e = refl
+
+module _ (bs : List ℕ) (t : Target) (ds : List ℕ) where
+  lead-alone : (h : Header) (a : Arm) (k : Counts) → withoutTree (byLead t ds h done k) ≡ withoutTree (byLead t ds h a k)
+  lead-alone h a k =
+      same-unless (eqb (length ds) (k .ifs)) _ _ _
+      (same-unless (ltb (t .access) (accesses k)) _ _ _
+      (same-unless (leb (t .side) 1) _ _ _
+      (same-unless (eqb (firstOdd ds) (length ds)) _ (translates h done k) (translates h a k) refl)))
+
+  pub no-routine : (refusal : declared.Refusal) (r : Checked) → r ≡ checked bs → r ≡ Checked.Refused refusal
+      → Admitted.Refused (Refusal.Routine refusal) ≡ admitted bs t ds
+  unfolding admitted admission
+  no-routine refusal r is e = rw (refused-by bs refusal r is e)
+
+  pub by-lead : (h : Header) (k : Counts) (r : Checked) → r ≡ checked bs → r ≡ Checked.Accepted h k → admittedLead t ds h k ≡ admitted bs t ds
+  unfolding admitted admission admittedLead
+  by-lead h k r is e = let x = accepted bs h k r is e in rw (x .decodes) (lead-alone h (x .arm) k)
+
+-- ---- what an admitted translation has
+
+-- the tree
+pub record Admits (bs : List ℕ) (t : Target) (ds : List ℕ) (h : Header) : Type 0 where
+  pub commands : Arm
+  pub counts : Counts
+  pub decodes : decode bs ≡ routine h commands counts
+  pub admits : admission bs t ds ≡ translates h commands counts
+
+module _ (bs : List ℕ) (t : Target) (ds : List ℕ) where
+  abbrev Of : Admission → Type 0
+  Of (refused refusal) = Unit {0}
+  Of (translates h a k) = decode bs ≡ routine h a k
+
+  of-unless : (b : Bool) (refusal : Refusal) (x : Admission) → Of x → Of (unless b refusal x)
+  of-unless true refusal x o = o
+  of-unless false refusal x o = tt
+
+  of-routine : (d : Decoded) → decode bs ≡ d → Of (byRoutine t ds d)
+  of-routine (rejected refusal) e = tt
+  of-routine (routine h a k) e =
+      of-unless (eqb (length ds) (k .ifs)) _ _
+      (of-unless (ltb (t .access) (accesses k)) _ _
+      (of-unless (leb (t .side) 1) _ _
+      (of-unless (eqb (firstOdd ds) (length ds)) _ (translates h a k) e)))
+
+  of-admission : Of (admission bs t ds)
+  unfolding admission
+  of-admission = of-routine (decode bs) refl
+
+  admits-by : (h : Header) (x : Admission) → admission bs t ds ≡ x → Of x → withoutTree x ≡ Admitted.Translates h → Admits bs t ds h
+  admits-by h (refused refusal) e o q = let z : _≡_ {A = ℕ} 0 1 = cc in absurd (omega arith)
+  admits-by h (translates h₁ a k) e o q =
+      let x : h₁ ≡ h = cc in
+      rw (← x) (record { commands = a; counts = k; decodes = o; admits = e })
+
+  pub admits : (r : Admitted) → r ≡ admitted bs t ds → (h : Header) → r ≡ Admitted.Translates h → Admits bs t ds h
+  unfolding admitted
+  admits r is h e = admits-by h (admission bs t ds) refl of-admission (sym is ∙ e)
+
+  pub is-routine-by : (r : Admitted) → r ≡ admitted bs t ds → (h : Header) → r ≡ Admitted.Translates h → IsRoutine bs h
+  is-routine-by r is h e =
+      let x = admits r is h e in
+      record { commands = x .commands; counts = x .counts; decodes = x .decodes }
+
+  pub refused-with : (r : Admitted) → r ≡ admitted bs t ds → (refusal : Refusal) → r ≡ Admitted.Refused refusal → admission bs t ds ≡ refused refusal
+  unfolding admitted
+  refused-with r is refusal e = go (admission bs t ds) (sym is ∙ e)
+    where
+      go : (x : Admission) → withoutTree x ≡ Admitted.Refused refusal → x ≡ refused refusal
+      go (refused refusal₁) q = cc
+      go (translates h a k) q = let z : _≡_ {A = ℕ} 0 1 = cc in absurd (omega arith)

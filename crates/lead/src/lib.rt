@@ -1,0 +1,77 @@
+// The lead of a claim: an access, a side and a decision for each if. Whether a routine has such a claim: 1 to 8, then 11 and 12.
+pub mod refusals;
+
+use command::Counts;
+use command::steps::accesses_of;
+use header::Header;
+use routine::Checked;
+use slices::wide;
+ghost use mathlib.Core.Path.{_≡_};
+ghost use Rattle.lead.specs.Lead.{firstOdd, admittedLead, admitted};
+
+// What a claim names: an access, and a side (0 below, 1 above).
+pub struct Target {
+    pub access: u8,
+    pub side: u8,
+}
+
+// Why there is no such claim.
+pub enum Refusal {
+    Routine(routine::Refusal),
+    // so many decisions were given
+    DecisionCount(usize),
+    // access, side or a decision is out of range, at this offset of a lead
+    OutOfRange(usize),
+}
+
+// Whether there is such a claim.
+pub enum Admitted {
+    Refused(Refusal),
+    Translates(Header),
+}
+
+// The number of the first decision above 2, or how many there are.
+fn odd_decision(decisions: &[u8]) -> usize
+    ensures { λ r. ⌜ r ≡ firstOdd (now (decisions .entry)) ⌝ }
+{
+    let mut i: usize = 0;
+    let mut left = decisions.len();
+    while 0 < left {
+        if 2 < decisions[i] {
+            return i;
+        }
+        i += 1;
+        left -= 1;
+    }
+    i
+}
+
+// 11, then 12, for a routine with these counts.
+fn admit_lead(h: Header, k: Counts, t: Target, decisions: &[u8]) -> Admitted
+    ensures { λ r. ⌜ r ≡ admittedLead t (now (decisions .entry)) h k ⌝ }
+{
+    if decisions.len() != k.ifs as usize {
+        return Admitted::Refused(Refusal::DecisionCount(decisions.len()));
+    }
+    if accesses_of(k) <= wide(t.access) {
+        return Admitted::Refused(Refusal::OutOfRange(0));
+    }
+    if 1 < t.side {
+        return Admitted::Refused(Refusal::OutOfRange(1));
+    }
+    let odd = odd_decision(decisions);
+    if odd != decisions.len() {
+        return Admitted::Refused(Refusal::OutOfRange(2 + odd));
+    }
+    Admitted::Translates(h)
+}
+
+// Whether there is a claim to translate.
+pub fn admit(routine: &[u8], t: Target, decisions: &[u8]) -> Admitted
+    ensures { λ r. ⌜ r ≡ admitted (now (routine .entry)) t (now (decisions .entry)) ⌝ }
+{
+    match routine::check(routine) {
+        Checked::Refused(refusal) => Admitted::Refused(Refusal::Routine(refusal)),
+        Checked::Accepted { header, counts } => admit_lead(header, counts, t, decisions),
+    }
+}

@@ -1,0 +1,21 @@
+use mathlib.Core.Path.{_∙_}
+use borrow.Author.Needs.{needs}
+use Rattle.machine.specs.State.{indexOf}
+use Rattle.machine.proofs.State.index.Statement.{statement}
+use Rattle.machine.proofs.State.index.Tie as tie
+
+width-of-requires : tie.Need-width-of-requires
+width-of-requires c κs = search needs
+
+value-requires : tie.Need-value-requires
+value-requires c κs = search needs
+
+reading-requires : tie.Need-reading-requires
+reading-requires c κs = search needs
+
+returns : tie.Need-returns
+unfolding indexOf
+returns c = c .reading .ensures ∙ rw (c .before .value .ensures, c .before .before .width-of .ensures)
+
+pub index-spec : {M : Type 1} → statement M
+index-spec = tie.close (tie.spec width-of-requires value-requires reading-requires returns)

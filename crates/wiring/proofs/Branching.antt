@@ -1,0 +1,127 @@
+-- The beginning and the end of an if, from what their parts made. Assumes nothing.
+use mathlib.Core.Path.{_≡_, ap, subst, _∙_}
+use mathlib.Core.List.{List, [], _∷_, _++_}
+use mathlib.Core.Bool.{Bool, true, false}
+use Prim.Native.Nat.{ℕ, zero, suc, _+_, _*_, _≤_}
+use native.Mathlib.Omega.{arith}
+use native.Mathlib.Numerals.{add-one}
+use lib.ListN.{length, take, drop, length-append}
+use lib.Dec.{eqb}
+use Rattle.header.specs.Header.{width}
+use Rattle.command.specs.Sound.{Fine}
+use Rattle.header.specs.declared.Header.{Header}
+use Rattle.command.specs.declared.Condition.{Condition}
+use Rattle.netlist.specs.Literal.{opp, neg}
+use Rattle.netlist.specs.Node.{Node, and}
+use Rattle.netlist.specs.Emit.{Emitted, Ready}
+use Rattle.netlist.specs.declared.Net.{Net}
+use Rattle.netlist.proofs.Emitting.{emitted-then, ready-after}
+use Rattle.bits.specs.Bits.{litAt, Filled, tabulate}
+use Rattle.circuits.specs.Relation.{relNodes, relLit}
+use Rattle.circuits.specs.Join.{join, joinBit}
+use Rattle.circuits.specs.declared.Test.{Test}
+use Rattle.circuits.proofs.Join.{length-join}
+use Rattle.circuits.proofs.Relation.{relation-short}
+use Rattle.wiring.specs.Wires.{bitsIn}
+use Rattle.wiring.specs.Branch.{conditionNodes, conditionLit, armNodes, armLit, branchNodes, joinNodes, joinLits, joined}
+use Rattle.wiring.specs.Makes.{storing, Makes, Branched, joinedVariables}
+use Rattle.wiring.specs.declared.Claim.{Claim}
+use Rattle.wiring.specs.declared.Wires.{Wires}
+use Rattle.wiring.specs.declared.Made.{Made}
+use Rattle.wiring.proofs.Ranges.{ranged}
+use Rattle.operands.proofs.Parts.{filled-table}
+
+-- ---- the beginning
+
+-- an arm's arrival takes at most one gate
+pub arm-few : (other : Bool) (arrival c : ℕ) → length (armNodes other arrival c) + 1 ≤ 2
+arm-few true arrival c = omega arith
+arm-few false arrival c = omega arith
+
+-- operands of one width
+condition-at : (bs : List ℕ) (c : Condition) (s : Wires) (g w : ℕ) → w ≡ width bs (c .s) → width bs (c .s) ≡ width bs (c .t)
+    → relNodes (c .relation) g (litAt (take w (drop (32 * c .s) (s .lits)))) (litAt (take w (drop (32 * c .t) (s .lits)))) w ≡ conditionNodes bs g c s
+condition-at bs c s g w e f =
+    λ i. relNodes (c .relation) g (litAt (take (e i) (drop (32 * c .s) (s .lits)))) (litAt (take ((e ∙ f) i) (drop (32 * c .t) (s .lits)))) (e i)
+
+module _ {W U W₁ U₁ : List ℕ} (n : Net) (bs : List ℕ) (c : Condition) (s : Wires) (w : ℕ) (e : w ≡ width bs (c .s)) (f : width bs (c .s) ≡ width bs (c .t)) (test : Test)
+    (p : Emitted W U n (relNodes (c .relation) (n .next) (litAt (take w (drop (32 * c .s) (s .lits)))) (litAt (take w (drop (32 * c .t) (s .lits)))) w) W₁ U₁ (test .net)) where
+  pub condition-made : Emitted W U n (conditionNodes bs (n .next) c s) W₁ U₁ (test .net)
+  condition-made = subst (λ (ns : List Node). Emitted W U n ns W₁ U₁ (test .net)) (condition-at bs c s (n .next) w e f) p
+
+  -- there is room for the arrivals
+  pub condition-ready : w ≤ 32 → Ready n 8192 → Ready (test .net) 2
+  condition-ready l r =
+      ready-after 2 p r
+      (omega (arith, relation-short (c .relation) (n .next) (litAt (take w (drop (32 * c .s) (s .lits)))) (litAt (take w (drop (32 * c .t) (s .lits)))) w))
+
+  module _ {W₂ U₂ W₃ U₃ : List ℕ} (d : ℕ) (l : test .lit ≡ relLit (c .relation) (n .next) w) (x y : Test)
+      (q : Emitted W₁ U₁ (test .net) (armNodes (eqb d 1) (s .arrival) (test .lit)) W₂ U₂ (x .net)) (a : x .lit ≡ armLit (eqb d 1) (test .net .next))
+      (fails : ℕ) (o : fails ≡ opp (test .lit))
+      (r : Emitted W₂ U₂ (x .net) (armNodes (eqb d 0) (s .arrival) fails) W₃ U₃ (y .net)) (b : y .lit ≡ armLit (eqb d 0) (x .net .next)) where
+    is : test .lit ≡ conditionLit bs (n .next) c
+    is = l ∙ ap (relLit (c .relation) (n .next)) e
+
+    here : test .net .next ≡ n .next + length (conditionNodes bs (n .next) c s)
+    here = condition-made .next
+
+    arms : Emitted W₁ U₁ (test .net) (branchNodes d (s .arrival) (conditionLit bs (n .next) c)) W₃ U₃ (y .net)
+    arms =
+        subst (λ (ns : List Node). Emitted W₁ U₁ (test .net) ns W₃ U₃ (y .net))
+        (λ i. armNodes (eqb d 1) (s .arrival) (is i) ++ armNodes (eqb d 0) (s .arrival) ((o ∙ ap opp is) i)) (emitted-then q r)
+
+    there : x .net .next ≡ n .next + length (conditionNodes bs (n .next) c s) + length (armNodes (eqb d 1) (s .arrival) (conditionLit bs (n .next) c))
+    there = q .next ∙ (λ i. here i + length (armNodes (eqb d 1) (s .arrival) (is i)))
+
+    pub branch-made : Branched bs W U n c d s W₃ U₃ (record { net = y .net; condition = test .lit; first = x .lit; second = y .lit })
+    branch-made = record {
+      emitted = emitted-then condition-made arms;
+      condition = is;
+      first = a ∙ ap (armLit (eqb d 1)) here;
+      second = b ∙ ap (armLit (eqb d 0)) there;
+    }
+
+-- ---- the end
+
+module _ (bs : List ℕ) (h : Header) (fine : Fine bs h) (c : ℕ) (x y : List ℕ) where
+  pub join-few : (v : ℕ) → v ≤ h .variables → length (joinNodes bs c x y v) ≤ 32 * v
+  unfolding joinNodes
+  join-few zero l = omega arith
+  join-few (suc v) l =
+      let r = ranged bs h v fine (omega arith) in
+      simp length-append (omega (arith, join-few v (omega arith), length-join c (bitsIn bs x v) (bitsIn bs y v) (width bs v), r .few))
+
+-- one variable more
+module _ {W U W₁ U₁ W₂ U₂ : List ℕ} (n n₁ n₂ : Net) (bs : List ℕ) (c : ℕ) (x : Wires) (y : List ℕ) (v w : ℕ) (e : w ≡ width bs v)
+    (p : Emitted W U n (joinNodes bs c (x .lits) y v) W₁ U₁ n₁)
+    (q : Emitted W₁ U₁ n₁ (join c (litAt (take w (drop (32 * v) (x .lits)))) (litAt (take w (drop (32 * v) y))) w) W₂ U₂ n₂) where
+  pub variable-joined : Emitted W U n (joinNodes bs c (x .lits) y (v + 1)) W₂ U₂ n₂
+  unfolding joinNodes
+  variable-joined =
+      rw (add-one v)
+      (subst (λ (ns : List Node). Emitted W U n (joinNodes bs c (x .lits) y v ++ ns) W₂ U₂ n₂)
+      (λ i. join c (litAt (take (e i) (drop (32 * v) (x .lits)))) (litAt (take (e i) (drop (32 * v) y))) (e i)) (emitted-then p q))
+
+  pub variable-wired : (s s₁ : Wires) (bits : List ℕ)
+      → s ≡ record { lits = joinLits bs (n .next) c (x .lits) y v; arrival = x .arrival; claim = x .claim }
+      → Filled bits w (joinBit (n₁ .next) c (litAt (take w (drop (32 * v) (x .lits)))) (litAt (take w (drop (32 * v) y))))
+      → w ≤ 32 → s₁ ≡ storing s v (take w bits)
+      → s₁ ≡ record { lits = joinLits bs (n .next) c (x .lits) y (v + 1); arrival = x .arrival; claim = x .claim }
+  unfolding joinLits
+  variable-wired s s₁ bits a f l b =
+      rw (add-one v)
+      (b ∙ ap (storing s v) (filled-table f l)
+      ∙ (λ i. storing (a i) v (tabulate (joinBit (p .next i) c (litAt (take (e i) (drop (32 * v) (x .lits)))) (litAt (take (e i) (drop (32 * v) y)))) (e i))))
+
+-- all variables, then arrival
+pub arms-joined : {W U W₁ U₁ W₂ U₂ : List ℕ} {n n₂ : Net} (bs : List ℕ) (h : Header) (c : ℕ) (x y : Wires) (m : Made) (a b : ℕ)
+    → Makes W U n (joinedVariables bs (n .next) c x y (h .variables)) W₁ U₁ m → a ≡ opp (x .arrival) → b ≡ opp (y .arrival)
+    → Emitted W₁ U₁ (m .net) (and a b ∷ []) W₂ U₂ n₂
+    → Makes W U n (joined bs h (n .next) c x y) W₂ U₂ (record { net = n₂; wires = record { lits = m .wires .lits; arrival = 2 * m .net .next + 1; claim = Claim.Open } })
+unfolding joined
+arms-joined {W} {U} {W₂ = W₂} {U₂ = U₂} {n} {n₂} bs h c x y m a b p e f q = record {
+  emitted =
+      subst (λ (ns : List Node). Emitted W U n (joinNodes bs c (x .lits) (y .lits) (h .variables) ++ ns) W₂ U₂ n₂) (λ i. and (e i) (f i) ∷ [])
+      (emitted-then (p .emitted) q);
+  wires = λ i. record { lits = p .wires i .lits; arrival = neg (p .emitted .next i); claim = Claim.Open };
+}

@@ -1,0 +1,57 @@
+use native.Mathlib.Omega.{arith}
+use denote.Ref.{now}
+use Rattle.netlist.proofs.Emitting.{ready-after, ready-weaken}
+use Rattle.wiring.proofs.Branching.{join-few, arms-joined}
+use borrow.Author.Needs.{needs}
+use Rattle.wiring.proofs.branchings.join_arms.Statement.{statement}
+use Rattle.wiring.proofs.branchings.join_arms.Tie as tie
+
+join-variables-requires : tie.Need-join-variables-requires
+join-variables-requires c κs = search needs
+
+opposite-requires : tie.Need-opposite-requires
+opposite-requires c κs = search needs
+
+opposite-requires-2 : tie.Need-opposite-requires-2
+opposite-requires-2 c κs = search needs
+
+mul-arrival : tie.Need-mul-arrival
+mul-arrival c = let a = c .before .before .before .before .before .before .before .before .before .before .before .before .before .before .before .before .args in
+    let p = c .before .before .before .before .before .before .before .before .before .before .before .before .before .before .before .before .pre in
+    omega (arith, ready-after 2 (c .before .before .before .before .before .before .before .before .before .before .join-variables .ensures .emitted) (p .0) (omega (arith, join-few (now (a .bytes)) (a .h) (p .1) (a .c) (a .x .lits) (a .y .lits) (a .h .variables) (omega arith), p .1 .few)) .next)
+
+add-arrival : tie.Need-add-arrival
+add-arrival c = let a = c .before .before .before .before .before .before .before .before .before .before .before .before .before .before .before .before .args in
+    let p = c .before .before .before .before .before .before .before .before .before .before .before .before .before .before .before .before .pre in
+    omega (arith, ready-after 2 (c .before .before .before .before .before .before .before .before .before .before .join-variables .ensures .emitted) (p .0) (omega (arith, join-few (now (a .bytes)) (a .h) (p .1) (a .c) (a .x .lits) (a .y .lits) (a .h .variables) (omega arith), p .1 .few)) .next)
+
+and-gate-requires : tie.Need-and-gate-requires
+and-gate-requires c κs = let a = c .before .before .before .before .before .before .before .before .before .before .before .before .before .before .before .before .before .before .args in
+    let p = c .before .before .before .before .before .before .before .before .before .before .before .before .before .before .before .before .before .before .pre in
+    ready-weaken (omega arith) (ready-after 2 (c .before .before .before .before .before .before .before .before .before .before .before .before .join-variables .ensures .emitted) (p .0) (omega (arith, join-few (now (a .bytes)) (a .h) (p .1) (a .c) (a .x .lits) (a .y .lits) (a .h .variables) (omega arith), p .1 .few)))
+
+same-length : tie.Need-same-length
+same-length c = search needs
+
+same-length-2 : tie.Need-same-length-2
+same-length-2 c = search needs
+
+returns : tie.Need-returns
+returns c = let a = c .before .before .before .before .before .before .before .before .before .before .before .before .before .before .before .before .before .before .before .before .before .before .before .args in
+    let p = c .before .before .before .before .before .before .before .before .before .before .before .before .before .before .before .before .before .before .before .before .before .before .before .pre in
+    arms-joined (now (a .bytes)) (a .h) (a .c) (a .x) (a .y) (c .before .before .before .before .before .before .before .before .before .before .before .before .before .before .before .before .before .join-variables .result) _ _ (c .before .before .before .before .before .before .before .before .before .before .before .before .before .before .before .before .before .join-variables .ensures) (c .before .before .before .before .before .before .before .before .before .opposite .ensures)
+    (c .before .before .before .before .before .before .before .before .opposite2 .ensures) (c .before .before .before .before .and-gate .ensures)
+
+pub join-arms-spec : {M : Type 1} → statement M
+join-arms-spec =
+    tie.close
+    (tie.spec
+    join-variables-requires
+    opposite-requires
+    opposite-requires-2
+    mul-arrival
+    add-arrival
+    and-gate-requires
+    same-length
+    same-length-2
+    returns)

@@ -1,0 +1,129 @@
+use denote.Ref.{now}
+use Rattle.command.proofs.Fine.{write-fine}
+use Rattle.netlist.proofs.Emitting.{emitted-none}
+use Rattle.wiring.proofs.Commanding.{write-is, makes-as}
+use Rattle.wiring.specs.Command.{simple}
+use borrow.Author.Needs.{needs}
+use Rattle.wiring.proofs.commands.simple_made.Statement.{statement}
+use Rattle.wiring.proofs.commands.simple_made.Tie as tie
+
+enum-known-c : tie.Need-enum-known-c
+enum-known-c c = search needs
+
+set-made-requires : tie.Need-set-made-requires
+set-made-requires c κs = let a = c .before .before .before .before .before .before .args in
+    let p = c .before .before .before .before .before .before .pre in
+    let q = c .before .c .given .1 in
+    (rw q at (p .1 .0), p .1 .1)
+
+enum-known-c-2 : tie.Need-enum-known-c-2
+enum-known-c-2 c = search needs
+
+convert-made-requires : tie.Need-convert-made-requires
+convert-made-requires c κs = let a = c .before .before .before .before .before .before .args in
+    let p = c .before .before .before .before .before .before .pre in
+    let q = c .before .c2 .given .1 in
+    (rw q at (p .1 .0), p .1 .1)
+
+enum-known-c-3 : tie.Need-enum-known-c-3
+enum-known-c-3 c = search needs
+
+compute-made-requires : tie.Need-compute-made-requires
+compute-made-requires c κs = let a = c .before .before .before .before .before .before .before .before .args in
+    let p = c .before .before .before .before .before .before .before .before .pre in
+    let q = c .before .before .before .c3 .given .1 in
+    (p .0, (rw q at (p .1 .0), p .1 .1))
+
+enum-known-c-4 : tie.Need-enum-known-c-4
+enum-known-c-4 c = search needs
+
+read-made-requires : tie.Need-read-made-requires
+read-made-requires c κs = let a = c .before .before .before .before .before .before .before .before .args in
+    let p = c .before .before .before .before .before .before .before .before .pre in
+    let q = c .before .before .before .c4 .given .1 in
+    (p .0, rw q at (p .1))
+
+enum-known-c-5 : tie.Need-enum-known-c-5
+enum-known-c-5 c = search needs
+
+access-made-requires : tie.Need-access-made-requires
+access-made-requires c κs = let a = c .before .before .before .before .before .before .before .before .args in
+    let p = c .before .before .before .before .before .before .before .before .pre in
+    let q = c .before .before .before .c5 .given .1 in
+    (p .0, (write-fine (now (a .bytes)) (a .h) _ _ _ (rw q at (p .1 .0)) .1, p .1 .1))
+
+returns : tie.Need-returns
+unfolding simple
+returns c = let a = c .before .before .before .before .before .before .before .args in
+    let p = c .before .before .before .before .before .before .before .pre in
+    let q = c .before .before .c .given .1 in
+    rw q (record { emitted = emitted-none _ _ _; wires = c .set-made .ensures })
+
+returns-2 : tie.Need-returns-2
+unfolding simple
+returns-2 c = let a = c .before .before .before .before .before .before .before .args in
+    let p = c .before .before .before .before .before .before .before .pre in
+    let q = c .before .before .c2 .given .1 in
+    rw q (record { emitted = emitted-none _ _ _; wires = c .convert-made .ensures })
+
+same-length : tie.Need-same-length
+same-length c = search needs
+
+same-length-2 : tie.Need-same-length-2
+same-length-2 c = search needs
+
+returns-3 : tie.Need-returns-3
+returns-3 c = let a = c .before .before .before .before .before .before .before .before .before .before .before .before .before .args in
+    let p = c .before .before .before .before .before .before .before .before .before .before .before .before .before .pre in
+    let q = c .before .before .before .before .before .before .before .before .c3 .given .1 in
+    rw q (c .before .before .before .before .compute-made .ensures)
+
+same-length-3 : tie.Need-same-length-3
+same-length-3 c = search needs
+
+same-length-4 : tie.Need-same-length-4
+same-length-4 c = search needs
+
+returns-4 : tie.Need-returns-4
+returns-4 c = let a = c .before .before .before .before .before .before .before .before .before .before .before .before .before .args in
+    let p = c .before .before .before .before .before .before .before .before .before .before .before .before .before .pre in
+    let q = c .before .before .before .before .before .before .before .before .c4 .given .1 in
+    rw q (c .before .before .before .before .read-made .ensures)
+
+same-length-5 : tie.Need-same-length-5
+same-length-5 c = search needs
+
+same-length-6 : tie.Need-same-length-6
+same-length-6 c = search needs
+
+returns-5 : tie.Need-returns-5
+returns-5 c = let a = c .before .before .before .before .before .before .before .before .before .before .before .before .before .args in
+    let p = c .before .before .before .before .before .before .before .before .before .before .before .before .before .pre in
+    let q = c .before .before .before .before .before .before .before .before .c5 .given .1 in
+    rw q (makes-as (write-is (now (a .bytes)) (a .h) (a .t) (a .n .next) _ _ (a .k) (a .s) _) (c .before .before .before .before .access-made .ensures))
+
+pub simple-made-spec : {M : Type 1} → statement M
+simple-made-spec =
+    tie.close
+    (tie.spec
+    enum-known-c
+    set-made-requires
+    enum-known-c-2
+    convert-made-requires
+    enum-known-c-3
+    compute-made-requires
+    enum-known-c-4
+    read-made-requires
+    enum-known-c-5
+    access-made-requires
+    returns
+    returns-2
+    same-length
+    same-length-2
+    returns-3
+    same-length-3
+    same-length-4
+    returns-4
+    same-length-5
+    same-length-6
+    returns-5)

@@ -1,0 +1,4 @@
+pub mod Wires
+pub mod Command
+pub mod Branch
+pub mod Makes
