@@ -4,6 +4,7 @@ pub mod Arms
 pub mod Views
 pub mod Accepted
 pub mod Walking
+pub mod Standing
 mod Passing
 pub mod Text
 pub mod Counting

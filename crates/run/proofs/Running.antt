@@ -2,16 +2,16 @@
 use mathlib.Core.Path.{_≡_, refl, ap, subst, _∙_}
 use mathlib.Core.List.{List, [], _∷_}
 use mathlib.Core.Bool.{Bool, true, false, cond}
-use Prim.Native.Nat.{ℕ, _+_, _*_, _-_, _≤_, _<_}
+use Prim.Native.Nat.{ℕ, _+_, _-_, _≤_, _<_}
 use native.Mathlib.Omega.{arith}
 use lib.ListN.{length}
 use Rattle.command.specs.Command.{sizeOfSimple, commandAt}
 use Rattle.header.specs.Header.{firstCommand}
-use Rattle.command.specs.Step.{after, tooMany, oneIf}
+use Rattle.command.specs.Step.{after, oneIf}
 use Rattle.routine.specs.Routine.{Arm}
 use Rattle.routine.specs.Decode.{noCounts, IsRoutine}
 use Rattle.routine.specs.Stands.{Stands, SomeArm, SomeIf}
-use Rattle.command.specs.Sound.{Sound, SoundIf, Fine}
+use Rattle.command.specs.Sound.{Fine}
 use Rattle.routine.specs.Passes.{Passes}
 use Rattle.header.specs.declared.Header.{Header}
 use Rattle.command.specs.declared.Condition.{Condition}
@@ -19,10 +19,11 @@ use Rattle.command.specs.declared.Counts.{Counts}
 use Rattle.command.specs.declared.Simple.{Simple}
 use Rattle.command.specs.declared.Command.{Command}
 use Rattle.routine.specs.declared.Passed.{Passed}
-use Rattle.routine.proofs.Views.{onward, by-missing, by-close, by-simple, by-if}
+use Rattle.routine.proofs.Views.{by-if}
 use Rattle.routine.proofs.Accepted.{decoded}
 use Rattle.command.proofs.Fine.{fine}
 use Rattle.routine.proofs.Walking as walking
+use Rattle.routine.proofs.Standing.{if-ends}
 use Rattle.machine.specs.State.{start, take, holds, carry}
 use Rattle.run.specs.Run as run
 use Rattle.run.specs.Run.{Event, Stretch, unlessStopped, andThen, eventsAt, runArm, runOf}
@@ -163,61 +164,19 @@ module _ (bs ins : List ℕ) (h : Header) (depth close : ℕ) where
               };
         }
 
--- ---- what the command at `at` tells, where some arm stands
-
-module _ (bs : List ℕ) (h : Header) (depth close at : ℕ) (k : Counts) (w : SomeArm bs h depth close at k) (r : Command) (is : r ≡ commandAt bs at) where
-  pub not-missing : r ≡ Command.Missing → ⊥
-  not-missing q = by-missing bs h depth close at k (w .arm) (w .end) (w .after) r is (w .stands) q
-
-  pub close-room : (m : ℕ) → r ≡ Command.Close m → at + 1 ≤ length bs
-  close-room m q = by-close bs h depth close at k (w .arm) (w .end) (w .after) r is (w .stands) m q .room
-
-  -- operands, counts and room of a command that is no if
-  pub simple-known : (c : Simple) → r ≡ Command.Simple c → Sound bs h c × (tooMany c k ≡ false) × (at + sizeOfSimple c ≤ length bs)
-  simple-known c q =
-      let v = by-simple bs h depth close at k (w .arm) (w .end) (w .after) r is (w .stands) c q .known in
-      (v .sound, v .few, v .room)
-
-  module _ (c : Condition) (q : r ≡ Command.If c) where
-    pub some-if : SomeIf bs h depth at (oneIf k) × (k .ifs < 32) × SoundIf bs h c
-    some-if =
-        let v = by-if bs h depth close at k (w .arm) (w .end) (w .after) r is (w .stands) c q in
-        let f = v .known in (
-          record {
-            shallow = f .shallow;
-            first = v .first;
-            else = f .else;
-            between = f .k₂;
-            second = v .second;
-            end = f .next;
-            after = f .k₃;
-            stands-first = f .stands-first;
-            stands-second = f .stands-second;
-          },
-          f .few,
-          f .sound,
-        )
-
-    pub if-room : (ins : List ℕ) (s : State) (t : Reached) → RunsIf bs ins h depth c (reachedAt at k s) t → isOver (t .state .outcome) ≡ false
-        → (at < t .next) × (t .next ≤ length bs)
-    if-room ins s t x e =
-        let v = by-if bs h depth close at k (w .arm) (w .end) (w .after) r is (w .stands) c q in
-        let f = v .known in
-        let y = x .tells (v .first) (f .else) (f .k₂) (v .second) (f .next) (f .k₃) (f .stands-first) (f .stands-second) .next e in
-        let o₁ = onward bs h (depth + 1) 12 (at + 4) (oneIf k) (v .first) (f .else) (f .k₂) (f .stands-first) in
-        let o₂ = onward bs h (depth + 1) 13 (f .else) (f .k₂) (v .second) (f .next) (f .k₃) (f .stands-second) in
-        (omega arith, omega arith)
-
--- the bytes left fall from an if to its second arm
-pub second-falls : (n at next else t : ℕ) → 2 * (n - at) ≡ t → at + 4 < else → else ≤ n → next ≡ else → 2 * (n - next) + 1 < t
-second-falls n at next else t e l u q = omega arith
+-- the bytes left fall over an if
+pub if-room : (bs : List ℕ) (h : Header) (depth close at : ℕ) (k : Counts) (w : SomeArm bs h depth close at k) (r : Command) → r ≡ commandAt bs at
+    → (c : Condition) → r ≡ Command.If c → (ins : List ℕ) (s : State) (t : Reached) → RunsIf bs ins h depth c (reachedAt at k s) t
+    → isOver (t .state .outcome) ≡ false → (at < t .next) × (t .next ≤ length bs)
+if-room bs h depth close at k w r is c q ins s t x e =
+    let v = by-if bs h depth close at k (w .arm) (w .end) (w .after) r is (w .stands) c q in
+    let f = v .known in
+    let y = x .tells (v .first) (f .else) (f .k₂) (v .second) (f .next) (f .k₃) (f .stands-first) (f .stands-second) .next e in
+    rw y (if-ends v)
 
 -- ---- the arms of an if
 
 module _ (bs : List ℕ) (h : Header) (depth at : ℕ) (k : Counts) (i : SomeIf bs h depth at (oneIf k)) where
-  pub else-room : (at + 4 < i .else) × (i .else ≤ length bs)
-  else-room = onward bs h (depth + 1) 12 (at + 4) (oneIf k) (i .first) (i .else) (i .between) (i .stands-first)
-
   pub first-arm : (inside : Counts) → inside ≡ oneIf k → SomeArm bs h (depth + 1) 12 (at + 4) inside
   first-arm inside e = rw e (record { arm = i .first; end = i .else; after = i .between; stands = i .stands-first })
 

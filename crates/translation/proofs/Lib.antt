@@ -20,5 +20,6 @@ pub mod Counted
 pub mod Bound
 mod Beginning
 mod Translating
+mod Parting
 mod Making
 mod Storing

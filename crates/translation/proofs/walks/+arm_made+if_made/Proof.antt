@@ -10,7 +10,9 @@ use Rattle.command.proofs.Sizes.{simple-size}
 use Rattle.netlist.proofs.Emitting.{emitted-starts-length, emitted-then, emitted-words-length, ready-weaken}
 use Rattle.translation.specs.Walker.{walkAt}
 use Rattle.wiring.specs.Wires.{arriving}
-use Rattle.translation.proofs.Translating.{Left, begun, arm-told, room-here, not-missing, close-room, closed, simple-known, stepped, stopped, if-known, if-roomy, forked-on, fork-stopped, if-falls, second-falls, else-room, first-roomy, second-roomy, branched-at, arm-from, if-from, first-room, first-stops, second-room, second-stops, join-ready, arms-join}
+use Rattle.routine.proofs.Standing.{not-missing, close-room, simple-known, second-falls, else-room, some-if}
+use Rattle.translation.proofs.Translating.{Left, begun, arm-told, room-here, closed, stepped, stopped, if-roomy, forked-on, fork-stopped, if-falls, branched-at, arm-from, if-from, some-here}
+use Rattle.translation.proofs.Parting.{first-roomy, second-roomy, first-room, first-stops, second-room, second-stops, join-ready, arms-join}
 use borrow.Fn.Kinds.{In}
 use borrow.Fn.PlainCycle.{Measures, is, falls, and}
 use Rattle.translation.proofs.walks.arm_made.Reads as arm-made
@@ -130,7 +132,7 @@ arm-made-returns t c =
     let p = c .before .before .before .before .before .before .before .before .before .before .before .before .pre .1 in
     let i = p .0 .some in
     let l = c .before .before .before .before .loop .inv .1 i in
-    absurd (not-missing _ _ _ _ _ _ _ _ _ _ _ _ i _ _ _ _ _ _ l _ (c .before .before .before .command-at .ensures) (c .before .enum-told .given .1))
+    absurd (not-missing _ _ _ _ _ _ (some-here _ _ _ _ _ _ _ _ _ _ _ _ i _ _ _ _ _ _ l) _ (c .before .before .before .command-at .ensures) (c .before .enum-told .given .1))
 
 arm-made-enum-told-2 : (t : ℕ) → arm-made-lts.Need-enum-told-2 (arm-made-calls t) (arm-made-at t) arm-made.Post arm-made-Inv-loop arm-made-μ-loop
 arm-made-enum-told-2 t c = search needs
@@ -140,7 +142,7 @@ arm-made-add-walk t c =
     let p = c .before .before .before .before .before .before .before .before .before .before .before .pre .1 in
     let i = p .0 .some in
     let l = c .before .before .before .loop .inv .1 i in
-    let r = close-room _ _ _ _ _ _ _ _ _ _ _ _ i _ _ _ _ _ _ l _ (c .before .before .command-at .ensures) _ (c .enum-told2 .given .1) in
+    let r = close-room _ _ _ _ _ _ (some-here _ _ _ _ _ _ _ _ _ _ _ _ i _ _ _ _ _ _ l) _ (c .before .before .command-at .ensures) _ (c .enum-told2 .given .1) in
     omega arith
 
 arm-made-walk-requires-2 : (t : ℕ) → arm-made-lts.Need-walk-requires-2 (arm-made-calls t) (arm-made-at t) arm-made.Post arm-made-Inv-loop arm-made-μ-loop
@@ -178,9 +180,9 @@ arm-made-if-made-requires t c κs =
     let p = c .before .before .before .before .before .before .before .before .before .before .before .before .before .before .before .pre .1 in
     let i = p .0 .some in
     let l = c .before .before .before .before .before .before .before .loop .inv .1 i in
-    let q = if-known _ _ _ _ _ _ _ _ _ _ _ _ i _ _ _ _ _ _ l _ (c .before .before .before .before .before .before .command-at .ensures) _ (c .before .before .before .before .c .given .1) in
+    let q = some-if _ _ _ _ _ _ (some-here _ _ _ _ _ _ _ _ _ _ _ _ i _ _ _ _ _ _ l) _ (c .before .before .before .before .before .before .command-at .ensures) _ (c .before .before .before .before .c .given .1) in
     let y = if-roomy _ _ _ _ _ _ _ _ _ _ _ _ i _ _ _ _ _ _ l _ (c .before .before .before .before .before .before .command-at .ensures) _ (c .before .before .before .before .c .given .1) (room-here _ _ _ _ _ _ _ _ _ _ _ _ i _ _ _ _ _ _ l (p .0 .room)) in
-    rw (c .before .before .walk3 .ensures) (omega (arith, c .before .before .before .before .before .before .before .before .before .before .before .before .before .before .before .pre .0, c .before .before .before .before .before .before .before .loop .inv .0), (y, q .0, q .1, p .1, l .going))
+    rw (c .before .before .walk3 .ensures) (omega (arith, c .before .before .before .before .before .before .before .before .before .before .before .before .before .before .before .pre .0, c .before .before .before .before .before .before .before .loop .inv .0), (y, q .1, q .2, p .1, l .going))
 
 arm-made-is-made-requires : (t : ℕ) → arm-made-lts.Need-is-made-requires (arm-made-calls t) (arm-made-at t) arm-made.Post arm-made-Inv-loop arm-made-μ-loop
 arm-made-is-made-requires t c κs = search needs
@@ -231,7 +233,7 @@ arm-made-simple-made-requires t c κs =
     let i = p .0 .some in
     let l = c .before .before .before .before .before .before .loop .inv .1 i in
     let r = room-here _ _ _ _ _ _ _ _ _ _ _ _ i _ _ _ _ _ _ l (p .0 .room) in
-    (ready-weaken (omega arith) r, (simple-known _ _ _ _ _ _ _ _ _ _ _ _ i _ _ _ _ _ _ l _ (c .before .before .before .before .before .command-at .ensures) _ (c .before .before .before .c2 .given .1) .0, p .1, l .going))
+    (ready-weaken (omega arith) r, (simple-known _ _ _ _ _ _ (some-here _ _ _ _ _ _ _ _ _ _ _ _ i _ _ _ _ _ _ l) _ (c .before .before .before .before .before .command-at .ensures) _ (c .before .before .before .c2 .given .1) .0, p .1, l .going))
 
 arm-made-is-made-requires-2 : (t : ℕ) → arm-made-lts.Need-is-made-requires-2 (arm-made-calls t) (arm-made-at t) arm-made.Post arm-made-Inv-loop arm-made-μ-loop
 arm-made-is-made-requires-2 t c κs = search needs
@@ -268,7 +270,7 @@ arm-made-add-at t c =
     let p = c .before .before .before .before .before .before .before .before .before .before .before .before .before .before .before .before .before .before .before .before .before .before .before .before .pre .1 in
     let i = p .0 .some in
     let l = c .before .before .before .before .before .before .before .before .before .before .before .before .before .before .before .before .loop .inv .1 i in
-    let r = simple-known _ _ _ _ _ _ _ _ _ _ _ _ i _ _ _ _ _ _ l _ (c .before .before .before .before .before .before .before .before .before .before .before .before .before .before .before .command-at .ensures) _ (c .before .before .before .before .before .before .before .before .before .before .before .before .before .c2 .given .1) .2 in
+    let r = simple-known _ _ _ _ _ _ (some-here _ _ _ _ _ _ _ _ _ _ _ _ i _ _ _ _ _ _ l) _ (c .before .before .before .before .before .before .before .before .before .before .before .before .before .before .before .command-at .ensures) _ (c .before .before .before .before .before .before .before .before .before .before .before .before .before .c2 .given .1) .2 in
     omega (arith, r, c .simple-size .ensures, c .before .before .before .before .before .before .before .before .before .before .before .before .before .before .before .before .before .before .before .before .before .before .before .before .good .1 .1 .0)
 
 arm-made-counts-after-requires : (t : ℕ) → arm-made-lts.Need-counts-after-requires (arm-made-calls t) (arm-made-at t) arm-made.Post arm-made-Inv-loop arm-made-μ-loop
@@ -276,14 +278,14 @@ arm-made-counts-after-requires t c κs =
     let p = c .before .before .before .before .before .before .before .before .before .before .before .before .before .before .before .before .before .before .before .before .before .before .before .before .pre .1 in
     let i = p .0 .some in
     let l = c .before .before .before .before .before .before .before .before .before .before .before .before .before .before .before .before .loop .inv .1 i in
-    simple-known _ _ _ _ _ _ _ _ _ _ _ _ i _ _ _ _ _ _ l _ (c .before .before .before .before .before .before .before .before .before .before .before .before .before .before .before .command-at .ensures) _ (c .before .before .before .before .before .before .before .before .before .before .before .before .before .c2 .given .1) .1
+    simple-known _ _ _ _ _ _ (some-here _ _ _ _ _ _ _ _ _ _ _ _ i _ _ _ _ _ _ l) _ (c .before .before .before .before .before .before .before .before .before .before .before .before .before .before .before .command-at .ensures) _ (c .before .before .before .before .before .before .before .before .before .before .before .before .before .c2 .given .1) .1
 
 arm-made-loop-less-2 : (t : ℕ) → arm-made-lts.Need-loop-less-2 (arm-made-calls t) (arm-made-at t) arm-made.Post arm-made-Inv-loop arm-made-μ-loop
 arm-made-loop-less-2 t c =
     let p = c .before .before .before .before .before .before .before .before .before .before .before .before .before .before .before .before .before .before .before .before .before .before .before .before .before .pre .1 in
     let i = p .0 .some in
     let l = c .before .before .before .before .before .before .before .before .before .before .before .before .before .before .before .before .before .loop .inv .1 i in
-    let r = simple-known _ _ _ _ _ _ _ _ _ _ _ _ i _ _ _ _ _ _ l _ (c .before .before .before .before .before .before .before .before .before .before .before .before .before .before .before .before .command-at .ensures) _ (c .before .before .before .before .before .before .before .before .before .before .before .before .before .before .c2 .given .1) .2 in
+    let r = simple-known _ _ _ _ _ _ (some-here _ _ _ _ _ _ _ _ _ _ _ _ i _ _ _ _ _ _ l) _ (c .before .before .before .before .before .before .before .before .before .before .before .before .before .before .before .before .command-at .ensures) _ (c .before .before .before .before .before .before .before .before .before .before .before .before .before .before .c2 .given .1) .2 in
     omega (arith, simple-size (c .before .before .before .before .before .before .before .before .before .before .before .before .before .before .c2 .given .0 .0))
 
 arm-made-loop-again-2 : (t : ℕ) → arm-made-lts.Need-loop-again-2 (arm-made-calls t) (arm-made-at t) arm-made.Post arm-made-Inv-loop arm-made-μ-loop
