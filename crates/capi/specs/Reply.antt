@@ -15,19 +15,14 @@ use Rattle.command.specs.declared.Counts.{Counts}
 use Rattle.routine.specs.declared.Checked.{Checked}
 use Rattle.run.specs.Answer.{Answer, answer}
 use Rattle.run.specs.Refusal as run
+use Rattle.machine.specs.Side.{sideNumber}
 use Rattle.machine.specs.declared.Side.{Side}
-use Rattle.machine.specs.declared.Side.the-variants.{Below, Above}
 use Rattle.run.specs.declared.Ran.{Ran}
 use Rattle.lead.specs.Lead.{targetOf}
 use Rattle.translation.specs.Answer as translated
 use Rattle.translation.specs.Refusal as translation
 use Rattle.translation.specs.declared.Size.{Size}
 use Rattle.translation.specs.declared.Translated.{Translated}
-
--- 0 below, 1 above
-abbrev pub sideNumber : Side → ℕ
-sideNumber Below = 0
-sideNumber Above = 1
 
 -- 1 if a whole number is negative
 abbrev pub isNegative : Whole → ℕ

@@ -12,7 +12,8 @@ use translation::Translated;
 ghost use mathlib.Core.Path.{_≡_};
 ghost use Prim.Native.Nat.{_≤_};
 ghost use lib.ListN.{length, set};
-ghost use Rattle.capi.specs.Reply.{sideNumber, isNegative, magnitude, countsOf, stoppedOf, sizesOf, filled, checkFills, runFills, translateFills, Fills};
+ghost use Rattle.machine.specs.Side.{sideNumber};
+ghost use Rattle.capi.specs.Reply.{isNegative, magnitude, countsOf, stoppedOf, sizesOf, filled, checkFills, runFills, translateFills, Fills};
 
 fn wide8(x: u8) -> u64
     ensures { λ r. ⌜ r ≡ x ⌝ }

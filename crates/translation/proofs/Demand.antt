@@ -34,7 +34,8 @@ use Rattle.wiring.specs.Command.{Stretch}
 use Rattle.wiring.specs.Wires.{isMade}
 use Rattle.translation.specs.Walk.{armOf}
 use Rattle.translation.specs.Translation.{parameterNodes, start, whole}
-use Rattle.translation.specs.Course.{Course, arrived, sideOf}
+use Rattle.translation.specs.Course.{Course, arrived}
+use Rattle.machine.specs.Side.{sideOf}
 use Rattle.translation.specs.Faithful.{bitsOfList, Solves, courseOf, Arrives, Faithful}
 use Rattle.wiring.specs.declared.Claim.{Claim}
 use Rattle.lead.specs.declared.Target.{Target}

@@ -19,7 +19,7 @@ use Rattle.circuits.specs.Access.{aboveNodes, aboveLit}
 use Rattle.bits.proofs.Values.{not-less, value, value-lt, top-value}
 use Rattle.circuits.proofs.Access.{above-value}
 use Rattle.operands.specs.Operation.{top, claimNodes, claimLit}
-use Rattle.translation.specs.Course.{sideOf}
+use Rattle.machine.specs.Side.{sideOf}
 
 -- not negative and below the size, at or above it, or negative: p says that the index is not negative, q that it is not below the size
 abbrev pub placed : (p q : Bool) → Lies

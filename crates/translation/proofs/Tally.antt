@@ -20,7 +20,8 @@ use Rattle.netlist.specs.Meaning.{Assign, lit}
 use Rattle.wiring.specs.Command.{Stretch, after}
 use Rattle.wiring.specs.Wires.{isMade}
 use Rattle.translation.specs.Walk.{andThen}
-use Rattle.translation.specs.Course.{Course, astray, passing, arrived, course, sideOf}
+use Rattle.translation.specs.Course.{Course, astray, passing, arrived, course}
+use Rattle.machine.specs.Side.{sideOf}
 use Rattle.wiring.specs.declared.Claim.{Claim}
 use Rattle.lead.specs.declared.Target.{Target}
 use Rattle.wiring.specs.declared.Wires.{Wires}

@@ -1,13 +1,11 @@
 -- The course of a run, as far as the named access: by the decisions, or not.
-use Prim.Native.Nat.{ℕ, zero, suc}
+use Prim.Native.Nat.{ℕ}
 use mathlib.Core.List.{List, [], _∷_}
 use mathlib.Core.Bool.{Bool, cond, _||_}
 use lib.Dec.{eqb}
 use Rattle.slices.specs.Bytes.{entry}
 use Rattle.bitvec.specs.declared.Whole.{Whole}
 use Rattle.run.specs.Run.{Event, took, came}
-use Rattle.machine.specs.declared.Side.{Side}
-use Rattle.machine.specs.declared.Side.the-variants.{Below, Above}
 
 -- what a run did: it took another arm than was decided, before it came to the access; it did neither; or it came to the access, in an array, with an index
 pub data Course : Type 0 where
@@ -24,8 +22,3 @@ unfoldable pub course : (ds : List ℕ) → (access : ℕ) → List Event → Co
 course ds access [] = passing
 course ds access (took number arm ∷ es) = cond (follows (entry ds number) arm) (course ds access es) astray
 course ds access (came number array index ∷ es) = cond (eqb number access) (arrived array index) (course ds access es)
-
--- the side of a number: 0 below, 1 above
-abbrev pub sideOf : ℕ → Side
-sideOf zero = Below
-sideOf (suc n) = Above

@@ -21,7 +21,8 @@ use Rattle.netlist.specs.Node.{clausesOf}
 use Rattle.netlist.specs.Meaning.{Assign, Inputs, lit, sat, Extends, Agree}
 use Rattle.wiring.specs.Command.{Stretch}
 use Rattle.translation.specs.Translation.{whole}
-use Rattle.translation.specs.Course.{Course, arrived, course, sideOf}
+use Rattle.translation.specs.Course.{Course, arrived, course}
+use Rattle.machine.specs.Side.{sideOf}
 use Rattle.wiring.specs.declared.Claim.{Claim}
 use Rattle.lead.specs.declared.Target.{Target}
 
