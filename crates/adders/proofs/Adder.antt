@@ -23,7 +23,8 @@ use Rattle.netlist.proofs.Model.{Before, WellFormed}
 use Rattle.netlist.proofs.Truth.{Models, models-append}
 use Rattle.netlist.specs.Emit.{Emitted}
 use Rattle.netlist.specs.Literal.{opp}
-use Rattle.netlist.specs.Meaning.{Assign, Inputs, lit, majB, nodeVal, xorB}
+use Rattle.clauses.specs.Meaning.{Assign, lit}
+use Rattle.netlist.specs.Meaning.{Inputs, majB, nodeVal, xorB}
 use Rattle.netlist.specs.Node.{Node}
 use Rattle.netlist.specs.declared.Net.{Net}
 

@@ -17,7 +17,7 @@ use Rattle.bits.specs.Bits.{Bits}
 use Rattle.bits.specs.Extend.{constBit, extend}
 use Rattle.netlist.proofs.Literals.{lit-false, lit-true}
 use Rattle.netlist.proofs.Model.{Before}
-use Rattle.netlist.specs.Meaning.{Assign, lit}
+use Rattle.clauses.specs.Meaning.{Assign, lit}
 
 -- the literal of a place, by whether it is below the width
 pub extend-is : (a : Bits) (w l x j : ℕ) → (j < w → x ≡ a j) → (w ≤ j → x ≡ l) → x ≡ extend a w l j

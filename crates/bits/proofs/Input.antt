@@ -19,7 +19,8 @@ use Rattle.netlist.proofs.Literals.{lit-pos}
 use Rattle.netlist.proofs.Model.{WellFormed}
 use Rattle.netlist.proofs.Nodes.{clausesOf-append}
 use Rattle.netlist.proofs.Truth.{Models, models-append}
-use Rattle.netlist.specs.Meaning.{Assign, Inputs, nodeVal}
+use Rattle.clauses.specs.Meaning.{Assign}
+use Rattle.netlist.specs.Meaning.{Inputs, nodeVal}
 use Rattle.netlist.specs.Node.{clausesOf, input, nodeClauses}
 use Rattle.netlist.specs.declared.Net.{Net}
 

@@ -14,7 +14,7 @@ use lib.Seq.{ext-getD, getD-at}
 use borrow.Author.Tests.{le-leb, le-ltb, lt-leb, lt-ltb}
 use Rattle.bits.specs.Bits.{Bits, tabulate}
 use Rattle.netlist.proofs.Model.{Before}
-use Rattle.netlist.specs.Meaning.{Assign, lit}
+use Rattle.clauses.specs.Meaning.{Assign, lit}
 
 abbrev pub bit : Bool → ℕ
 bit true = 1

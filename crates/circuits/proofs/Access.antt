@@ -24,7 +24,8 @@ use Rattle.netlist.proofs.Literals.{lit-false, lit-opp}
 use Rattle.netlist.proofs.Model.{Before, WellFormed}
 use Rattle.netlist.proofs.Truth.{Models}
 use Rattle.netlist.specs.Literal.{opp}
-use Rattle.netlist.specs.Meaning.{Assign, Inputs, lit}
+use Rattle.clauses.specs.Meaning.{Assign, lit}
+use Rattle.netlist.specs.Meaning.{Inputs}
 
 -- the signed index is at or above the size: not negative, and not below it
 abbrev pub isAbove : ℕ → ℕ → ℕ → Bool

@@ -18,7 +18,8 @@ use Rattle.netlist.proofs.Model.{Before, WellFormed}
 use Rattle.netlist.proofs.Truth.{Models, models-append}
 use Rattle.netlist.specs.Emit.{Emitted}
 use Rattle.netlist.specs.Literal.{pos}
-use Rattle.netlist.specs.Meaning.{Assign, Inputs, lit, nodeVal}
+use Rattle.clauses.specs.Meaning.{Assign, lit}
+use Rattle.netlist.specs.Meaning.{Inputs, nodeVal}
 use Rattle.netlist.specs.Node.{Node}
 use Rattle.netlist.specs.declared.Net.{Net}
 

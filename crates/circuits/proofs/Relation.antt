@@ -24,7 +24,8 @@ use Rattle.netlist.proofs.Literals.{lit-opp}
 use Rattle.netlist.proofs.Model.{Before, WellFormed}
 use Rattle.netlist.proofs.Truth.{Models}
 use Rattle.netlist.specs.Literal.{opp}
-use Rattle.netlist.specs.Meaning.{Assign, Inputs, lit}
+use Rattle.clauses.specs.Meaning.{Assign, lit}
+use Rattle.netlist.specs.Meaning.{Inputs}
 use Rattle.netlist.specs.Node.{Node}
 
 module _ (w : ℕ) (z : 0 < w) where

@@ -6,7 +6,7 @@ use native.Mathlib.Nat.{mod-lt, zero-lt-suc}
 use native.Mathlib.Omega.{arith}
 use lib.Bits.{bitXor, differ, xor-step, xor-zero-r}
 use Rattle.netlist.specs.Literal.{neg, opp, pos}
-use Rattle.netlist.specs.Meaning.{Assign, lit, turn}
+use Rattle.clauses.specs.Meaning.{Assign, lit, turn}
 
 pub lit-pos : (ρ : Assign) (g : ℕ) → lit ρ (pos g) ≡ ρ g
 unfolding lit

@@ -8,7 +8,8 @@ use native.Mathlib.Nat.{add-suc, add-zero, suc-add}
 use lib.ListN.{length}
 use Rattle.clauses.specs.Clause.{Clause}
 use Rattle.netlist.proofs.Literals.{lit-neg, lit-opp, lit-pos}
-use Rattle.netlist.specs.Meaning.{Assign, Extends, InputOk, Inputs, lit, majB, nodeVal, sat, satClause, xorB}
+use Rattle.clauses.specs.Meaning.{Assign, lit, sat, satClause}
+use Rattle.netlist.specs.Meaning.{Extends, InputOk, Inputs, majB, nodeVal, xorB}
 use Rattle.netlist.specs.Node.{Node, and, clausesOf, input, maj, mux, nodeClauses, one, xor}
 
 -- every node, the first being variable g, has its value

@@ -1,14 +1,10 @@
--- What literals, clauses and nodes mean under an assignment of the variables.
+-- What nodes mean under an assignment of the variables.
 use mathlib.Core.Bool.{Bool, _&&_, _||_, cond, false, not, true}
 use mathlib.Core.List.{List, [], _∷_}
 use mathlib.Core.Path.{_≡_}
-use Prim.Native.Nat.{_%_, _/_, _<_, suc, zero, ℕ}
-use Rattle.clauses.specs.Clause.{Clause}
+use Prim.Native.Nat.{_<_, suc, ℕ}
+use Rattle.clauses.specs.Meaning.{Assign, lit}
 use Rattle.netlist.specs.Node.{Node, and, input, maj, mux, one, xor}
-
--- an assignment of the variables
-abbrev pub Assign : Type 0
-Assign = ℕ → Bool
 
 -- the inputs: word k, bit j
 abbrev pub Inputs : Type 0
@@ -23,25 +19,6 @@ xorB false b = b
 abbrev pub majB : Bool → Bool → Bool → Bool
 majB true b c = b || c
 majB false b c = b && c
-
--- a value, turned where the remainder is not 0
-abbrev pub turn : ℕ → Bool → Bool
-turn zero b = b
-turn (suc r) b = not b
-
--- the value of a literal: of variable l / 2, turned where l is odd
-unfoldable pub lit : Assign → ℕ → Bool
-lit ρ l = turn (l % 2) (ρ (l / 2))
-
--- a clause holds where one of its literals does
-unfoldable pub satClause : Assign → Clause → Bool
-satClause ρ [] = false
-satClause ρ (l ∷ c) = lit ρ l || satClause ρ c
-
--- clauses hold where each does
-unfoldable pub sat : Assign → List Clause → Bool
-sat ρ [] = true
-sat ρ (c ∷ cs) = satClause ρ c && sat ρ cs
 
 -- the value that a node has by the values before it
 unfoldable pub nodeVal : Inputs → Assign → Node → Bool

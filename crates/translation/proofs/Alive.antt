@@ -17,7 +17,8 @@ use Rattle.machine.specs.State.{take, holds, carry}
 use Rattle.run.specs.Run as run
 use Rattle.run.specs.Run.{took, eventsAt, runArm}
 use Rattle.machine.specs.declared.State.{State}
-use Rattle.netlist.specs.Meaning.{Assign, Inputs}
+use Rattle.clauses.specs.Meaning.{Assign}
+use Rattle.netlist.specs.Meaning.{Inputs}
 use Rattle.netlist.proofs.Truth.{Models, models-append}
 use Rattle.wiring.specs.Command.{Stretch, simple}
 use Rattle.wiring.specs.Wires.{isMade}

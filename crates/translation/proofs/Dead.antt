@@ -12,7 +12,8 @@ use Rattle.header.specs.declared.Header.{Header}
 use Rattle.command.specs.declared.Condition.{Condition}
 use Rattle.command.specs.declared.Counts.{Counts}
 use Rattle.command.specs.declared.Simple.{Simple}
-use Rattle.netlist.specs.Meaning.{Assign, Inputs, lit}
+use Rattle.clauses.specs.Meaning.{Assign, lit}
+use Rattle.netlist.specs.Meaning.{Inputs}
 use Rattle.netlist.proofs.Truth.{Models, models-append}
 use Rattle.wiring.specs.Wires.{bitsOf}
 use Rattle.wiring.specs.Command.{Stretch, still, readInto, simple}

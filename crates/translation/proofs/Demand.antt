@@ -26,7 +26,8 @@ use Rattle.run.specs.declared.Listed.{Listed}
 use Rattle.machine.specs.declared.Lies.{Lies}
 use Rattle.machine.specs.declared.State.{State}
 use Rattle.netlist.specs.Node.{Node}
-use Rattle.netlist.specs.Meaning.{Assign, Inputs, lit, nodeVal}
+use Rattle.clauses.specs.Meaning.{Assign, lit}
+use Rattle.netlist.specs.Meaning.{Inputs, nodeVal}
 use Rattle.netlist.proofs.Literals.{lit-true}
 use Rattle.netlist.proofs.Model.{WellFormed, valueAt, eval, satisfied-iff, evaluated}
 use Rattle.netlist.proofs.Truth.{Models, models-iff, models-append}

@@ -18,7 +18,8 @@ use Rattle.machine.specs.State.{take, holds}
 use Rattle.run.specs.Run as run
 use Rattle.run.specs.Run.{took}
 use Rattle.machine.specs.declared.State.{State}
-use Rattle.netlist.specs.Meaning.{Assign, Inputs, lit}
+use Rattle.clauses.specs.Meaning.{Assign, lit}
+use Rattle.netlist.specs.Meaning.{Inputs}
 use Rattle.netlist.proofs.Truth.{Models, models-append}
 use Rattle.bits.proofs.Values.{value}
 use Rattle.circuits.proofs.Relation.{relation-value}

@@ -10,7 +10,8 @@ use lib.Dec.{eqb}
 use Rattle.header.specs.declared.Header.{Header}
 use Rattle.netlist.specs.Literal.{opp, pos}
 use Rattle.netlist.specs.Node.{Node, and}
-use Rattle.netlist.specs.Meaning.{Assign, Inputs, lit, nodeVal}
+use Rattle.clauses.specs.Meaning.{Assign, lit}
+use Rattle.netlist.specs.Meaning.{Inputs, nodeVal}
 use Rattle.netlist.proofs.Literals.{lit-pos, lit-neg, lit-opp, lit-false}
 use Rattle.netlist.proofs.Truth.{Models, models-append}
 use Rattle.bits.specs.Bits.{Bits}

@@ -12,7 +12,8 @@ use Rattle.machine.specs.State.{lies}
 use Rattle.machine.specs.declared.Lies.{Lies}
 use Rattle.machine.specs.declared.Side.{Side}
 use Rattle.machine.specs.declared.Side.the-variants.{Below, Above}
-use Rattle.netlist.specs.Meaning.{Assign, Inputs, lit}
+use Rattle.clauses.specs.Meaning.{Assign, lit}
+use Rattle.netlist.specs.Meaning.{Inputs}
 use Rattle.netlist.proofs.Truth.{Models}
 use Rattle.bits.specs.Bits.{Bits}
 use Rattle.circuits.specs.Access.{aboveNodes, aboveLit}

@@ -16,7 +16,7 @@ use Rattle.run.specs.Walker.{isOver}
 use Rattle.machine.specs.declared.Lies.{Lies}
 use Rattle.machine.specs.declared.Outcome.{Outcome}
 use Rattle.machine.specs.declared.State.{State}
-use Rattle.netlist.specs.Meaning.{Assign, lit}
+use Rattle.clauses.specs.Meaning.{Assign, lit}
 use Rattle.wiring.specs.Command.{Stretch, after}
 use Rattle.wiring.specs.Wires.{isMade}
 use Rattle.translation.specs.Walk.{andThen}

@@ -15,7 +15,8 @@ use Rattle.header.specs.Header.{width}
 use Rattle.command.specs.Sound.{Fine}
 use Rattle.header.specs.declared.Header.{Header}
 use Rattle.machine.specs.State.{over}
-use Rattle.netlist.specs.Meaning.{Assign, Inputs, lit}
+use Rattle.clauses.specs.Meaning.{Assign, lit}
+use Rattle.netlist.specs.Meaning.{Inputs}
 use Rattle.netlist.proofs.Literals.{lit-false}
 use Rattle.netlist.proofs.Truth.{Models, models-append}
 use Rattle.bits.specs.Bits.{Bits}

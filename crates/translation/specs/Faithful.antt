@@ -18,7 +18,8 @@ use Rattle.run.specs.declared.Listed.{Listed}
 use Rattle.machine.specs.declared.Lies.{Lies}
 use Rattle.bits.specs.Input.{bitsOfWord}
 use Rattle.netlist.specs.Node.{clausesOf}
-use Rattle.netlist.specs.Meaning.{Assign, Inputs, lit, sat, Extends, Agree}
+use Rattle.clauses.specs.Meaning.{Assign, lit, sat}
+use Rattle.netlist.specs.Meaning.{Inputs, Extends, Agree}
 use Rattle.wiring.specs.Command.{Stretch}
 use Rattle.translation.specs.Translation.{whole}
 use Rattle.translation.specs.Course.{Course, arrived, course}
