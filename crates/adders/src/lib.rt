@@ -4,7 +4,8 @@ ghost use mathlib.Core.Path.{_≡_};
 ghost use Prim.Native.Nat.{_*_, _^_, _≤_};
 ghost use lib.ListN.{length};
 ghost use Rattle.adders.specs.Adder.{adder, fullAdder, oppBits, subtractor, sumBit};
-ghost use Rattle.bits.specs.Bits.{Filled, litAt};
+ghost use Rattle.bits.specs.Bits.{litAt, tabulate};
+ghost use Rattle.bits.specs.Extend.{extend};
 ghost use Rattle.netlist.specs.Emit.{Emitted, Ready};
 
 // One place of a sum: the half sum, the sum, the carry.
@@ -35,10 +36,10 @@ pub fn add(words: &mut [u32], starts: &mut [u32], n: Net, a: &[u32], b: &[u32], 
     net
 }
 
-// The opposite of each bit, in the first places.
+// The opposite of each bit, and 3 from the width on.
 fn opposites(b: &[u32]) -> [u32; 32]
     requires { ⌜ length (now b) ≤ 32 ⌝ }
-    ensures { λ r. ⌜ Filled r (length (now (b .entry))) (oppBits (litAt (now (b .entry)))) ⌝ }
+    ensures { λ r. ⌜ r ≡ tabulate (extend (oppBits (litAt (now (b .entry)))) (length (now (b .entry))) 3) 32 ⌝ }
 {
     let mut r = [3u32; 32];
     let mut j = 0;
@@ -64,7 +65,7 @@ pub fn subtract(words: &mut [u32], starts: &mut [u32], n: Net, a: &[u32], b: &[u
 // The literals of a sum whose first variable is g.
 pub fn sum_bits(g: u32) -> [u32; 32]
     requires { ⌜ g ≤ 2 ^ 26 ⌝ }
-    ensures { λ r. ⌜ Filled r 32 (sumBit g) ⌝ }
+    ensures { λ r. ⌜ r ≡ tabulate (sumBit g) 32 ⌝ }
 {
     let mut r = [3u32; 32];
     let mut l = 2 * g + 2;

@@ -20,12 +20,18 @@ use Rattle.netlist.proofs.Model.{Before}
 use Rattle.clauses.specs.Meaning.{Assign, lit}
 
 -- the literal of a place, by whether it is below the width
+pub extend-below : (a : Bits) (w l j : ℕ) → j < w → extend a w l j ≡ a j
+extend-below a w l j h = ap (λ (t : Bool). cond t (a j) l) (lt-ltb j w h)
+
+pub extend-above : (a : Bits) (w l j : ℕ) → w ≤ j → extend a w l j ≡ l
+extend-above a w l j h = ap (λ (t : Bool). cond t (a j) l) (le-ltb j w h)
+
 pub extend-is : (a : Bits) (w l x j : ℕ) → (j < w → x ≡ a j) → (w ≤ j → x ≡ l) → x ≡ extend a w l j
 extend-is a w l x j f g = pick (order j w)
   where
     pick : (j < w) ⊎ (w ≤ j) → x ≡ extend a w l j
-    pick (inl h) = f h ∙ sym (ap (λ (t : Bool). cond t (a j) l) (lt-ltb j w h))
-    pick (inr h) = g h ∙ sym (ap (λ (t : Bool). cond t (a j) l) (le-ltb j w h))
+    pick (inl h) = f h ∙ sym (extend-below a w l j h)
+    pick (inr h) = g h ∙ sym (extend-above a w l j h)
 
 const-lit : (ρ : Assign) (x : ℕ) → x < 2 → ρ 1 ≡ true → bit (lit ρ (3 - x)) ≡ x
 const-lit ρ zero h o = ap bit (lit-false ρ o)
@@ -58,7 +64,7 @@ cut-value ρ a w d =
 -- the first bits are the word cut
 pub cut-word : (ρ : Assign) (a : Bits) (w l v : ℕ) → v ≤ w → value ρ (extend a w l) v ≡ cut v (value ρ a w)
 cut-word ρ a w l v h =
-    value-cong ρ (extend a w l) a v (λ j k. ap (λ (t : Bool). cond t (a j) l) (lt-ltb j w (omega arith)))
+    value-cong ρ (extend a w l) a v (λ j k. extend-below a w l j (omega arith))
     ∙ cut-value ρ a v (w - v)
     ∙ ap (λ (n : ℕ). value ρ a n % 2 ^ v) (add-sub-of-le h)
 
@@ -75,7 +81,7 @@ unfolding value
 extend-value ρ a w l zero =
     let e : 2 ^ (w + 0) - 2 ^ w ≡ 0 = ap (λ (k : ℕ). 2 ^ k - 2 ^ w) (add-zero w) ∙ omega arith in
     ap (value ρ (extend a w l)) (add-zero w)
-    ∙ value-cong ρ (extend a w l) a w (λ j h. ap (λ (t : Bool). cond t (a j) l) (lt-ltb j w h))
+    ∙ value-cong ρ (extend a w l) a w (extend-below a w l)
     ∙ sym (ap (λ (z : ℕ). value ρ a w + bit (lit ρ l) * z) e ∙ simp (mul-zero, add-zero))
 extend-value ρ a w l (suc d) =
     ap (value ρ (extend a w l)) (add-suc w d)

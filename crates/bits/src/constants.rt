@@ -1,10 +1,11 @@
 // The bits of a constant.
-ghost use Rattle.bits.specs.Bits.{Filled};
+ghost use mathlib.Core.Path.{_≡_};
+ghost use Rattle.bits.specs.Bits.{tabulate};
 ghost use Rattle.bits.specs.Extend.{constBit};
 
 // A constant's literals: 2 where the bit is set, else 3.
 pub fn const_bits(c: u32) -> [u32; 32]
-    ensures { λ r. ⌜ Filled r 32 (constBit c) ⌝ }
+    ensures { λ r. ⌜ r ≡ tabulate (constBit c) 32 ⌝ }
 {
     let mut r = [3u32; 32];
     let mut x = c;

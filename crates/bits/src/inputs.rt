@@ -1,14 +1,15 @@
 // The bits of an input word: its variables, lowest first. They have no clauses.
 use netlist::Net;
+ghost use mathlib.Core.Path.{_≡_};
 ghost use Prim.Native.Nat.{_^_, _≤_};
-ghost use Rattle.bits.specs.Bits.{Filled};
+ghost use Rattle.bits.specs.Bits.{tabulate};
 ghost use Rattle.bits.specs.Input.{TakesInputs, inBit};
 ghost use Rattle.netlist.specs.Emit.{Ready};
 
 // The literals of an input word whose first variable is g.
 pub fn input_bits(g: u32) -> [u32; 32]
     requires { ⌜ g ≤ 2 ^ 26 ⌝ }
-    ensures { λ r. ⌜ Filled r 32 (inBit g) ⌝ }
+    ensures { λ r. ⌜ r ≡ tabulate (inBit g) 32 ⌝ }
 {
     let mut r = [3u32; 32];
     let mut l = 2 * g;

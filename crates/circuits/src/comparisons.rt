@@ -6,7 +6,8 @@ ghost use mathlib.Core.Path.{_≡_};
 ghost use Prim.Native.Nat.{_*_, _-_, _<_, _≤_};
 ghost use lib.ListN.{length};
 ghost use Rattle.adders.specs.Adder.{carryAt, subtractor};
-ghost use Rattle.bits.specs.Bits.{Filled, litAt};
+ghost use Rattle.bits.specs.Bits.{litAt, tabulate};
+ghost use Rattle.bits.specs.Extend.{extend};
 ghost use Rattle.circuits.specs.Compare.{equality, flipped, same, sameAt, signedLess};
 ghost use Rattle.netlist.specs.Emit.{Emitted, Ready};
 ghost use Rattle.netlist.specs.Literal.{opp};
@@ -25,10 +26,10 @@ pub fn less(words: &mut [u32], starts: &mut [u32], n: Net, a: &[u32], b: &[u32])
     Test { net, lit }
 }
 
-// The bits with the opposite of the top bit, in the first places.
+// The bits with the opposite of the top bit, and 3 from the width on.
 fn flip_top(a: &[u32]) -> [u32; 32]
     requires { ⌜ (0 < length (now a)) × (length (now a) ≤ 32) ⌝ }
-    ensures { λ r. ⌜ Filled r (length (now (a .entry))) (flipped (length (now (a .entry)) - 1) (litAt (now (a .entry)))) ⌝ }
+    ensures { λ r. ⌜ r ≡ tabulate (extend (flipped (length (now (a .entry)) - 1) (litAt (now (a .entry)))) (length (now (a .entry))) 3) 32 ⌝ }
 {
     let top = a.len() - 1;
     let mut r = [3u32; 32];

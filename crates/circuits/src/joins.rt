@@ -7,7 +7,8 @@ ghost use mathlib.Core.Path.{_≡_};
 ghost use Prim.Native.Nat.{_≤_};
 ghost use lib.Dec.{eqb};
 ghost use lib.ListN.{length};
-ghost use Rattle.bits.specs.Bits.{Filled, litAt};
+ghost use Rattle.bits.specs.Bits.{litAt, tabulate};
+ghost use Rattle.bits.specs.Extend.{extend};
 ghost use Rattle.circuits.specs.Join.{join, joinBit, joinOne};
 ghost use Rattle.netlist.specs.Emit.{Emitted, Ready};
 ghost use Rattle.netlist.specs.Literal.{pos};
@@ -26,13 +27,13 @@ fn join_place(words: &mut [u32], starts: &mut [u32], n: Net, c: u32, a: u32, b: 
     Test { net, lit }
 }
 
-// The bits of two arms joined: the first arm's where the condition c holds, else the other's.
+// The bits of two arms joined: the first arm's where the condition c holds, else the other's; and 3 from the width on.
 pub fn join(words: &mut [u32], starts: &mut [u32], n: Net, c: u32, a: &[u32], b: &[u32]) -> Bundle
     requires { ⌜ Ready n (length (now a)) ⌝ }
     requires { ⌜ length (now b) ≡ length (now a) ⌝ }
     requires { ⌜ length (now a) ≤ 32 ⌝ }
     ensures { λ r. ⌜ Emitted (now (words .entry)) (now (starts .entry)) n (join c (litAt (now (a .entry))) (litAt (now (b .entry))) (length (now (a .entry)))) (now (words .exit)) (now (starts .exit)) (r .net) ⌝ }
-    ensures { λ r. ⌜ Filled (r .bits) (length (now (a .entry))) (joinBit (n .next) c (litAt (now (a .entry))) (litAt (now (b .entry)))) ⌝ }
+    ensures { λ r. ⌜ r .bits ≡ tabulate (extend (joinBit (n .next) c (litAt (now (a .entry))) (litAt (now (b .entry)))) (length (now (a .entry))) 3) 32 ⌝ }
 {
     let mut net = n;
     let mut bits = [3u32; 32];

@@ -6,7 +6,7 @@ use netlist::Net;
 ghost use mathlib.Core.Path.{_≡_};
 ghost use Prim.Native.Nat.{_^_, _≤_};
 ghost use lib.ListN.{length};
-ghost use Rattle.bits.specs.Bits.{Filled, litAt};
+ghost use Rattle.bits.specs.Bits.{litAt, tabulate};
 ghost use Rattle.circuits.specs.Product.{accBit, addRow, product, row, rowBit};
 ghost use Rattle.netlist.specs.Emit.{Emitted, Ready};
 
@@ -28,7 +28,7 @@ fn and_row(words: &mut [u32], starts: &mut [u32], n: Net, s: &[u32], t: u32, m: 
 // A row's literals, from place k on.
 fn row_bits(g: u32, k: usize) -> [u32; 32]
     requires { ⌜ (g ≤ 2 ^ 26) × (k ≤ 32) ⌝ }
-    ensures { λ r. ⌜ Filled r 32 (rowBit g k) ⌝ }
+    ensures { λ r. ⌜ r ≡ tabulate (rowBit g k) 32 ⌝ }
 {
     let mut r = [3u32; 32];
     let mut l = 2 * g;
@@ -69,7 +69,7 @@ pub fn multiply(words: &mut [u32], starts: &mut [u32], n: Net, s: &[u32], t: &[u
     requires { ⌜ length (now t) ≡ length (now s) ⌝ }
     requires { ⌜ length (now s) ≤ 32 ⌝ }
     ensures { λ r. ⌜ Emitted (now (words .entry)) (now (starts .entry)) n (product (n .next) (litAt (now (s .entry))) (litAt (now (t .entry))) (length (now (s .entry))) (length (now (s .entry)))) (now (words .exit)) (now (starts .exit)) (r .net) ⌝ }
-    ensures { λ r. ⌜ Filled (r .bits) (length (now (s .entry))) (accBit (n .next) (length (now (s .entry))) (length (now (s .entry)))) ⌝ }
+    ensures { λ r. ⌜ r .bits ≡ tabulate (accBit (n .next) (length (now (s .entry))) (length (now (s .entry)))) 32 ⌝ }
 {
     let w = s.len();
     let mut net = n;

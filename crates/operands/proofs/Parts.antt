@@ -5,9 +5,7 @@ use Prim.Native.Nat.{ℕ, _+_, _-_, _*_, _≤_, _<_}
 use native.Mathlib.Omega.{arith}
 use lib.ListN.{length, getD, take, drop, length-drop}
 use lib.Seq.{length-take-le, getD-take, getD-drop}
-use Rattle.bits.specs.Bits.{Bits, litAt, Filled, tabulate}
-use Rattle.bits.proofs.Values.{tabulate-ext}
-use Rattle.bits.proofs.Laws.{filled-length, filled-bits}
+use Rattle.bits.specs.Bits.{litAt}
 
 -- a part of w places is that long
 pub part-width : (i w : ℕ) → 32 * i + w - 32 * i ≡ w
@@ -22,7 +20,3 @@ module _ (lits : List ℕ) (i w : ℕ) (e : length lits ≡ 1024) (h : i < 32) (
   part-top z =
       let x : 32 * i + w - 1 ≡ 32 * i + (w - 1) = omega arith in
       ap (λ (j : ℕ). getD lits j 0) x ∙ sym (getD-take w (drop (32 * i) lits) (w - 1) 0 (omega arith) ∙ getD-drop (32 * i) lits (w - 1) 0)
-
--- the first places of an array that holds bits are the table of these
-pub filled-table : {r : List ℕ} {w : ℕ} {f : Bits} → Filled r w f → w ≤ 32 → take w r ≡ tabulate f w
-filled-table {r} {w} {f} p l = tabulate-ext (take w r) f w (filled-length p l) (filled-bits p)

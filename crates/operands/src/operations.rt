@@ -16,7 +16,8 @@ ghost use lib.Dec.{eqb};
 ghost use Prim.Native.Nat.{_*_, _≤_, _<_};
 ghost use lib.ListN.{length, take, drop};
 ghost use Rattle.netlist.specs.Emit.{Emitted, Ready};
-ghost use Rattle.bits.specs.Bits.{litAt, Filled};
+ghost use Rattle.bits.specs.Bits.{litAt, tabulate};
+ghost use Rattle.bits.specs.Extend.{extend};
 ghost use Rattle.circuits.specs.Join.{joinBit, join as joinOf};
 ghost use Rattle.circuits.specs.Relation.{relNodes, relLit};
 ghost use Rattle.operands.specs.Operation.{convertBits, computeNodes, computeBits};
@@ -36,7 +37,7 @@ pub fn compute(
     requires { ⌜ length (now lits) ≡ 1024 ⌝ }
     requires { ⌜ (s < 32) × (t < 32) × (w ≤ 32) ⌝ }
     ensures { λ r. ⌜ Emitted (now (words .entry)) (now (starts .entry)) n (computeNodes op (n .next) (litAt (take w (drop (32 * s) (now (lits .entry))))) (litAt (take w (drop (32 * t) (now (lits .entry))))) w) (now (words .exit)) (now (starts .exit)) (r .net) ⌝ }
-    ensures { λ r. ⌜ Filled (r .bits) w (computeBits op (n .next) w) ⌝ }
+    ensures { λ r. ⌜ r .bits ≡ tabulate (computeBits op (n .next) w) 32 ⌝ }
 {
     let a = 32 * (s as usize);
     let b = 32 * (t as usize);
@@ -93,7 +94,7 @@ fn past_bits(op: u8, top: u32) -> u32
 pub fn convert(lits: &[u32], op: u8, a: u8, w: usize) -> [u32; 32]
     requires { ⌜ length (now lits) ≡ 1024 ⌝ }
     requires { ⌜ (a < 32) × (0 < w) × (w ≤ 32) ⌝ }
-    ensures { λ r. ⌜ Filled r 32 (convertBits op w (litAt (take w (drop (32 * a) (now (lits .entry)))))) ⌝ }
+    ensures { λ r. ⌜ r ≡ tabulate (convertBits op w (litAt (take w (drop (32 * a) (now (lits .entry)))))) 32 ⌝ }
 {
     let from = 32 * (a as usize);
     let to = from + w;
@@ -116,7 +117,7 @@ pub fn join_variable(
     requires { ⌜ (length (now x) ≡ 1024) × (length (now y) ≡ 1024) ⌝ }
     requires { ⌜ (v < 32) × (w ≤ 32) ⌝ }
     ensures { λ r. ⌜ Emitted (now (words .entry)) (now (starts .entry)) n (joinOf c (litAt (take w (drop (32 * v) (now (x .entry))))) (litAt (take w (drop (32 * v) (now (y .entry))))) w) (now (words .exit)) (now (starts .exit)) (r .net) ⌝ }
-    ensures { λ r. ⌜ Filled (r .bits) w (joinBit (n .next) c (litAt (take w (drop (32 * v) (now (x .entry))))) (litAt (take w (drop (32 * v) (now (y .entry)))))) ⌝ }
+    ensures { λ r. ⌜ r .bits ≡ tabulate (extend (joinBit (n .next) c (litAt (take w (drop (32 * v) (now (x .entry))))) (litAt (take w (drop (32 * v) (now (y .entry)))))) w 3) 32 ⌝ }
 {
     let from = 32 * (v as usize);
     let to = from + w;

@@ -12,14 +12,14 @@ use Rattle.netlist.specs.Node.{Node}
 use Rattle.netlist.specs.Emit.{Emitted}
 use Rattle.netlist.specs.declared.Net.{Net}
 use Rattle.netlist.proofs.Emitting.{emitted-then}
-use Rattle.bits.specs.Bits.{Filled, tabulate}
+use Rattle.bits.specs.Bits.{tabulate}
 use Rattle.bits.specs.Input.{inputs, inBit, TakesInputs}
 use Rattle.bits.proofs.Input.{length-inputs}
+use Rattle.bits.proofs.Laws.{sized-table}
 use Rattle.translation.specs.Translation.{parameterNodes, parameterLits, start}
 use Rattle.wiring.specs.Makes.{storing}
 use Rattle.wiring.specs.declared.Wires.{Wires}
 use Rattle.wiring.proofs.Ranges.{ranged}
-use Rattle.operands.proofs.Parts.{filled-table}
 
 pub some-few : (bs : List ℕ) (h : Header) → Fine bs h → (p : ℕ) → p ≤ h .parameters → length (parameterNodes bs p) ≤ 32 * p
 unfolding parameterNodes
@@ -35,11 +35,11 @@ module _ (bs : List ℕ) (n n₁ n₂ : Net) (p w : ℕ) (e : w ≡ width bs p) 
       rw (add-one p)
       (subst (λ (ns : List Node). Emitted W U n (parameterNodes bs p ++ ns) W U n₂) (λ i. inputs p (e i)) (emitted-then (q W U) (r .tells W U p)))
 
-  pub parameter-wired : n .next ≡ 2 → (s s₁ : Wires) (bits : List ℕ) → s ≡ start bs p → Filled bits 32 (inBit (n₁ .next)) → w ≤ 32 → s₁ ≡ storing s p (take w bits)
+  pub parameter-wired : n .next ≡ 2 → (s s₁ : Wires) (bits : List ℕ) → s ≡ start bs p → bits ≡ tabulate (inBit (n₁ .next)) 32 → w ≤ 32 → s₁ ≡ storing s p (take w bits)
       → s₁ ≡ start bs (p + 1)
   unfolding parameterLits start
   parameter-wired two s s₁ bits a f l b =
       let g : n₁ .next ≡ 2 + length (parameterNodes bs p) = q [] [] .next ∙ ap (λ (i : ℕ). i + length (parameterNodes bs p)) two in
       rw (add-one p)
-      (b ∙ ap (storing s p) (filled-table (record { size = f .size; places = λ j k. f .places j (omega arith) }) l)
+      (b ∙ ap (storing s p) (sized-table _ f w l)
       ∙ (λ i. storing (a i) p (tabulate (inBit (g i)) (e i))))

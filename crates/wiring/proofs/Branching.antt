@@ -16,7 +16,9 @@ use Rattle.netlist.specs.Node.{Node, and}
 use Rattle.netlist.specs.Emit.{Emitted, Ready}
 use Rattle.netlist.specs.declared.Net.{Net}
 use Rattle.netlist.proofs.Emitting.{emitted-then, ready-after}
-use Rattle.bits.specs.Bits.{litAt, Filled, tabulate}
+use Rattle.bits.specs.Bits.{litAt, tabulate}
+use Rattle.bits.specs.Extend.{extend}
+use Rattle.bits.proofs.Laws.{extended-table}
 use Rattle.circuits.specs.Relation.{relNodes, relLit}
 use Rattle.circuits.specs.Join.{join, joinBit}
 use Rattle.circuits.specs.declared.Test.{Test}
@@ -29,7 +31,6 @@ use Rattle.wiring.specs.declared.Claim.{Claim}
 use Rattle.wiring.specs.declared.Wires.{Wires}
 use Rattle.wiring.specs.declared.Made.{Made}
 use Rattle.wiring.proofs.Ranges.{ranged}
-use Rattle.operands.proofs.Parts.{filled-table}
 
 -- ---- the beginning
 
@@ -104,13 +105,13 @@ module _ {W U W₁ U₁ W₂ U₂ : List ℕ} (n n₁ n₂ : Net) (bs : List ℕ
 
   pub variable-wired : (s s₁ : Wires) (bits : List ℕ)
       → s ≡ record { lits = joinLits bs (n .next) c (x .lits) y v; arrival = x .arrival; claim = x .claim }
-      → Filled bits w (joinBit (n₁ .next) c (litAt (take w (drop (32 * v) (x .lits)))) (litAt (take w (drop (32 * v) y))))
+      → bits ≡ tabulate (extend (joinBit (n₁ .next) c (litAt (take w (drop (32 * v) (x .lits)))) (litAt (take w (drop (32 * v) y)))) w 3) 32
       → w ≤ 32 → s₁ ≡ storing s v (take w bits)
       → s₁ ≡ record { lits = joinLits bs (n .next) c (x .lits) y (v + 1); arrival = x .arrival; claim = x .claim }
   unfolding joinLits
   variable-wired s s₁ bits a f l b =
       rw (add-one v)
-      (b ∙ ap (storing s v) (filled-table f l)
+      (b ∙ ap (storing s v) (extended-table _ w 3 f l)
       ∙ (λ i. storing (a i) v (tabulate (joinBit (p .next i) c (litAt (take (e i) (drop (32 * v) (x .lits)))) (litAt (take (e i) (drop (32 * v) y)))) (e i))))
 
 -- all variables, then arrival

@@ -14,8 +14,9 @@ use Rattle.command.specs.declared.Counts.{Counts}
 use Rattle.command.specs.declared.Simple.{Simple}
 use Rattle.netlist.specs.declared.Net.{Net}
 use Rattle.netlist.proofs.Emitting.{emitted-then}
-use Rattle.bits.specs.Bits.{Bits, litAt, Filled}
+use Rattle.bits.specs.Bits.{Bits, litAt, tabulate}
 use Rattle.bits.specs.Input.{inBit, TakesInputs}
+use Rattle.bits.proofs.Laws.{sized-table}
 use Rattle.circuits.specs.Access.{aboveNodes}
 use Rattle.circuits.proofs.Access.{above-short}
 use Rattle.wiring.specs.Wires.{bitsOf, put, arriving, claiming, isMade}
@@ -25,15 +26,12 @@ use Rattle.wiring.specs.Makes.{storing, accessOf, Makes}
 use Rattle.lead.specs.declared.Target.{Target}
 use Rattle.wiring.specs.declared.Wires.{Wires}
 use Rattle.wiring.specs.declared.Made.{Made}
-use Rattle.operands.proofs.Parts.{filled-table}
 use Rattle.command.proofs.Tests.{not-both}
 
--- an array of w places was stored for variable d
-pub stored : (bs : List ℕ) (s : Wires) (d : ℕ) {r : List ℕ} {n : ℕ} {f : Bits} (x : Wires) (w : ℕ) → x ≡ storing s d (take w r) → w ≡ width bs d
-    → Filled r n f → width bs d ≤ n → width bs d ≤ 32 → x ≡ put bs s d f
-stored bs s d {r} {n} {f} x w e q p l m =
-    e ∙ ap (λ (i : ℕ). storing s d (take i r)) q
-    ∙ ap (storing s d) (filled-table (record { size = p .size; places = λ j k. p .places j (omega arith) }) m)
+-- the first w places of an array were stored for variable d
+pub stored : (bs : List ℕ) (s : Wires) (d : ℕ) {r : List ℕ} (f : Bits) (x : Wires) (w : ℕ) → x ≡ storing s d (take w r) → w ≡ width bs d
+    → r ≡ tabulate f 32 → width bs d ≤ 32 → x ≡ put bs s d f
+stored bs s d {r} f x w e q p l = e ∙ ap (λ (i : ℕ). storing s d (take i r)) q ∙ ap (storing s d) (sized-table f p (width bs d) l)
 
 -- operands of one width
 pub computed-at : (bs : List ℕ) (s : Wires) (op d a b g : ℕ) (w : ℕ) → w ≡ width bs d → width bs d ≡ width bs a → width bs d ≡ width bs b

@@ -1,23 +1,24 @@
-use mathlib.Core.Path.{_≡_, refl}
-use Prim.Native.Nat.{ℕ, _≤_, _<_, _-_}
+use mathlib.Core.Path.{_≡_}
+use Prim.Native.Nat.{_≤_, _-_}
 use native.Mathlib.Omega.{arith}
 use borrow.Author.Needs.{needs}
 use denote.Ref.{now}
-use lib.ListN.{length, getD, length-set}
-use Rattle.bits.proofs.Laws.{filled-turn}
+use lib.ListN.{length}
+use Rattle.bits.proofs.Laws.{extended-none, extended-turn}
 use Rattle.adders.proofs.opposites.Statement.{statement}
 use Rattle.adders.specs.Adder.{oppBits}
-use Rattle.bits.specs.Bits.{litAt}
+use Rattle.bits.specs.Bits.{litAt, tabulate}
+use Rattle.bits.specs.Extend.{extend}
 use Rattle.adders.proofs.opposites.Tie as tie
 
 abbrev Inv-loop : tie.InvT-loop
-Inv-loop b r₀ j₀ r j = (j ≤ length b) × (length r ≡ 32) × ((i : ℕ) → i < j → getD r i 0 ≡ oppBits (litAt b) i)
+Inv-loop b r₀ j₀ r j = (j ≤ length b) × (r ≡ tabulate (extend (oppBits (litAt b)) j 3) 32)
 
 abbrev μ-loop : tie.MeasureT-loop
 μ-loop b r₀ j₀ r j = length b - j
 
 loop-holds : tie.Need-loop-holds Inv-loop μ-loop
-loop-holds c = (search needs, refl, λ i h. absurd (omega arith))
+loop-holds c = (search needs, extended-none _ _ 32)
 
 mul-opposite : tie.Need-mul-opposite Inv-loop μ-loop
 mul-opposite c = search needs
@@ -43,10 +44,12 @@ loop-less c = search needs
 loop-again : tie.Need-loop-again Inv-loop μ-loop
 loop-again c =
     let l = c .before .before .before .loop in
-    (search needs, simp length-set (l .inv .1), filled-turn (l .r) (oppBits (litAt (now (c .before .before .before .before .before .args .b)))) (l .j) _ (omega arith) (c .opposite .ensures) (l .inv .2))
+    (search needs, extended-turn _ _ (l .j) _ (l .inv .1) (omega arith) (c .opposite .ensures))
 
 returns : tie.Need-returns Inv-loop μ-loop
-returns c = record { size = c .before .loop .inv .1; places = λ j h. c .before .loop .inv .2 j (omega arith) }
+returns c =
+    let e : c .before .loop .j ≡ length (now (c .before .before .before .args .b)) = omega arith in
+    rw e at (c .before .loop .inv .1)
 
 pub opposites-spec : {M : Type 1} → statement M
 opposites-spec =

@@ -5,7 +5,7 @@ use lib.ListN.{length}
 use lib.Seq.{length-take-le}
 use borrow.Author.Needs.{needs}
 use Rattle.adders.proofs.Adder.{adder-cong}
-use Rattle.bits.proofs.Laws.{filled-bits, filled-length}
+use Rattle.bits.proofs.Laws.{extended-bits, sized-length}
 use Rattle.adders.proofs.subtract.Statement.{statement}
 use Rattle.adders.specs.Adder.{oppBits}
 use Rattle.bits.specs.Bits.{litAt}
@@ -21,7 +21,7 @@ slice-aggregate-add : tie.Need-slice-aggregate-add
 slice-aggregate-add c = sym (length-take-le _ _ (omega (arith, c .before .before .before .opposites .ok)))
 
 add-requires : tie.Need-add-requires
-add-requires c κs = (c .before .before .before .before .before .before .before .before .pre .0, filled-length (c .before .before .before .opposites .ensures) (omega arith) ∙ c .before .before .before .before .before .before .before .before .pre .1 .0)
+add-requires c κs = (c .before .before .before .before .before .before .before .before .pre .0, sized-length _ (c .before .before .before .opposites .ensures) _ (omega arith) ∙ c .before .before .before .before .before .before .before .before .pre .1 .0)
 
 same-length : tie.Need-same-length
 same-length c = search needs
@@ -33,7 +33,7 @@ returns : tie.Need-returns
 returns c =
     let a = c .before .before .before .before .before .before .before .before .before .before .before .before .before .args in
     let o = c .before .before .before .before .before .before .before .before .opposites .ensures in
-    rw (← adder-cong (a .n .next) (litAt (now (a .a))) _ (litAt (now (a .a))) (oppBits (litAt (now (a .b)))) 2 (length (now (a .a))) (λ j h. refl) (λ j h. filled-bits o j (omega arith)))
+    rw (← adder-cong (a .n .next) (litAt (now (a .a))) _ (litAt (now (a .a))) (oppBits (litAt (now (a .b)))) 2 (length (now (a .a))) (λ j h. refl) (λ j h. extended-bits _ _ _ o (omega arith) j (omega arith)))
     (c .before .before .before .before .add .ensures)
 
 pub subtract-spec : {M : Type 1} → statement M

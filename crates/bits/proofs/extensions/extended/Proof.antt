@@ -1,25 +1,23 @@
-use mathlib.Core.Path.{_≡_, _∙_, refl}
-use Prim.Native.Nat.{ℕ, _≤_, _<_, _-_}
+use mathlib.Core.Path.{_≡_, refl}
+use Prim.Native.Nat.{_≤_, _-_}
 use native.Mathlib.Omega.{arith}
 use borrow.Author.Needs.{needs}
 use denote.Ref.{now}
-use lib.ListN.{length, getD, length-set, getD-replicate}
-use lib.Seq.{getD-set-other}
-use Rattle.bits.proofs.Extend.{extend-is}
-use Rattle.bits.proofs.Laws.{filled-turn}
-use Rattle.bits.specs.Bits.{litAt}
+use lib.ListN.{length}
+use Rattle.bits.proofs.Laws.{extended-none, extended-turn}
+use Rattle.bits.specs.Bits.{litAt, tabulate}
+use Rattle.bits.specs.Extend.{extend}
 use Rattle.bits.proofs.extensions.extended.Statement.{statement}
 use Rattle.bits.proofs.extensions.extended.Tie as tie
 
 abbrev Inv-loop : tie.InvT-loop
-Inv-loop a l r₀ j₀ r j =
-    (j ≤ length a) × (length r ≡ 32) × ((i : ℕ) → i < j → getD r i 0 ≡ litAt a i) × ((i : ℕ) → j ≤ i → i < 32 → getD r i 0 ≡ l)
+Inv-loop a l r₀ j₀ r j = (j ≤ length a) × (r ≡ tabulate (extend (litAt a) j l) 32)
 
 abbrev μ-loop : tie.MeasureT-loop
 μ-loop a l r₀ j₀ r j = length a - j
 
 loop-holds : tie.Need-loop-holds Inv-loop μ-loop
-loop-holds c = (search needs, refl, (λ i h. absurd (omega arith)), (λ i h k. getD-replicate 32 i (c .args .l) 0 k))
+loop-holds c = (search needs, extended-none _ _ 32)
 
 mul-r : tie.Need-mul-r Inv-loop μ-loop
 mul-r c = search needs
@@ -42,21 +40,13 @@ loop-less c = search needs
 loop-again : tie.Need-loop-again Inv-loop μ-loop
 loop-again c =
     let l = c .before .before .loop in
-    let a = now (c .before .before .before .args .a) in (
-      search needs,
-      simp length-set (l .inv .1),
-      filled-turn (l .r) (litAt a) (l .j) _ (omega arith) refl (l .inv .2),
-      (λ i h k. getD-set-other (l .r) (l .j) i _ 0 (λ e. absurd (omega arith)) ∙ l .inv .3 i (omega arith) k),
-    )
+    (search needs, extended-turn _ _ (l .j) _ (l .inv .1) (omega arith) refl)
 
 returns : tie.Need-returns Inv-loop μ-loop
 returns c =
     let l = c .before .loop in
-    let a = c .before .before .args in
-    record {
-      size = l .inv .1;
-      places = λ i h. extend-is (litAt (now (a .a))) (length (now (a .a))) (a .l) _ i (λ k. l .inv .2 i (omega arith)) (λ k. l .inv .3 i (omega arith) h);
-    }
+    let e : l .j ≡ length (now (c .before .before .args .a)) = omega arith in
+    rw e at (l .inv .1)
 
 pub extended-spec : {M : Type 1} → statement M
 extended-spec =

@@ -4,6 +4,7 @@ use native.Mathlib.Omega.{arith}
 use borrow.Author.Needs.{needs}
 use lib.ListN.{length, getD, length-set}
 use Rattle.bits.proofs.Laws.{filled-turn}
+use Rattle.bits.proofs.Values.{tabulate-ext}
 use Rattle.bits.specs.Input.{inBit}
 use Rattle.bits.proofs.inputs.input_bits.Statement.{statement}
 use Rattle.bits.proofs.inputs.input_bits.Tie as tie
@@ -47,7 +48,7 @@ loop-again c =
     )
 
 returns : tie.Need-returns Inv-loop μ-loop
-returns c = record { size = c .before .loop .inv .2; places = λ i h. c .before .loop .inv .3 i (omega arith) }
+returns c = tabulate-ext _ _ 32 (c .before .loop .inv .2) (λ i h. c .before .loop .inv .3 i (omega arith))
 
 pub input-bits-spec : {M : Type 1} → statement M
 input-bits-spec =

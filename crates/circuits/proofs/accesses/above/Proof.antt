@@ -3,10 +3,9 @@ use native.Mathlib.Omega.{arith}
 use borrow.Author.Tests.{lt-ltb, le-ltb}
 use denote.Ref.{now}
 use lib.ListN.{length, take}
-use lib.Seq.{getD-take}
 use borrow.Author.Needs.{needs}
 use Rattle.circuits.proofs.Compare.{signed-cong}
-use Rattle.bits.proofs.Laws.{sized-length}
+use Rattle.bits.proofs.Laws.{sized-bits, sized-length}
 use Rattle.circuits.proofs.accesses.above.Statement.{statement}
 use Rattle.bits.specs.Bits.{litAt}
 use Rattle.bits.specs.Extend.{constBit}
@@ -33,13 +32,13 @@ array-share-prefix-bits : tie.Need-array-share-prefix-bits
 array-share-prefix-bits c = search needs
 
 slice-aggregate-less-signed : tie.Need-slice-aggregate-less-signed
-slice-aggregate-less-signed c = sym (sized-length _ (c .before .before .before .const-bits .ensures) (omega (arith, c .before .before .before .before .before .before .before .before .pre .1)))
+slice-aggregate-less-signed c = sym (sized-length _ (c .before .before .before .const-bits .ensures) _ (omega (arith, c .before .before .before .before .before .before .before .before .pre .1)))
 
 less-signed-requires : tie.Need-less-signed-requires
 less-signed-requires c κs =
     let p = c .before .before .before .before .before .before .before .before .pre in (
       record { words = p .0 .words; clauses = p .0 .clauses; next = omega (arith, p .0 .next, p .1) },
-      (sized-length _ (c .before .before .before .const-bits .ensures) (omega (arith, p .1)), p .1),
+      (sized-length _ (c .before .before .before .const-bits .ensures) _ (omega (arith, p .1)), p .1),
     )
 
 opposite-requires : tie.Need-opposite-requires
@@ -58,7 +57,7 @@ returns-2 c =
     let r = c .before .before .before .before .before .before .before .before .before .before .const-bits .result in
     let l = c .before .before .before .before .before .before .less-signed .ensures in
     simp (le-ltb _ _ (c .before .before .before .before .before .before .before .before .before .before .before .if1 .left)) (
-      rw (← signed-cong (a .n .next) (litAt (now (a .index))) (litAt (take w r)) (constBit (a .size)) w (λ j h. getD-take w r j 0 h ∙ c .before .before .before .before .before .before .before .before .before .before .const-bits .ensures .places j (omega (arith, c .before .before .before .before .before .before .before .before .before .before .before .before .before .before .before .pre .1)))) (l .0),
+      rw (← signed-cong (a .n .next) (litAt (now (a .index))) (litAt (take w r)) (constBit (a .size)) w (sized-bits _ (c .before .before .before .before .before .before .before .before .before .before .const-bits .ensures) w (omega (arith, c .before .before .before .before .before .before .before .before .before .before .before .before .before .before .before .pre .1)))) (l .0),
       c .opposite .ensures ∙ ap opp (l .1),
     )
 

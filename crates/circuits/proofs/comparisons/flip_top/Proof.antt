@@ -1,18 +1,19 @@
-use mathlib.Core.Path.{_≡_, refl, sym, _∙_}
-use Prim.Native.Nat.{ℕ, _≤_, _<_, _-_}
+use mathlib.Core.Path.{_≡_, sym, _∙_}
+use Prim.Native.Nat.{_≤_, _-_, _+_}
 use native.Mathlib.Omega.{arith}
 use borrow.Author.Needs.{needs}
 use denote.Ref.{now}
-use lib.ListN.{length, getD, length-set}
+use lib.ListN.{length}
 use Rattle.circuits.proofs.Compare.{flipped-below, flipped-top}
-use Rattle.bits.proofs.Laws.{filled-turn}
+use Rattle.bits.proofs.Laws.{extended-none, extended-turn}
 use Rattle.circuits.proofs.comparisons.flip_top.Statement.{statement}
-use Rattle.bits.specs.Bits.{litAt}
+use Rattle.bits.specs.Bits.{litAt, tabulate}
+use Rattle.bits.specs.Extend.{extend}
 use Rattle.circuits.specs.Compare.{flipped}
 use Rattle.circuits.proofs.comparisons.flip_top.Tie as tie
 
 abbrev Inv-loop : tie.InvT-loop
-Inv-loop a top r₀ j₀ r j = (j ≤ top) × (length r ≡ 32) × ((i : ℕ) → i < j → getD r i 0 ≡ flipped top (litAt a) i)
+Inv-loop a top r₀ j₀ r j = (j ≤ top) × (r ≡ tabulate (extend (flipped top (litAt a)) j 3) 32)
 
 abbrev μ-loop : tie.MeasureT-loop
 μ-loop a top r₀ j₀ r j = top - j
@@ -21,7 +22,7 @@ sub-top : tie.Need-sub-top Inv-loop μ-loop
 sub-top c = search needs
 
 loop-holds : tie.Need-loop-holds Inv-loop μ-loop
-loop-holds c = (search needs, refl, λ i h. absurd (omega arith))
+loop-holds c = (search needs, extended-none _ _ 32)
 
 mul-r : tie.Need-mul-r Inv-loop μ-loop
 mul-r c = search needs
@@ -45,8 +46,7 @@ loop-again : tie.Need-loop-again Inv-loop μ-loop
 loop-again c =
     let l = c .before .before .loop in
     let a = now (c .before .before .before .before .args .a) in
-    let top = length a - 1 in
-    (search needs, simp length-set (l .inv .1), filled-turn (l .r) (flipped top (litAt a)) (l .j) _ (omega arith) (sym (flipped-below top (litAt a) (l .j) (omega arith))) (l .inv .2))
+    (search needs, extended-turn _ _ (l .j) _ (l .inv .1) (omega arith) (sym (flipped-below (length a - 1) (litAt a) (l .j) (omega arith))))
 
 mul-opposite : tie.Need-mul-opposite Inv-loop μ-loop
 mul-opposite c = search needs
@@ -69,10 +69,8 @@ returns c =
     let a = now (c .before .before .before .before .before .args .a) in
     let top = length a - 1 in
     let e : l .j ≡ top = omega arith in
-    record {
-      size = simp length-set (l .inv .1);
-      places = λ i h. filled-turn (l .r) (flipped top (litAt a)) top _ (omega arith) (c .opposite .ensures ∙ sym (flipped-top top (litAt a))) (λ k q. l .inv .2 k (omega arith)) i (omega arith);
-    }
+    let d : top + 1 ≡ length a = omega arith in
+    rw d at (extended-turn (flipped top (litAt a)) 3 top _ (rw e at (l .inv .1)) (omega arith) (c .opposite .ensures ∙ sym (flipped-top top (litAt a))))
 
 pub flip-top-spec : {M : Type 1} → statement M
 flip-top-spec =

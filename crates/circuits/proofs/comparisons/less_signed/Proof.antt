@@ -1,14 +1,14 @@
-use mathlib.Core.Path.{_≡_, refl, sym, ap, subst}
-use Prim.Native.Nat.{ℕ, _-_}
+use mathlib.Core.Path.{_≡_, refl, sym, ap}
+use Prim.Native.Nat.{_-_}
 use native.Mathlib.Omega.{arith}
 use denote.Ref.{now}
 use lib.ListN.{length, take}
 use borrow.Author.Needs.{needs}
 use Rattle.adders.proofs.Adder.{adder-cong}
-use Rattle.bits.proofs.Laws.{filled-bits, sized-length}
+use Rattle.bits.proofs.Laws.{extended-bits, sized-length}
 use Rattle.circuits.proofs.comparisons.less_signed.Statement.{statement}
 use Rattle.adders.specs.Adder.{oppBits}
-use Rattle.bits.specs.Bits.{Filled, litAt}
+use Rattle.bits.specs.Bits.{litAt}
 use Rattle.circuits.specs.Compare.{flipped}
 use Rattle.netlist.specs.Literal.{opp}
 use Rattle.circuits.proofs.comparisons.less_signed.Tie as tie
@@ -23,20 +23,20 @@ array-share-prefix-x : tie.Need-array-share-prefix-x
 array-share-prefix-x c = search needs
 
 slice-aggregate-less : tie.Need-slice-aggregate-less
-slice-aggregate-less c = let w = length (now (c .before .before .before .before .before .before .before .before .before .args .a)) in sym (sized-length w (c .before .before .before .before .flip-top .ensures) (omega arith))
+slice-aggregate-less c = let w = length (now (c .before .before .before .before .before .before .before .before .before .args .a)) in sym (sized-length _ (c .before .before .before .before .flip-top .ensures) w (omega arith))
 
 array-share-prefix-y : tie.Need-array-share-prefix-y
 array-share-prefix-y c = search needs
 
 slice-aggregate-less-2 : tie.Need-slice-aggregate-less-2
-slice-aggregate-less-2 c = let w = length (now (c .before .before .before .before .before .before .before .before .before .before .args .a)) in sym (sized-length w (c .before .before .before .before .flip-top2 .ensures) (omega arith))
+slice-aggregate-less-2 c = let w = length (now (c .before .before .before .before .before .before .before .before .before .before .args .a)) in sym (sized-length _ (c .before .before .before .before .flip-top2 .ensures) w (omega arith))
 
 less-requires : tie.Need-less-requires
 less-requires c κs =
     let p = c .before .before .before .before .before .before .before .before .before .before .pre in
     let w = length (now (c .before .before .before .before .before .before .before .before .before .before .args .a)) in
-    let x : length (take w (c .before .before .before .before .before .flip-top .result)) ≡ w = sized-length w (c .before .before .before .before .before .flip-top .ensures) (omega arith) in
-    let y : length (take w (c .before .before .before .before .flip-top2 .result)) ≡ w = sized-length w (c .before .before .before .before .flip-top2 .ensures) (omega arith) in
+    let x : length (take w (c .before .before .before .before .before .flip-top .result)) ≡ w = sized-length _ (c .before .before .before .before .before .flip-top .ensures) w (omega arith) in
+    let y : length (take w (c .before .before .before .before .flip-top2 .result)) ≡ w = sized-length _ (c .before .before .before .before .flip-top2 .ensures) w (omega arith) in
     simp (x, y) (p .0, (refl, p .1 .1))
 
 same-length : tie.Need-same-length
@@ -52,10 +52,9 @@ returns c =
     let w = length (now (a .a)) in
     let f = c .before .before .before .before .before .before .before .before .before .before .flip-top .ensures in
     let h = c .before .before .before .before .before .before .before .before .before .flip-top2 .ensures in
-    let x : length (take w (c .before .before .before .before .before .before .before .before .before .before .flip-top .result)) ≡ w = sized-length w f (omega arith) in
-    let k : Filled (c .before .before .before .before .before .before .before .before .before .flip-top2 .result) w (flipped (w - 1) (litAt (now (a .b)))) =
-    subst (λ (i : ℕ). Filled (c .before .before .before .before .before .before .before .before .before .flip-top2 .result) i (flipped (i - 1) (litAt (now (a .b))))) (p .1 .0) h in (
-      rw (← adder-cong (a .n .next) _ _ (flipped (w - 1) (litAt (now (a .a)))) (oppBits (flipped (w - 1) (litAt (now (a .b))))) 2 w (filled-bits f) (λ j l. ap opp (filled-bits k j l)))
+    let x : length (take w (c .before .before .before .before .before .before .before .before .before .before .flip-top .result)) ≡ w = sized-length _ f w (omega arith) in
+    let k = rw (p .1 .0) at h in (
+      rw (← adder-cong (a .n .next) _ _ (flipped (w - 1) (litAt (now (a .a)))) (oppBits (flipped (w - 1) (litAt (now (a .b))))) 2 w (extended-bits _ w 3 f (omega arith)) (λ j l. ap opp (extended-bits _ w 3 k (omega arith) j l)))
           (rw x at (c .before .before .before .before .less .ensures .0)),
       rw x at (c .before .before .before .before .less .ensures .1),
     )

@@ -1,12 +1,13 @@
 use mathlib.Core.Path.{_≡_, refl, _∙_}
-use Prim.Native.Nat.{ℕ, _≤_, _<_, _-_}
+use Prim.Native.Nat.{_≤_, _-_}
 use native.Mathlib.Omega.{arith}
 use borrow.Author.Needs.{needs}
 use denote.Ref.{now}
-use lib.ListN.{length, getD, length-set}
+use lib.ListN.{length}
 use Rattle.circuits.proofs.Join.{join-lit, join-turn, length-join}
-use Rattle.bits.proofs.Laws.{filled-turn}
-use Rattle.bits.specs.Bits.{litAt}
+use Rattle.bits.proofs.Laws.{extended-none, extended-turn}
+use Rattle.bits.specs.Bits.{litAt, tabulate}
+use Rattle.bits.specs.Extend.{extend}
 use Rattle.circuits.specs.Join.{join, joinBit}
 use Rattle.netlist.proofs.Emitting.{emitted-none, emitted-starts-length, emitted-words-length, ready-after}
 use Rattle.netlist.specs.Emit.{Emitted}
@@ -15,16 +16,16 @@ use Rattle.circuits.proofs.joins.join.Tie as tie
 
 abbrev Inv-loop : tie.InvT-loop
 Inv-loop words₀ starts₀ c a b net₀ bits₀ j₀ words starts net bits j =
-    (j ≤ length a) × (length bits ≡ 32)
+    (j ≤ length a)
     × Emitted words₀ starts₀ net₀ (join c (litAt a) (litAt b) j) words starts net
-    × ((i : ℕ) → i < j → getD bits i 0 ≡ joinBit (net₀ .next) c (litAt a) (litAt b) i)
+    × (bits ≡ tabulate (extend (joinBit (net₀ .next) c (litAt a) (litAt b)) j 3) 32)
 
 abbrev μ-loop : tie.MeasureT-loop
 μ-loop words₀ starts₀ c a b net₀ bits₀ j₀ words starts net bits j = length a - j
 
 loop-holds : tie.Need-loop-holds Inv-loop μ-loop
 unfolding join
-loop-holds c = (search needs, refl, emitted-none _ _ _, (λ i h. absurd (omega arith)))
+loop-holds c = (search needs, emitted-none _ _ _, extended-none _ _ 32)
 
 mul-join-place : tie.Need-mul-join-place Inv-loop μ-loop
 mul-join-place c = search needs
@@ -42,7 +43,7 @@ join-place-requires : tie.Need-join-place-requires Inv-loop μ-loop
 join-place-requires c κs =
     let l = c .before .before .before .before .before .loop in
     let s = c .before .before .before .before .before .before .before .before .before .before in
-    ready-after 1 (l .inv .2) (s .pre .0) (omega (arith, length-join (s .args .c) (litAt (now (s .args .a))) (litAt (now (s .args .b))) (l .j)))
+    ready-after 1 (l .inv .1) (s .pre .0) (omega (arith, length-join (s .args .c) (litAt (now (s .args .a))) (litAt (now (s .args .b))) (l .j)))
 
 mul-bits : tie.Need-mul-bits Inv-loop μ-loop
 mul-bits c = search needs
@@ -62,24 +63,22 @@ loop-again c =
     let a = c .before .before .before .before .before .before .before .before .before .before .before .before .before .before .before .before .args in
     let r = c .before .before .before .before .before .join-place .ensures in (
       search needs,
-      simp length-set (l .inv .1),
-      join-turn (a .c) (litAt (now (a .a))) (litAt (now (a .b))) (l .j) _ _ (l .inv .2) refl refl (r .0),
-      filled-turn (l .bits) (joinBit (a .n .next) (a .c) (litAt (now (a .a))) (litAt (now (a .b)))) (l .j) _ (omega arith)
-          (r .1 ∙ join-lit (a .c) (litAt (now (a .a))) (litAt (now (a .b))) (l .j) _ _ (l .inv .2) refl refl) (l .inv .3),
+      join-turn (a .c) (litAt (now (a .a))) (litAt (now (a .b))) (l .j) _ _ (l .inv .1) refl refl (r .0),
+      extended-turn _ _ (l .j) _ (l .inv .2) (omega arith) (r .1 ∙ join-lit (a .c) (litAt (now (a .a))) (litAt (now (a .b))) (l .j) _ _ (l .inv .1) refl refl),
     )
 
 same-length : tie.Need-same-length Inv-loop μ-loop
-same-length c = emitted-words-length (c .before .loop .inv .2)
+same-length c = emitted-words-length (c .before .loop .inv .1)
 
 same-length-2 : tie.Need-same-length-2 Inv-loop μ-loop
-same-length-2 c = emitted-starts-length (c .before .loop .inv .2)
+same-length-2 c = emitted-starts-length (c .before .loop .inv .1)
 
 returns : tie.Need-returns Inv-loop μ-loop
 returns c =
     let l = c .before .loop in
     let w = length (now (c .before .before .before .before .before .before .args .a)) in
     let e : l .j ≡ w = omega arith in
-    (rw e at (l .inv .2), record { size = l .inv .1; places = λ i h. l .inv .3 i (omega arith) })
+    (rw e at (l .inv .1), rw e at (l .inv .2))
 
 pub join-spec : {M : Type 1} → statement M
 join-spec =

@@ -3,9 +3,8 @@ use Prim.Native.Nat.{_-_, _*_}
 use native.Mathlib.Omega.{arith}
 use denote.Ref.{now}
 use lib.ListN.{length, take}
-use lib.Seq.{getD-take}
 use borrow.Author.Needs.{needs}
-use Rattle.bits.proofs.Laws.{sized-length}
+use Rattle.bits.proofs.Laws.{sized-bits, sized-length}
 use Rattle.circuits.proofs.Product.{length-row, row-add}
 use Rattle.circuits.proofs.products.add_row.Statement.{statement}
 use Rattle.bits.specs.Bits.{litAt}
@@ -25,7 +24,7 @@ array-share-prefix-bits : tie.Need-array-share-prefix-bits
 array-share-prefix-bits c = search needs
 
 slice-aggregate-add : tie.Need-slice-aggregate-add
-slice-aggregate-add c = sym (sized-length (length (now (c .before .before .before .before .before .before .before .before .before .before .before .before .before .before .before .args .s))) (c .before .before .before .before .before .before .before .before .before .before .row-bits .ensures) (omega arith))
+slice-aggregate-add c = sym (sized-length _ (c .before .before .before .before .before .before .before .before .before .before .row-bits .ensures) (length (now (c .before .before .before .before .before .before .before .before .before .before .before .before .before .before .before .args .s))) (omega arith))
 
 add-requires : tie.Need-add-requires
 add-requires c κs =
@@ -33,7 +32,7 @@ add-requires c κs =
     let a = c .before .before .before .before .before .before .before .before .before .before .before .before .before .before .before .args in
     let w = length (now (a .s)) in (
       ready-after (3 * length (now (a .acc))) (c .before .before .before .before .before .before .before .and-row .ensures) (p .0) (simp length-row (omega arith)),
-      sized-length w (c .before .before .before .before .before .before .before .before .before .before .row-bits .ensures) (omega arith) ∙ sym (p .1 .0),
+      sized-length _ (c .before .before .before .before .before .before .before .before .before .before .row-bits .ensures) w (omega arith) ∙ sym (p .1 .0),
     )
 
 same-length : tie.Need-same-length
@@ -49,7 +48,7 @@ returns c =
     let w = length (now (a .s)) in
     row-add (litAt (now (a .s))) (litAt (now (a .acc))) (litAt (take w (c .before .before .before .before .before .before .before .before .before .before .before .before .before .before .before .row-bits .result))) (a .t) (w - a .k) w (a .k)
     (c .before .before .before .before .before .before .before .before .before .before .before .before .and-row .ensures) (rw (p .1 .0) at (c .before .before .before .before .add .ensures)) refl
-    (λ j h. getD-take w (c .before .before .before .before .before .before .before .before .before .before .before .before .before .before .before .row-bits .result) j 0 h ∙ c .before .before .before .before .before .before .before .before .before .before .before .before .before .before .before .row-bits .ensures .places j (omega arith))
+    (sized-bits _ (c .before .before .before .before .before .before .before .before .before .before .before .before .before .before .before .row-bits .ensures) w (omega arith))
 
 pub add-row-spec : {M : Type 1} → statement M
 add-row-spec =

@@ -5,11 +5,12 @@ use native.Mathlib.Numerals.{add-one}
 use borrow.Author.Needs.{needs}
 use denote.Ref.{now}
 use lib.ListN.{length, take, getD-replicate}
-use Rattle.bits.proofs.Laws.{filled-bits, sized-length}
+use Rattle.bits.proofs.Laws.{sized-bits, sized-length, table-length}
+use Rattle.bits.proofs.Values.{tabulate-ext}
 use Rattle.circuits.proofs.Product.{length-product, product-turn, rowStart-le}
 use Rattle.circuits.proofs.products.multiply.Statement.{statement}
 use Rattle.adders.specs.Adder.{sumBit}
-use Rattle.bits.specs.Bits.{Filled, litAt}
+use Rattle.bits.specs.Bits.{litAt, tabulate}
 use Rattle.circuits.specs.Product.{accBit, product, rowStart}
 use Rattle.netlist.proofs.Emitting.{emitted-none, emitted-starts-length, emitted-words-length, ready-after}
 use Rattle.netlist.specs.Emit.{Emitted, Ready}
@@ -17,7 +18,7 @@ use Rattle.circuits.proofs.products.multiply.Tie as tie
 
 abbrev Inv-loop : tie.InvT-loop
 Inv-loop words₀ starts₀ s t w net₀ acc₀ k₀ words starts net acc k =
-    (k ≤ w) × Emitted words₀ starts₀ net₀ (product (net₀ .next) (litAt s) (litAt t) w k) words starts net × Filled acc w (accBit (net₀ .next) w k)
+    (k ≤ w) × Emitted words₀ starts₀ net₀ (product (net₀ .next) (litAt s) (litAt t) w k) words starts net × (acc ≡ tabulate (accBit (net₀ .next) w k) 32)
 
 abbrev μ-loop : tie.MeasureT-loop
 μ-loop words₀ starts₀ s t w net₀ acc₀ k₀ words starts net acc k = w - k
@@ -25,7 +26,7 @@ abbrev μ-loop : tie.MeasureT-loop
 loop-holds : tie.Need-loop-holds Inv-loop μ-loop
 unfolding product
 loop-holds c =
-    (search needs, emitted-none _ _ _, record { size = refl; places = λ j h. getD-replicate 32 j 3 0 (omega arith) })
+    (search needs, emitted-none _ _ _, tabulate-ext _ _ 32 refl (λ j h. getD-replicate 32 j 3 0 h))
 
 -- where row k starts
 at-row : (c : tie.At-loop Inv-loop μ-loop) → c .loop .net .next ≡ rowStart (c .before .before .before .before .before .args .n .next) (length (now (c .before .before .before .before .before .args .s))) (c .loop .k)
@@ -55,14 +56,14 @@ shared-slice-read-add-row : tie.Need-shared-slice-read-add-row Inv-loop μ-loop
 shared-slice-read-add-row c = search needs
 
 array-share-prefix-acc : tie.Need-array-share-prefix-acc Inv-loop μ-loop
-array-share-prefix-acc c = search needs
+array-share-prefix-acc c = search (needs, table-length _ (c .before .before .before .before .before .loop .inv .2))
 
 slice-aggregate-add-row : tie.Need-slice-aggregate-add-row Inv-loop μ-loop
-slice-aggregate-add-row c = sym (sized-length (length (now (c .before .before .before .before .before .before .before .before .before .before .before .args .s))) (c .before .before .before .before .before .before .loop .inv .2) (omega arith))
+slice-aggregate-add-row c = sym (sized-length _ (c .before .before .before .before .before .before .loop .inv .2) (length (now (c .before .before .before .before .before .before .before .before .before .before .before .args .s))) (omega arith))
 
 add-row-requires : tie.Need-add-row-requires Inv-loop μ-loop
 add-row-requires c κs =
-    (ready (c .before .before .before .before .before .before) (c .before .before .before .before .before .loop-test .taken), (sized-length (length (now (c .before .before .before .before .before .before .before .before .before .before .before .args .s))) (c .before .before .before .before .before .before .loop .inv .2) (omega arith), (search needs, search needs)))
+    (ready (c .before .before .before .before .before .before) (c .before .before .before .before .before .loop-test .taken), (sized-length _ (c .before .before .before .before .before .before .loop .inv .2) (length (now (c .before .before .before .before .before .before .before .before .before .before .before .args .s))) (omega arith), (search needs, search needs)))
 
 sum-bits-requires : tie.Need-sum-bits-requires Inv-loop μ-loop
 sum-bits-requires c κs = omega (arith, ready (c .before .before .before .before .before .before .before .before .before .before .before) (c .before .before .before .before .before .before .before .before .before .before .loop-test .taken) .next)
@@ -79,11 +80,8 @@ loop-again c =
     let a = c .before .before .before .before .before .before .before .before .before .before .before .before .before .before .before .before .before .args in
     let w = length (now (a .s)) in (
       search needs,
-      product-turn (litAt (now (a .s))) (litAt (now (a .t))) (litAt (take w (l .acc))) w (l .k) (l .inv .1) (c .before .before .before .before .before .add-row .ensures) (filled-bits (l .inv .2)),
-      rw (add-one (l .k)) (record {
-        size = c .sum-bits .ensures .size;
-        places = λ j h. c .sum-bits .ensures .places j (omega arith) ∙ ap (λ (i : ℕ). sumBit (i + (w - l .k)) j) (at-row (c .before .before .before .before .before .before .before .before .before .before .before .before));
-      }),
+      product-turn (litAt (now (a .s))) (litAt (now (a .t))) (litAt (take w (l .acc))) w (l .k) (l .inv .1) (c .before .before .before .before .before .add-row .ensures) (sized-bits _ (l .inv .2) w (omega arith)),
+      rw (add-one (l .k)) (c .sum-bits .ensures ∙ ap (λ (i : ℕ). tabulate (sumBit (i + (w - l .k))) 32) (at-row (c .before .before .before .before .before .before .before .before .before .before .before .before))),
     )
 
 same-length : tie.Need-same-length Inv-loop μ-loop

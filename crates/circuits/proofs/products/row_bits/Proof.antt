@@ -4,6 +4,7 @@ use native.Mathlib.Omega.{arith}
 use borrow.Author.Needs.{needs}
 use lib.ListN.{length, getD, length-set, getD-replicate}
 use Rattle.bits.proofs.Laws.{filled-turn}
+use Rattle.bits.proofs.Values.{tabulate-ext}
 use Rattle.circuits.proofs.Product.{rowBit-high, rowBit-low}
 use Rattle.circuits.proofs.products.row_bits.Statement.{statement}
 use Rattle.circuits.specs.Product.{rowBit}
@@ -56,7 +57,7 @@ loop-again c =
     )
 
 returns : tie.Need-returns Inv-loop μ-loop
-returns c = record { size = c .before .loop .inv .3; places = λ i h. c .before .loop .inv .4 i (omega arith) }
+returns c = tabulate-ext _ _ 32 (c .before .loop .inv .3) (λ i h. c .before .loop .inv .4 i (omega arith))
 
 pub row-bits-spec : {M : Type 1} → statement M
 row-bits-spec =

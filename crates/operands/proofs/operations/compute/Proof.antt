@@ -1,5 +1,4 @@
 -- The operation of a command byte, on the places of its operands.
-use native.Mathlib.Omega.{arith}
 use denote.Ref.{now}
 use borrow.Author.Tests.{ne-eqb}
 use Rattle.operands.specs.Operation.{computeNodes, computeBits}
@@ -119,7 +118,7 @@ returns c = let a = c .before .before .before .before .before .before .before .b
     let p = c .before .before .before .before .before .before .before .before .before .before .before .before .before .before .pre in
     let l = part-length (now (a .lits)) (a .s) (a .w) (p .1 .0) (p .1 .1 .0) (p .1 .1 .2) in
     rw (c .before .before .before .before .before .before .before .before .before .before .match .keys1)
-    (rw (part-width (a .s) (a .w), part-width (a .t) (a .w), l) at (c .before .before .before .before .add .ensures), record { size = c .before .before .before .before .before .before .before .before .before .sum-bits .ensures .size; places = λ j h. c .before .before .before .before .before .before .before .before .before .sum-bits .ensures .places j (omega arith) })
+    (rw (part-width (a .s) (a .w), part-width (a .t) (a .w), l) at (c .before .before .before .before .add .ensures), c .before .before .before .before .before .before .before .before .before .sum-bits .ensures)
 
 same-length-3 : tie.Need-same-length-3
 same-length-3 c = search needs
@@ -133,7 +132,7 @@ returns-2 c = let a = c .before .before .before .before .before .before .before 
     let p = c .before .before .before .before .before .before .before .before .before .before .before .before .before .before .pre in
     let l = part-length (now (a .lits)) (a .s) (a .w) (p .1 .0) (p .1 .1 .0) (p .1 .1 .2) in
     rw (c .before .before .before .before .before .before .before .before .before .before .match .keys2)
-    (rw (part-width (a .s) (a .w), part-width (a .t) (a .w), l) at (c .before .before .before .before .subtract .ensures), record { size = c .before .before .before .before .before .before .before .before .before .sum-bits2 .ensures .size; places = λ j h. c .before .before .before .before .before .before .before .before .before .sum-bits2 .ensures .places j (omega arith) })
+    (rw (part-width (a .s) (a .w), part-width (a .t) (a .w), l) at (c .before .before .before .before .subtract .ensures), c .before .before .before .before .before .before .before .before .before .sum-bits2 .ensures)
 
 same-length-5 : tie.Need-same-length-5
 same-length-5 c = search needs

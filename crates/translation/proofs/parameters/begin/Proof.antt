@@ -3,6 +3,7 @@ use mathlib.Core.List.{List, []}
 use Prim.Native.Nat.{ℕ, _-_, _≤_}
 use native.Mathlib.Omega.{arith}
 use denote.Ref.{now}
+use Rattle.bits.proofs.Laws.{table-length}
 use borrow.Author.Needs.{needs}
 use Rattle.netlist.specs.Emit.{Emitted}
 use Rattle.netlist.proofs.Emitting.{emitted-none, ready-after, ready-weaken}
@@ -47,7 +48,7 @@ take-inputs-requires c κs = let a = c .before .before .before .before .before .
     ready-weaken (omega (arith, r .few, e)) (ready-after 32 (l .inv .1 [] []) (p .0 .0) (omega (arith, f, p .1 .parameters, p .1 .few)))
 
 slice-aggregate-with-bits : tie.Need-slice-aggregate-with-bits Inv-loop μ-loop
-slice-aggregate-with-bits c = search (needs, c .before .before .input-bits .ensures .size)
+slice-aggregate-with-bits c = search (needs, table-length _ (c .before .before .input-bits .ensures))
 
 with-bits-requires : tie.Need-with-bits-requires Inv-loop μ-loop
 with-bits-requires c κs = let a = c .before .before .before .before .before .before .before .before .args in
@@ -56,7 +57,7 @@ with-bits-requires c κs = let a = c .before .before .before .before .before .be
     let r = ranged (now (a .bytes)) (a .h) (l .p) (p .1) (omega (arith, p .1 .parameters)) in
     let e = c .before .before .before .width-of .ensures in
     let f = some-few (now (a .bytes)) (a .h) (p .1) (l .p) (l .inv .0) in
-    (r .variable, omega (arith, r .few, e), omega (arith, r .few, e, c .before .before .input-bits .ensures .size))
+    (r .variable, omega (arith, r .few, e), omega (arith, r .few, e, table-length _ (c .before .before .input-bits .ensures)))
 
 add-p : tie.Need-add-p Inv-loop μ-loop
 add-p c = let f = c .before .before .before .before .before .before .before .before .before .pre .1 .few in let g = c .before .before .before .before .before .before .before .before .before .pre .1 .parameters in omega arith

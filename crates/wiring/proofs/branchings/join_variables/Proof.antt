@@ -2,6 +2,7 @@ use mathlib.Core.Path.{_≡_, refl}
 use Prim.Native.Nat.{_-_, _≤_}
 use native.Mathlib.Omega.{arith}
 use denote.Ref.{now}
+use Rattle.bits.proofs.Laws.{table-length}
 use borrow.Author.Needs.{needs}
 use Rattle.netlist.specs.Emit.{Emitted}
 use Rattle.netlist.proofs.Emitting.{emitted-none, emitted-words-length, emitted-starts-length, ready-after}
@@ -45,7 +46,7 @@ join-variable-requires c κs = let a = c .before .before .before .before .before
     )
 
 slice-aggregate-with-bits : tie.Need-slice-aggregate-with-bits Inv-loop μ-loop
-slice-aggregate-with-bits c = search (needs, c .before .before .before .before .before .before .before .join-variable .ensures .1 .size)
+slice-aggregate-with-bits c = search (needs, table-length _ (c .before .before .before .before .before .before .before .join-variable .ensures .1))
 
 with-bits-requires : tie.Need-with-bits-requires Inv-loop μ-loop
 with-bits-requires c κs = let a = c .before .before .before .before .before .before .before .before .before .before .before .before .before .before .before .before .before .before .before .before .before .args in
@@ -53,7 +54,7 @@ with-bits-requires c κs = let a = c .before .before .before .before .before .be
     let l = c .before .before .before .before .before .before .before .before .before .before .before .before .before .before .before .loop in
     let r = ranged (now (a .bytes)) (a .h) (l .v) (p .1) (omega arith) in
     let e = c .before .before .before .before .before .before .before .before .before .before .before .before .width-of .ensures in
-    (r .variable, omega (arith, r .few, e), omega (arith, r .few, e, c .before .before .before .before .before .before .before .join-variable .ensures .1 .size))
+    (r .variable, omega (arith, r .few, e), omega (arith, r .few, e, table-length _ (c .before .before .before .before .before .before .before .join-variable .ensures .1)))
 
 add-v : tie.Need-add-v Inv-loop μ-loop
 add-v c = let f = c .before .before .before .before .before .before .before .before .before .before .before .before .before .before .before .before .before .before .before .before .before .before .pre .1 .few in omega arith

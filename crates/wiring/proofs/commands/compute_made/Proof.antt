@@ -4,6 +4,7 @@ use denote.Ref.{now}
 use Rattle.command.proofs.Fine.{compute-fine}
 use Rattle.wiring.proofs.Ranges.{ranged}
 use Rattle.wiring.proofs.Commanding.{stored, computed-at}
+use Rattle.bits.proofs.Laws.{table-length}
 use borrow.Author.Needs.{needs}
 use Rattle.wiring.proofs.commands.compute_made.Statement.{statement}
 use Rattle.wiring.proofs.commands.compute_made.Tie as tie
@@ -36,7 +37,7 @@ with-bits-requires c κs = let a = c .before .before .before .before .before .be
     let f = compute-fine (now (a .bytes)) (a .h) (a .op) (a .d) (a .a) (a .b) (p .1 .0) in
     let r = ranged (now (a .bytes)) (a .h) (a .d) (p .1 .1) (f .0) in
     let e = c .before .before .before .before .before .before .before .before .before .before .before .width-of .ensures in
-    (r .variable, omega (arith, r .few, e), omega (arith, r .few, e, c .before .before .before .before .before .before .before .compute .ensures .1 .size))
+    (r .variable, omega (arith, r .few, e), omega (arith, r .few, e, table-length _ (c .before .before .before .before .before .before .before .compute .ensures .1)))
 
 same-length : tie.Need-same-length
 same-length c = search needs
@@ -54,7 +55,7 @@ returns c = let a = c .before .before .before .before .before .before .before .b
     let m = c .before .before .before .before .before .before .before .before .compute .ensures in
     record {
       emitted = rw (← computed-at (now (a .bytes)) (a .s) (a .op) (a .d) (a .a) (a .b) (a .n .next) _ e (f .3) (f .4)) (m .0);
-      wires = stored (now (a .bytes)) (a .s) (a .d) _ _ (c .with-bits .ensures) e (rw e at (m .1)) (omega arith) (r .few);
+      wires = stored (now (a .bytes)) (a .s) (a .d) _ _ _ (c .with-bits .ensures) e (rw e at (m .1)) (r .few);
     }
 
 pub compute-made-spec : {M : Type 1} → statement M

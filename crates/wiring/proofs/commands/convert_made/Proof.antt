@@ -3,6 +3,7 @@ use denote.Ref.{now}
 use Rattle.command.proofs.Fine.{convert-fine}
 use Rattle.wiring.proofs.Ranges.{ranged}
 use Rattle.wiring.proofs.Commanding.{stored}
+use Rattle.bits.proofs.Laws.{table-length}
 use borrow.Author.Needs.{needs}
 use Rattle.wiring.proofs.commands.convert_made.Statement.{statement}
 use Rattle.wiring.proofs.commands.convert_made.Tie as tie
@@ -37,14 +38,14 @@ with-bits-requires c κs = let a = c .before .before .before .before .before .be
     let p = c .before .before .before .before .before .before .before .pre in
     let r = ranged (now (a .bytes)) (a .h) (a .d) (p .1) (convert-fine (now (a .bytes)) (a .h) (a .op) (a .d) (a .a) (p .0) .0) in
     let e = c .before .width-of2 .ensures in
-    (r .variable, omega (arith, r .few, e), omega (arith, r .few, e, c .before .before .convert .ensures .size))
+    (r .variable, omega (arith, r .few, e), omega (arith, r .few, e, table-length _ (c .before .before .convert .ensures)))
 
 returns : tie.Need-returns
 returns c = let a = c .before .before .before .before .before .before .before .before .args in
     let p = c .before .before .before .before .before .before .before .before .pre in
     let r = ranged (now (a .bytes)) (a .h) (a .d) (p .1) (convert-fine (now (a .bytes)) (a .h) (a .op) (a .d) (a .a) (p .0) .0) in
-    stored (now (a .bytes)) (a .s) (a .d) _ _ (c .with-bits .ensures) (c .before .before .width-of2 .ensures)
-    (rw (c .before .before .before .before .before .width-of .ensures) at (c .before .before .before .convert .ensures)) (r .few) (r .few)
+    stored (now (a .bytes)) (a .s) (a .d) _ _ _ (c .with-bits .ensures) (c .before .before .width-of2 .ensures)
+    (rw (c .before .before .before .before .before .width-of .ensures) at (c .before .before .before .convert .ensures)) (r .few)
 
 pub convert-made-spec : {M : Type 1} → statement M
 convert-made-spec =

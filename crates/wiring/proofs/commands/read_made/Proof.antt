@@ -7,6 +7,7 @@ use Rattle.wiring.proofs.Ranges.{ranged}
 use Rattle.wiring.proofs.Commanding.{stored, access-few, read-claimed, read-goes, makes-as, read-makes}
 use Rattle.wiring.specs.Wires.{isMade}
 use Rattle.wiring.specs.declared.Wires.{Wires}
+use Rattle.bits.proofs.Laws.{table-length}
 use borrow.Author.Needs.{needs}
 use Rattle.wiring.proofs.commands.read_made.Statement.{statement}
 use Rattle.wiring.proofs.commands.read_made.Tie as tie
@@ -70,7 +71,7 @@ with-bits-requires c κs = let a = c .before .before .before .before .before .be
     let x = ranged (now (a .bytes)) (a .h) (a .i) (p .1 .1) (f .2) in
     let y = ranged (now (a .bytes)) (a .h) (a .d) (p .1 .1) (f .0) in
     let e = c .before .before .width-of .ensures in
-    (y .variable, omega (arith, y .few, e), omega (arith, y .few, e, c .before .before .before .input-bits .ensures .size))
+    (y .variable, omega (arith, y .few, e), omega (arith, y .few, e, table-length _ (c .before .before .before .input-bits .ensures)))
 
 same-length-3 : tie.Need-same-length-3
 same-length-3 c = search needs
@@ -89,7 +90,7 @@ returns-2 c = let a = c .before .before .before .before .before .before .before 
     makes-as (read-goes (now (a .bytes)) (a .h) (a .t) (a .n .next) (a .array) (a .i) (a .k) (a .s) (a .d)
     (ap (λ (z : Wires). isMade (z .claim)) (sym (m .wires)) ∙ sym (c .before .before .before .before .before .before .before .is-made .ensures) ∙ c .before .before .before .before .before .before .if1 .left))
     (read-makes (now (a .bytes)) (a .h) (a .d) (a .k) m _ e (c .before .before .take-inputs .ensures)
-    (stored (now (a .bytes)) _ (a .d) _ _ (c .with-bits .ensures) e (c .before .before .before .before .input-bits .ensures) (y .few) (y .few)))
+    (stored (now (a .bytes)) _ (a .d) _ _ _ (c .with-bits .ensures) e (c .before .before .before .before .input-bits .ensures) (y .few)))
 
 pub read-made-spec : {M : Type 1} → statement M
 read-made-spec =

@@ -3,6 +3,7 @@ use denote.Ref.{now}
 use Rattle.command.proofs.Fine.{set-fine}
 use Rattle.wiring.proofs.Ranges.{ranged}
 use Rattle.wiring.proofs.Commanding.{stored}
+use Rattle.bits.proofs.Laws.{table-length}
 use borrow.Author.Needs.{needs}
 use Rattle.wiring.proofs.commands.set_made.Statement.{statement}
 use Rattle.wiring.proofs.commands.set_made.Tie as tie
@@ -23,13 +24,13 @@ with-bits-requires : tie.Need-with-bits-requires
 with-bits-requires c κs = let a = c .before .before .before .before .args in
     let p = c .before .before .before .before .pre in
     let r = ranged (now (a .bytes)) (a .h) (a .d) (p .1) (set-fine (now (a .bytes)) (a .h) (a .d) (a .c) (p .0) .0) in
-    (r .variable, omega (arith, r .few, c .before .width-of .ensures), omega (arith, r .few, c .before .width-of .ensures, c .before .before .const-bits .ensures .size))
+    (r .variable, omega (arith, r .few, c .before .width-of .ensures), omega (arith, r .few, c .before .width-of .ensures, table-length _ (c .before .before .const-bits .ensures)))
 
 returns : tie.Need-returns
 returns c = let a = c .before .before .before .before .before .args in
     let p = c .before .before .before .before .before .pre in
     let r = ranged (now (a .bytes)) (a .h) (a .d) (p .1) (set-fine (now (a .bytes)) (a .h) (a .d) (a .c) (p .0) .0) in
-    stored (now (a .bytes)) (a .s) (a .d) _ _ (c .with-bits .ensures) (c .before .before .width-of .ensures) (c .before .before .before .const-bits .ensures) (r .few) (r .few)
+    stored (now (a .bytes)) (a .s) (a .d) _ _ _ (c .with-bits .ensures) (c .before .before .width-of .ensures) (c .before .before .before .const-bits .ensures) (r .few)
 
 pub set-made-spec : {M : Type 1} → statement M
 set-made-spec =
