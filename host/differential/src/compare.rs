@@ -168,11 +168,11 @@ impl Differences {
     }
 
     /// Nothing, or a report of the call, its case and all differences.
-    pub fn finish<T: Debug>(
+    pub fn finish(
         self,
         call: &str,
         case: &impl fmt::Display,
-        verdict: &Verdict<T>,
+        verdict: &impl Debug,
     ) -> Result<(), String> {
         if self.0.is_empty() {
             return Ok(());

@@ -9,6 +9,12 @@
 //! The same for translations: [`translation_case::TranslationCase`] with
 //! [`translation_compare::compare_translation`], clause by clause, and
 //! [`translation_tally::TranslationTally`].
+//!
+//! For proofs, [`refutations`] draws clauses that nothing satisfies and
+//! [`refute`] proves it, [`proof_damage`] damages the proofs, and a
+//! [`proof_case::ProofCase`] is one of them with its buffers.
+//! [`proof_expected::expected`] is what the oracle makes of it, entry by entry,
+//! and [`proof_tally::ProofTally`] counts what the proofs came to.
 
 #![forbid(unsafe_code)]
 
@@ -20,8 +26,16 @@ pub mod draft;
 pub mod fault;
 pub mod lent;
 pub mod limit;
+pub mod long_proof;
 pub mod narrow;
 pub mod plan;
+pub mod proof_case;
+pub mod proof_damage;
+pub mod proof_draft;
+pub mod proof_expected;
+pub mod proof_tally;
+pub mod refutations;
+pub mod refute;
 pub mod rng;
 pub mod seeded;
 pub mod survey;

@@ -1,7 +1,7 @@
-//! An evaluator of loop-free pick routines and a translator of them, written
-//! from the scope document (sections "The routine", "The run", "The
-//! translation" and "What is turned down") and sharing nothing with the library
-//! that is compared with it.
+//! An evaluator of loop-free pick routines, a translator of them and a checker
+//! of proofs, written from the scope document (sections "The routine", "The
+//! run", "The translation", "The proof" and "What is turned down") and sharing
+//! nothing with the library that is compared with it.
 //!
 //! It favours the reading over the speed: a routine is parsed into a tree, the
 //! tree is walked, values are reduced by a remainder in 64 bits, and an index
@@ -15,6 +15,8 @@ pub mod clauses;
 pub mod exhaustive;
 mod netlist;
 mod parser;
+pub mod proof;
+mod proof_command;
 pub mod propagation;
 pub mod refusal;
 pub mod routine;
@@ -22,6 +24,7 @@ pub mod run;
 pub mod translation;
 
 pub use clauses::{Clauses, Discard, Literal, Sink};
+pub use proof::{check_proof, follow_proof, Followed, Totals};
 pub use refusal::Refusal;
 pub use routine::{check, parse, Branch, Command, Counts, Routine};
 pub use run::{run, Arm, Event, Outcome, Run, Side};

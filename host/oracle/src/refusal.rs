@@ -1,4 +1,5 @@
-//! The numbers under which a routine, a run or a translation is turned down.
+//! The numbers under which a routine, a run, a translation or a proof is turned
+//! down.
 
 /// A refusal: its number and its place. What the place says goes with the
 /// number: an offset, a length, an input number or a buffer number.
@@ -41,6 +42,25 @@ pub const DECISION_COUNT: u8 = 11;
 pub const LEAD_RANGE: u8 = 12;
 /// A buffer too small; the place is the buffer's number.
 pub const BUFFER: u8 = 16;
+/// Proof command unknown, cut short or missing; the place is its offset.
+pub const PROOF_COMMAND: u8 = 17;
+/// Literal not of a variable, twice in its step, with its opposite, or after a
+/// hint; the command's offset.
+pub const PROOF_LITERAL: u8 = 18;
+/// Hint of a clause that is not there yet; the command's offset.
+pub const UNKNOWN_CLAUSE: u8 = 19;
+/// Hint that neither decides a variable nor conflicts; the command's offset.
+pub const USELESS_HINT: u8 = 20;
+/// Close without conflict; the command's offset.
+pub const NO_CONFLICT: u8 = 21;
+/// Hint after the conflict; the command's offset.
+pub const AFTER_CONFLICT: u8 = 22;
+/// End without the empty clause, or a command after it; the command's offset.
+pub const EMPTY_CLAUSE: u8 = 23;
+/// Bytes after the end of a proof; the place is the first of them.
+pub const AFTER_PROOF: u8 = 24;
+/// No room for a step's clause; the command's offset.
+pub const NO_ROOM: u8 = 25;
 
 /// The number of the words buffer in a refusal 16.
 pub const WORDS_BUFFER: usize = 0;
