@@ -1,5 +1,6 @@
-// Reading lent slices. A read past the end gives 0, so that no caller has to test before it reads.
+// Lent slices: reading them, and how much of one is used. A read past the end gives 0, so that no caller has to test before it reads.
 ghost use mathlib.Core.Path.{_≡_};
+ghost use Prim.Native.Nat.{min};
 ghost use Rattle.slices.specs.Bytes.{entry, half, word};
 
 // The byte at i.
@@ -43,4 +44,11 @@ pub fn word_at(bytes: &[u8], i: usize) -> u32
         + 256 * wide(byte_at(bytes, i + 1))
         + 65536 * wide(byte_at(bytes, i + 2))
         + 16777216 * wide(byte_at(bytes, i + 3))
+}
+
+// Only the first 16,777,216 entries of a buffer are used.
+pub fn usable(len: usize) -> usize
+    ensures { λ r. ⌜ r ≡ min len 16777216 ⌝ }
+{
+    if len < 16777216 { len } else { 16777216 }
 }

@@ -14,7 +14,8 @@ use Rattle.clauses.specs.Clause.{flatten, offsets}
 use Rattle.clauses.proofs.Appending.{length-offsets}
 use Rattle.translation.specs.Translation.{whole, clausesOfAll, sizeOf}
 use Rattle.translation.specs.Walker.{WholeMade}
-use Rattle.translation.specs.Answer.{usable, Fitted}
+use Rattle.slices.specs.Lent.{usable}
+use Rattle.translation.specs.Answer.{Fitted}
 use Rattle.translation.specs.declared.Buffer.{Buffer}
 use Rattle.translation.specs.declared.Refusal.{Refusal}
 use Rattle.translation.specs.declared.Size.{Size}

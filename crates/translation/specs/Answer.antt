@@ -1,11 +1,11 @@
 -- What a translation answers, and what it leaves in the lent buffers.
-use Prim.Native.Nat.{ℕ, min}
+use Prim.Native.Nat.{ℕ}
 use mathlib.Core.Path.{_≡_}
 use mathlib.Core.List.{List}
 use mathlib.Core.Bool.{cond}
-use lib.ListN.{length}
 use lib.Seq.{sets}
 use lib.Dec.{leb}
+use Rattle.slices.specs.Lent.{usable}
 use Rattle.header.specs.declared.Header.{Header}
 use Rattle.command.specs.declared.Counts.{Counts}
 use Rattle.routine.specs.Routine.{Arm}
@@ -20,10 +20,6 @@ use Rattle.translation.specs.declared.Buffer.{Buffer}
 use Rattle.translation.specs.declared.Refusal.{Refusal}
 use Rattle.translation.specs.declared.Size.{Size}
 use Rattle.translation.specs.declared.Translated.{Translated}
-
--- only the first 16,777,216 entries of a buffer are used
-abbrev pub usable : List ℕ → ℕ
-usable xs = min (length xs) 16777216
 
 -- the answer, and both buffers
 pub record Answer : Type 0 where

@@ -14,9 +14,8 @@ use header::first_command;
 use lead::Target;
 use netlist::Net;
 use netlist::opposite;
+use slices::usable;
 use wiring::Claim;
-ghost use mathlib.Core.Path.{_≡_};
-ghost use Prim.Native.Nat.{min};
 ghost use Rattle.routine.specs.Decode.{IsRoutine};
 ghost use Rattle.clauses.specs.Clause.{Appended, Room};
 ghost use Rattle.translation.specs.Translation.{lastClauses};
@@ -79,13 +78,6 @@ fn make(
         words: all.words,
         variables: last.next - 1,
     }
-}
-
-// Only the first 16,777,216 entries of a buffer are used.
-fn usable(len: usize) -> usize
-    ensures { λ r. ⌜ r ≡ min len 16777216 ⌝ }
-{
-    if len < 16777216 { len } else { 16777216 }
 }
 
 // 16: words, then starts. What is needed is counted first, so that a refusal leaves both as they were.
