@@ -1,0 +1,68 @@
+-- The undoing of marks. Assumes nothing.
+use Prim.Native.Nat.{ℕ, zero, suc, _+_, _/_, _<_, _≤_}
+use mathlib.Core.Path.{_≡_, refl, ap, _∙_}
+use mathlib.Core.List.{List, [], _∷_, _++_}
+use mathlib.Core.Logic.{_⊎_, inl, inr, ⊎-elim}
+use native.Mathlib.Omega.{arith}
+use lib.ListN.{length, getD, set, replicate}
+use lib.Seq.{slice, slice-empty, set-set, set-comm}
+use lib.Dec.{eqb}
+use borrow.Author.Tests.{eqb-true, eqb-false}
+use Rattle.propagation.specs.Clear.{clear}
+use Rattle.propagation.proofs.Cases.{both}
+use Rattle.propagation.proofs.Scanning.{turn-cons}
+use Rattle.propagation.proofs.Standing.{In}
+
+pub clear-turn : (w m m′ : List ℕ) (i to : ℕ) → i < to → to ≤ length w → m′ ≡ set m (getD w i 0 / 2) 0 → clear m′ (slice (i + 1) to w) ≡ clear m (slice i to w)
+unfolding clear
+clear-turn w m m′ i to h k e = rw (e, turn-cons w m i to h k) refl
+
+pub clear-end : (w m : List ℕ) (i to : ℕ) → i ≤ to → to ≤ i → clear m (slice i to w) ≡ m
+unfolding clear
+clear-end w m i to h k = let e : i ≡ to = omega arith in rw (e, slice-empty to w) refl
+
+pub clear-append : (m a b : List ℕ) → clear m (a ++ b) ≡ clear (clear m a) b
+unfolding clear
+clear-append m [] b = refl
+clear-append m (l ∷ a) b = clear-append (set m (l / 2) 0) a b
+
+-- what is cleared after, and before, is one
+set-zero-comm : (m : List ℕ) (v x : ℕ) → set (set m v 0) x 0 ≡ set (set m x 0) v 0
+set-zero-comm m v x =
+    elim (both (eqb v x)) [
+      | inl e ↦ rw (eqb-true v x e) refl
+      | inr e ↦ set-comm m v x 0 0 (eqb-false v x e)
+    ]
+
+clear-set : (m : List ℕ) (v : ℕ) (c : List ℕ) → clear (set m v 0) c ≡ set (clear m c) v 0
+unfolding clear
+clear-set m v [] = refl
+clear-set m v (l ∷ c) = ap (λ (x : List ℕ). clear x c) (set-zero-comm m v (l / 2)) ∙ clear-set (set m (l / 2) 0) v c
+
+pub clear-swap : (m a b : List ℕ) → clear (clear m a) b ≡ clear (clear m b) a
+unfolding clear
+clear-swap m [] b = refl
+clear-swap m (l ∷ a) b = clear-swap (set m (l / 2) 0) a b ∙ ap (λ (x : List ℕ). clear x a) (clear-set m (l / 2) b)
+
+-- a mark of a variable that is cleared later does not matter
+pub clear-marked : (m : List ℕ) (l x : ℕ) (c : List ℕ) → In l c → clear (set m (l / 2) x) c ≡ clear m c
+unfolding clear In
+clear-marked m l x [] h = absurd h
+clear-marked m l x (k ∷ c) h =
+    elim (both (eqb (l / 2) (k / 2))) [
+      | inl e ↦ rw (eqb-true (l / 2) (k / 2) e, set-set m (k / 2) x 0) refl
+      | inr e ↦ ⊎-elim
+          (λ q. absurd (eqb-false (l / 2) (k / 2) e (ap (λ (y : ℕ). y / 2) q)))
+          (λ y. ap (λ (z : List ℕ). clear z c) (set-comm m (l / 2) (k / 2) x 0 (eqb-false (l / 2) (k / 2) e)) ∙ clear-marked (set m (k / 2) 0) l x c y)
+          h
+    ]
+
+set-zeros : (n v : ℕ) → set {A = ℕ} (replicate n 0) v 0 ≡ replicate n 0
+set-zeros zero v = refl
+set-zeros (suc n) zero = refl
+set-zeros (suc n) (suc v) = ap (λ (x : List ℕ). 0 ∷ x) (set-zeros n v)
+
+pub clear-zeros : (n : ℕ) (c : List ℕ) → clear (replicate n 0) c ≡ replicate n 0
+unfolding clear
+clear-zeros n [] = refl
+clear-zeros n (l ∷ c) = ap (λ (x : List ℕ). clear x c) (set-zeros n (l / 2)) ∙ clear-zeros n c

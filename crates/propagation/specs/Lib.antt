@@ -1,0 +1,4 @@
+pub mod Marks
+pub mod Hint
+pub mod Stored
+pub mod Clear
