@@ -1,0 +1,88 @@
+-- A hint: each way out. Assumes nothing.
+use Prim.Native.Nat.{ℕ, _+_, _/_, _<_, _≤_}
+use mathlib.Core.Path.{_≡_, refl, sym, ap, _∙_}
+use mathlib.Core.List.{List, []}
+use mathlib.Core.Bool.{true, false, true≢false}
+use native.Mathlib.Omega.{arith}
+use lib.ListN.{length, getD, set, length-set}
+use borrow.Author.Tests.{lt-ltb, le-ltb}
+use Rattle.clauses.specs.Clause.{Clause}
+use Rattle.propagation.specs.Marks.{trueMark}
+use Rattle.propagation.specs.Hint.{hintOf}
+use Rattle.propagation.specs.Stored.{clauseAt}
+use Rattle.propagation.specs.declared.Hint.{Hint}
+use Rattle.propagation.proofs.Standing.{clauses-length, clauses-at}
+use Rattle.proof.specs.Phase.{going, inLiterals, conflicted}
+use Rattle.proof.specs.Refusal.{refusedBy}
+use Rattle.proof.specs.State.{State, unless}
+use Rattle.proof.specs.Check.{afterHint, onHint}
+use Rattle.proof.specs.Held.{stateOf, Held, Written, Did, withHint}
+use Rattle.proof.specs.declared.Phase.{Phase}
+use Rattle.proof.specs.declared.Progress.{Progress}
+use Rattle.proof.specs.declared.Refusal.{Refusal}
+use Rattle.proof.specs.declared.Turn.{Turn}
+use Rattle.proof.proofs.Stopping.{stopped}
+
+takes-hint : (s : State) (h : ℕ) → going (s .phase) ≡ true → h < length (s .clauses) → conflicted (s .phase) ≡ false → onHint s h ≡ afterHint s (hintOf (s .marks) (getD (s .clauses) h []))
+unfolding onHint unless
+takes-hint s h a b c = rw (a, lt-ltb h (length (s .clauses)) b, c) refl
+
+module _ (w s m : List ℕ) (p : Progress) (i : ℕ) where
+  pub hint-over : (t : Turn) → t ≡ refusedBy (Refusal.OutOfPlace (p .at)) → going (p .phase) ≡ false → Did w s m p w s m (p .commands + 1) t (onHint (stateOf w s m p) i)
+  unfolding onHint unless
+  hint-over t q e = stopped w s m p (p .commands + 1) _ t _ q (rw e refl)
+
+  pub hint-far : (t : Turn) → t ≡ refusedBy (Refusal.NoClause (p .at)) → going (p .phase) ≡ true → p .count ≤ i → Did w s m p w s m (p .commands + 1) t (onHint (stateOf w s m p) i)
+  unfolding onHint unless
+  hint-far t q e k = stopped w s m p (p .commands + 1) _ t _ q (rw (e, clauses-length w s (p .count), le-ltb i (p .count) k) refl)
+
+  pub hint-late : (t : Turn) → t ≡ refusedBy (Refusal.AfterConflict (p .at)) → going (p .phase) ≡ true → i < p .count → conflicted (p .phase) ≡ true
+      → Did w s m p w s m (p .commands + 1) t (onHint (stateOf w s m p) i)
+  unfolding onHint unless
+  hint-late t q e k f = stopped w s m p (p .commands + 1) _ t _ q (rw (e, clauses-length w s (p .count), lt-ltb i (p .count) k, f) refl)
+
+module _ (w s m : List ℕ) (p : Progress) (i : ℕ) (h : Held w s m p) (goes : going (p .phase) ≡ true) (k : i < p .count) (before : conflicted (p .phase) ≡ false) (t : Turn) where
+  hint-is : onHint (stateOf w s m p) i ≡ afterHint (stateOf w s m p) (hintOf m (clauseAt w s i))
+  hint-is =
+      takes-hint (stateOf w s m p) i goes (rw clauses-length k) before
+      ∙ ap (λ (c : Clause). afterHint (stateOf w s m p) (hintOf m c)) (clauses-at w s (p .count) i k)
+
+  held-hint : (m′ : List ℕ) (phase : Phase) → inLiterals phase ≡ false → length m′ ≡ length m → Held w s m′ (withHint p phase)
+  held-hint m′ phase o e =
+      record {
+        store = rw e (h .store);
+        marked = rw e (h .marked);
+        short = h .short;
+        few = h .few;
+        own = h .own;
+        valid = rw e (h .valid);
+        fresh = λ q. absurd (true≢false (sym q ∙ o));
+        stepped = omega (arith, h .stepped);
+        hinted = omega (arith, h .hinted);
+        walked = omega (arith, h .walked);
+      }
+
+  -- a hint writes no word
+  written-hint : (m′ : List ℕ) (phase : Phase) (w₀ s₀ : List ℕ) → Written w₀ s₀ w s (stateOf w s m p) → Written w₀ s₀ w s (stateOf w s m′ (withHint p phase))
+  written-hint m′ phase w₀ s₀ x = record { words = x .words; starts = x .starts }
+
+  pub did-conflict : t ≡ Turn.More (withHint p Phase.Conflict) → hintOf m (clauseAt w s i) ≡ Hint.Conflict → Did w s m p w s m (p .commands + 1) t (onHint (stateOf w s m p) i)
+  unfolding afterHint
+  did-conflict q e =
+      rw q (record {
+        same = sym (hint-is ∙ ap (afterHint (stateOf w s m p)) e);
+        kept = (held-hint m Phase.Conflict refl refl, refl, written-hint m Phase.Conflict);
+      })
+
+  pub did-unit : (l : ℕ) → t ≡ Turn.More (withHint p Phase.Hints) → hintOf m (clauseAt w s i) ≡ Hint.Unit l
+      → Did w s m p w s (set m (l / 2) (trueMark l)) (p .commands + 1) t (onHint (stateOf w s m p) i)
+  unfolding afterHint
+  did-unit l q e =
+      rw q (record {
+        same = sym (hint-is ∙ ap (afterHint (stateOf w s m p)) e);
+        kept = (held-hint (set m (l / 2) (trueMark l)) Phase.Hints refl (length-set m (l / 2) (trueMark l)), refl, written-hint (set m (l / 2) (trueMark l)) Phase.Hints);
+      })
+
+  pub did-neither : t ≡ refusedBy (Refusal.Neither (p .at)) → hintOf m (clauseAt w s i) ≡ Hint.Neither → Did w s m p w s m (p .commands + 1) t (onHint (stateOf w s m p) i)
+  unfolding afterHint
+  did-neither q e = stopped w s m p (p .commands + 1) _ t _ q (hint-is ∙ ap (afterHint (stateOf w s m p)) e)

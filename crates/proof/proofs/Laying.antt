@@ -1,0 +1,143 @@
+-- Clauses that were written into two buffers, one after another from the beginning, are what `check_proof` asks for. Assumes nothing.
+use Prim.Native.Nat.{ℕ, zero, suc, _+_, _-_, _/_, _≤_, _<_}
+use mathlib.Core.Path.{_≡_, refl, sym, ap, _∙_}
+use mathlib.Core.List.{List, [], _∷_, _++_, append-assoc}
+use mathlib.Core.Logic.{inl, inr}
+use native.Mathlib.Omega.{arith}
+use native.Mathlib.Nat.{add-zero, zero-add}
+use lib.ListN.{length, getD, set, take, drop, length-take, replicate, length-append, List·getD-append}
+use lib.Seq.{set-out, take-set-lt, take-set-le, slice, sets, sets-eq, length-sets, take-at, drop-at, getD-append-seam, getD-drop, getD-take, ext-getD}
+use lib.Dec.{ltb}
+use borrow.Author.Tests.{ltb-true, ltb-false}
+use Rattle.clauses.specs.Clause.{Clause, flatten, offsets}
+use Rattle.clauses.proofs.Appending.{length-offsets}
+use Rattle.propagation.specs.Stored.{LiteralsIn, startOf, endOf, clauseAt, clausesOf}
+use Rattle.propagation.proofs.Cases.{both}
+use Rattle.propagation.proofs.Standing.{clauses-length, clauses-at}
+use Rattle.proof.specs.Answer.{Store, Begins}
+
+-- literals of variables that have a mark
+abbrev pub Proper : ℕ → List Clause → Type 0
+Proper marks cs = (i j : ℕ) → i < length cs → j < length (getD cs i []) → (2 ≤ getD (getD cs i []) j 0) × (getD (getD cs i []) j 0 / 2 < marks)
+
+-- a list that was written over the beginning
+sets-front : (l vs : List ℕ) → length vs ≤ length l → sets l 0 vs ≡ vs ++ drop (length vs) l
+sets-front l vs h = sets-eq vs l 0 (rw zero-add h) ∙ ap (λ (k : ℕ). vs ++ drop k l) (zero-add (length vs))
+
+-- and once more
+sets-twice : (l vs : List ℕ) → length vs ≤ length l → sets (sets l 0 vs) 0 vs ≡ sets l 0 vs
+sets-twice l vs h =
+    sets-front (sets l 0 vs) vs (rw length-sets h)
+    ∙ ap (λ (x : List ℕ). vs ++ drop (length vs) x) (sets-front l vs h)
+    ∙ ap (λ (x : List ℕ). vs ++ x) (drop-at vs (drop (length vs) l) (length vs) refl)
+    ∙ sym (sets-front l vs h)
+
+-- what is written into a buffer is written into the first entries of it that are lent
+pub take-sets : (k : ℕ) (l : List ℕ) (i : ℕ) (vs : List ℕ) → take k (sets l i vs) ≡ sets (take k l) i vs
+take-sets k l i [] = refl
+take-sets k l i (v ∷ vs) = take-sets k (set l i v) (suc i) vs ∙ ap (λ (x : List ℕ). sets x (suc i) vs) one
+  where
+    one : take k (set l i v) ≡ set (take k l) i v
+    one = elim (both (ltb i k)) [
+      | inl e ↦ take-set-lt k l i v (ltb-true i k e)
+      | inr e ↦ let h = ltb-false i k e in take-set-le k l i v h ∙ sym (set-out (take k l) i v (omega (arith, length-take k l)))
+    ]
+
+-- a clause that stands after a list p of words
+first-count : (p c q : List ℕ) → getD (p ++ ((length c ∷ c) ++ q)) (length p) 0 ≡ length c
+first-count p c q = getD-append-seam p (length c) (c ++ q) 0
+
+first-clause : (p c q : List ℕ) → slice (length p + 1) (length p + 1 + length c) (p ++ ((length c ∷ c) ++ q)) ≡ c
+first-clause p c q =
+    let w : p ++ ((length c ∷ c) ++ q) ≡ ((p ++ (length c ∷ [])) ++ c) ++ q = simp append-assoc in
+    let l : length (p ++ (length c ∷ [])) ≡ length p + 1 = length-append p (length c ∷ []) in
+    let k : length ((p ++ (length c ∷ [])) ++ c) ≡ length p + 1 + length c = length-append (p ++ (length c ∷ [])) c ∙ ap (λ (x : ℕ). x + length c) l in
+    rw (w, take-at ((p ++ (length c ∷ [])) ++ c) q (length p + 1 + length c) k) (drop-at (p ++ (length c ∷ [])) c (length p + 1) l)
+
+record Here (w : List ℕ) (o : ℕ) (c : Clause) : Type 0 where
+  count : getD w o 0 ≡ length c
+  clause : slice (o + 1) (o + 1 + length c) w ≡ c
+
+here : (cs : List Clause) (p q : List ℕ) (i : ℕ) → i < length cs → Here (p ++ (flatten cs ++ q)) (length p + length (flatten (take i cs))) (getD cs i [])
+here [] p q i h = absurd (omega arith)
+here (c ∷ cs) p q zero h =
+    rw (add-zero, append-assoc c (flatten cs) q) (record { count = first-count p c (flatten cs ++ q); clause = first-clause p c (flatten cs ++ q) })
+here (c ∷ cs) p q (suc i) h =
+    let w : p ++ (((length c ∷ c) ++ flatten cs) ++ q) ≡ (p ++ (length c ∷ c)) ++ (flatten cs ++ q) = simp append-assoc in
+    let o : length p + length (flatten (c ∷ take i cs)) ≡ length (p ++ (length c ∷ c)) + length (flatten (take i cs)) = omega (arith, length-append p (length c ∷ c), length-append c (flatten (take i cs))) in
+    rw (w, o) (here cs (p ++ (length c ∷ c)) q i (omega arith))
+
+flatten-before : (cs : List Clause) (i : ℕ) → i < length cs → length (flatten (take i cs)) + 1 + length (getD cs i []) ≤ length (flatten cs)
+flatten-before [] i h = absurd (omega arith)
+flatten-before (c ∷ cs) zero h = omega (arith, length-append c (flatten cs))
+flatten-before (c ∷ cs) (suc i) h = omega (arith, flatten-before cs i (omega arith), length-append c (flatten cs), length-append c (flatten (take i cs)))
+
+offset-at : (n : ℕ) (cs : List Clause) (i : ℕ) → i < length cs → getD (offsets n cs) i 0 ≡ n + length (flatten (take i cs))
+offset-at n [] i h = absurd (omega arith)
+offset-at n (c ∷ cs) zero h = sym (add-zero n)
+offset-at n (c ∷ cs) (suc i) h = offset-at (n + suc (length c)) cs i (omega arith) ∙ omega (arith, length-append c (flatten (take i cs)))
+
+module _ (w₀ s₀ : List ℕ) (cs : List Clause) (hw : length (flatten cs) ≤ length w₀) (hs : length cs ≤ length s₀) where
+  abbrev w : List ℕ
+  w = sets w₀ 0 (flatten cs)
+
+  abbrev s : List ℕ
+  s = sets s₀ 0 (offsets 0 cs)
+
+  start-is : (i : ℕ) → i < length cs → startOf s i ≡ length (flatten (take i cs))
+  start-is i h =
+      ap (λ (l : List ℕ). getD l i 0) (sets-front s₀ (offsets 0 cs) (rw (length-offsets 0 cs) hs))
+      ∙ List·getD-append (offsets 0 cs) (drop (length (offsets 0 cs)) s₀) 0 i (rw (length-offsets 0 cs) h)
+      ∙ offset-at 0 cs i h ∙ zero-add (length (flatten (take i cs)))
+
+  at-start : (i : ℕ) → i < length cs → Here w (startOf s i) (getD cs i [])
+  at-start i h =
+      rw (start-is i h, sets-front w₀ (flatten cs) hw, ← zero-add (length (flatten (take i cs)))) (here cs [] (drop (length (flatten cs)) w₀) i h)
+
+  is-clause : (i : ℕ) → i < length cs → clauseAt w s i ≡ getD cs i []
+  unfolding clauseAt
+  is-clause i h = rw (at-start i h .count) (at-start i h .clause)
+
+  -- the clauses that stand there
+  pub clauses-laid : clausesOf w s (length cs) ≡ cs
+  clauses-laid =
+      ext-getD [] (clausesOf w s (length cs)) cs (clauses-length w s (length cs))
+      (λ i h. let k : i < length cs = omega (arith, clauses-length w s (length cs)) in clauses-at w s (length cs) i k ∙ is-clause i k)
+
+  laid-end : (i : ℕ) → i < length cs → endOf w s i ≤ length (flatten cs)
+  laid-end i h = omega (arith, at-start i h .count, start-is i h, flatten-before cs i h)
+
+  laid-literals : (n : ℕ) → Proper n cs → (i : ℕ) → i < length cs → LiteralsIn w n (startOf s i + 1) (endOf w s i)
+  laid-literals n ok i h j a b =
+      let x = at-start i h in
+      let k : j - (startOf s i + 1) < length (getD cs i []) = omega (arith, x .count) in
+      let f = startOf s i + 1 in
+      let to = f + length (getD cs i []) in
+      let back : f + (j - f) ≡ j = omega arith in
+      let e : getD (getD cs i []) (j - f) 0 ≡ getD w j 0 =
+      ap (λ (l : List ℕ). getD l (j - f) 0) (sym (x .clause)) ∙ getD-drop f (take to w) (j - f) 0 ∙ getD-take to w (f + (j - f)) 0 (omega arith) ∙ ap (λ (m : ℕ). getD w m 0) back in
+      rw (← e) (ok i (j - (startOf s i + 1)) h k)
+
+  laid-store : (n : ℕ) → Proper n cs → Store w s n (length cs) (length (flatten cs))
+  laid-store n ok =
+      record {
+        entries = rw length-sets hs;
+        room = rw length-sets hw;
+        each = λ i h. record { listed = rw length-sets (omega arith); inside = laid-end i h; literals = laid-literals n ok i h };
+        sized = ap (λ (x : List Clause). length (flatten x)) (sym clauses-laid);
+      }
+
+  -- what `check_proof` asks for
+  pub begins-laid : (m r : List ℕ) (from : ℕ) → Proper (length m) cs → 1 ≤ length m → length w₀ ≤ 16777216 → m ≡ replicate (length m) 0 → from ≤ length r → length r ≤ 16777216
+      → Begins w s m r from (length cs) (length (flatten cs))
+  begins-laid m r from ok one short unset within limit =
+      record {
+        store = laid-store (length m) ok;
+        words-laid = rw clauses-laid (sets-twice w₀ (flatten cs) hw);
+        starts-laid = rw clauses-laid (sets-twice s₀ (offsets 0 cs) (rw (length-offsets 0 cs) hs));
+        marked = one;
+        short = rw length-sets short;
+        unset = unset;
+        within = within;
+        limit = limit;
+      }

@@ -1,0 +1,70 @@
+// The close of a step.
+use crate::Phase;
+use crate::Progress;
+use crate::Refusal;
+use crate::Turn;
+use crate::phases::is_conflicted;
+use crate::phases::is_going;
+use crate::phases::phase_after;
+use crate::refusals::refused;
+use crate::undoing::clear_step;
+ghost use mathlib.Core.Path.{_≡_};
+ghost use Prim.Native.Nat.{_^_, _≤_, _<_};
+ghost use Rattle.propagation.specs.Stored.{clausesOf};
+ghost use Rattle.proof.specs.Answer.{limitsOf};
+ghost use Rattle.proof.specs.Check.{onClose};
+ghost use Rattle.proof.specs.Undo.{Clean};
+ghost use Rattle.proof.specs.Held.{stateOf, Held, Did, withClose};
+
+fn with_close(p: Progress, phase: Phase) -> Progress
+    requires { ⌜ (p .at < 2 ^ 62) × (p .used < 2 ^ 62) × (p .literals < 2 ^ 62) × (p .count < 2 ^ 62) × (p .steps ≤ p .at) ⌝ }
+    ensures { λ r. ⌜ r ≡ withClose p phase ⌝ }
+{
+    Progress {
+        at: p.at + 1,
+        used: p.used + 1 + p.literals,
+        count: p.count + 1,
+        literals: 0,
+        commands: 0,
+        phase,
+        steps: p.steps + 1,
+        hints: p.hints,
+    }
+}
+
+// The step's clause takes the next number: its literals stand already, and get their count. Every variable is undecided again.
+pub fn on_close(
+    words: &mut [u32],
+    starts: &mut [u32],
+    marks: &mut [u8],
+    report: &[u8],
+    p: Progress,
+) -> Turn
+    requires { ⌜ Held (now words) (now starts) (now marks) p ⌝ }
+    requires { ⌜ Clean (now report) (p .commands) (clausesOf (now words) (now starts) (p .count)) (now marks) (p .at) ⌝ }
+    requires { ⌜ p .at < 2 ^ 62 ⌝ }
+    ensures { λ r. ⌜ Did (now (words .entry)) (now (starts .entry)) (now (marks .entry)) p (now (words .exit)) (now (starts .exit)) (now (marks .exit)) 0 r
+        (onClose (limitsOf (now (words .entry)) (now (starts .entry)) (now (marks .entry))) (stateOf (now (words .entry)) (now (starts .entry)) (now (marks .entry)) p)) ⌝ }
+{
+    let at = p.at;
+    let phase = p.phase;
+    if !is_going(phase) {
+        return refused(Refusal::OutOfPlace(at));
+    }
+    if !is_conflicted(phase) {
+        return refused(Refusal::NoConflict(at));
+    }
+    let used = p.used;
+    let count = p.count;
+    let literals = p.literals;
+    if words.len() < used + 1 + literals {
+        return refused(Refusal::Full(at));
+    }
+    if starts.len() <= count {
+        return refused(Refusal::Full(at));
+    }
+    clear_step(words, starts, marks, report, at, p.commands, count);
+    words[used] = literals as u32;
+    starts[count] = used as u32;
+    Turn::More(with_close(p, phase_after(literals)))
+}

@@ -1,0 +1,37 @@
+// One command of a proof after another.
+use crate::Command;
+use crate::Progress;
+use crate::Refusal;
+use crate::Turn;
+use crate::closes::on_close;
+use crate::commands::read_command;
+use crate::ends::on_end;
+use crate::hints::on_hint;
+use crate::literals::on_literal;
+use crate::refusals::refused;
+ghost use Rattle.proof.specs.Answer.{limitsOf};
+ghost use Rattle.proof.specs.Check.{step};
+ghost use Rattle.proof.specs.Held.{stateOf, Ready, Done};
+
+// One command.
+pub fn turn(
+    words: &mut [u32],
+    starts: &mut [u32],
+    marks: &mut [u8],
+    report: &[u8],
+    p: Progress,
+) -> Turn
+    requires { ⌜ Ready (now words) (now starts) (now marks) (now report) p ⌝ }
+    ensures { λ r. ⌜ Done (now (words .entry)) (now (starts .entry)) (now (marks .entry)) p (now (words .exit)) (now (starts .exit)) (now (marks .exit)) (now (report .entry)) r
+        (step (limitsOf (now (words .entry)) (now (starts .entry)) (now (marks .entry))) (now (report .entry)) (stateOf (now (words .entry)) (now (starts .entry)) (now (marks .entry)) p)) ⌝ }
+{
+    let at = p.at;
+    let found = read_command(report, at);
+    match found {
+        Command::Literal(l) => on_literal(words, marks, p, l),
+        Command::Hint(h) => on_hint(words, starts, marks, p, h),
+        Command::Close => on_close(words, starts, marks, report, p),
+        Command::End => Turn::Stop(on_end(report, p)),
+        Command::Unreadable => refused(Refusal::Unreadable(at)),
+    }
+}
