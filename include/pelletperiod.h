@@ -135,6 +135,36 @@ uint8_t pellet_translate(const uint8_t *routine, size_t routine_len,
                          uint32_t *starts, size_t starts_len,
                          uint64_t *answer, size_t answer_len);
 
+/*
+ * Checks a proof, read from `report` at the offset `from` on, that no
+ * assignment satisfies the given clauses; refuses with 17 to 25.
+ *
+ * `words` and `starts` hold `clauses` clauses, of the variables 1 to
+ * `variables`, as pellet_translate leaves them: one behind the other from
+ * words[0] on, with the offset of each one's count in `starts`. `marks` has at
+ * least one entry for each variable and one more; what it holds does not
+ * matter. `from` is at most the length of `report`, and that at most
+ * 16,777,216. Where this is not so the call returns 254, which is no number of
+ * document 01, and nothing is changed.
+ *
+ * On 0 no assignment satisfies the clauses, and the answer holds:
+ *
+ *   answer[0]  number of steps closed
+ *   answer[1]  number of hints read
+ *
+ * On 0 and on a refusal `words` and `starts` hold the given clauses and behind
+ * them those of the steps closed; where a step was open, its literals stand in
+ * `words` behind one entry left for their count, and its marks are set (1 true,
+ * 2 false). All other marks up to marks[variables] are 0. What lies beyond is
+ * left alone.
+ */
+uint8_t pellet_prove(const uint8_t *report, size_t report_len, size_t from,
+                     uint32_t clauses, uint32_t variables,
+                     uint32_t *words, size_t words_len,
+                     uint32_t *starts, size_t starts_len,
+                     uint8_t *marks, size_t marks_len,
+                     uint64_t *answer, size_t answer_len);
+
 #ifdef __cplusplus
 }
 #endif

@@ -1,4 +1,4 @@
--- The reply of a run or a translation, from what it and the filling of the answer said. Assumes nothing.
+-- The reply of a run, a translation or a check of a proof, from what it and the filling of the answer said. Assumes nothing.
 use mathlib.Core.Path.{_≡_, ap, _∙_}
 use mathlib.Core.List.{List}
 use mathlib.Core.Bool.{false}
@@ -10,7 +10,9 @@ use Rattle.run.specs.declared.Ran.{Ran}
 use Rattle.lead.specs.Lead.{targetOf}
 use Rattle.translation.specs.Answer as translated
 use Rattle.translation.specs.declared.Translated.{Translated}
-use Rattle.capi.specs.Reply.{Reply, Fills, runFills, RunReply, runGives, runReply, RunsReply, translateFills, TranslateReply, translateGives, translateReply, TranslatesReply}
+use Rattle.proof.specs.Checking.{Checking, Checks}
+use Rattle.proof.specs.declared.Checked.{Checked}
+use Rattle.capi.specs.Reply.{Reply, Fills, runFills, RunReply, runGives, runReply, RunsReply, translateFills, TranslateReply, translateGives, translateReply, TranslatesReply, proveFills, ProveReply, proveGives, proveReply, ProvesReply}
 
 abbrev put : ℕ → (values trail ans : List ℕ) → RunReply
 put code values trail ans = record { code = code; values = values; trail = trail; answer = ans }
@@ -35,4 +37,17 @@ translate-replies bs access side ds words starts ans words₁ starts₁ ans₁ r
   equal =
       ap (λ (y : Reply). putTranslated (y .code) words₁ starts₁ (y .answer)) (f .equal)
       ∙ rw e (ap (λ (y : translated.Answer). translateGives y ans) (x .equal));
+}
+
+abbrev putProved : ℕ → (words starts marks ans : List ℕ) → ProveReply
+putProved code words starts marks ans = record { code = code; words = words; starts = starts; marks = marks; answer = ans }
+
+pub prove-replies : (r : List ℕ) (from clauses variables : ℕ) (words starts marks ans words₁ starts₁ marks₁ ans₁ : List ℕ) (code : ℕ) {c : Checked}
+    → Fills (proveFills c ans) ans₁ code → Checks words starts marks r from clauses variables words₁ starts₁ marks₁ c
+    → ltb (length ans) 8 ≡ false → ProvesReply r from clauses variables words starts marks ans words₁ starts₁ marks₁ ans₁ code
+unfolding proveReply
+prove-replies r from clauses variables words starts marks ans words₁ starts₁ marks₁ ans₁ code {c} f x e = record {
+  equal =
+      ap (λ (y : Reply). putProved (y .code) words₁ starts₁ marks₁ (y .answer)) (f .equal)
+      ∙ rw e (ap (λ (y : Checking). proveGives y ans) (x .equal));
 }

@@ -23,6 +23,10 @@ use Rattle.translation.specs.Answer as translated
 use Rattle.translation.specs.Refusal as translation
 use Rattle.translation.specs.declared.Size.{Size}
 use Rattle.translation.specs.declared.Translated.{Translated}
+use Rattle.proof.specs.Checking.{Checking, checking}
+use Rattle.proof.specs.Refusal as proof
+use Rattle.proof.specs.declared.Checked as proved
+use Rattle.proof.specs.declared.Checked.the-variants.{Accepted, Refused, Unfit}
 
 -- 1 if a whole number is negative
 abbrev pub isNegative : Whole → ℕ
@@ -71,6 +75,12 @@ runFills (Ran.Refused refusal) ans = record { code = run.numberOf refusal; answe
 abbrev pub translateFills : Translated → List ℕ → Reply
 translateFills (Translated.Made size) ans = record { code = 0; answer = filled ans 0 (sizesOf size) }
 translateFills (Translated.Refused refusal) ans = record { code = translation.numberOf refusal; answer = set ans 0 (translation.placeOf refusal) }
+
+-- what checking a proof gives: steps closed and hints read; 254, no number of document 01, where the buffers do not hold what is asked
+abbrev pub proveFills : proved.Checked → List ℕ → Reply
+proveFills (Accepted steps hints) ans = record { code = 0; answer = filled ans 0 (steps ∷ hints ∷ []) }
+proveFills (Refused refusal) ans = record { code = proof.numberOf refusal; answer = set ans 0 (proof.placeOf refusal) }
+proveFills Unfit ans = record { code = 254; answer = ans }
 
 -- the reply is the number r, and the answer became ans₁
 pub record Fills (reply : Reply) (ans₁ : List ℕ) (r : ℕ) : Type 0 where
@@ -131,3 +141,32 @@ translateReply bs access side ds words starts ans =
 
 pub record TranslatesReply (bs : List ℕ) (access side : ℕ) (ds words starts ans words₁ starts₁ ans₁ : List ℕ) (r : ℕ) : Type 0 where
   pub equal : _≡_ {A = TranslateReply} (record { code = r; words = words₁; starts = starts₁; answer = ans₁ }) (translateReply bs access side ds words starts ans)
+
+-- the number returned, and all four buffers
+pub record ProveReply : Type 0 where
+  pub code : ℕ
+  pub words : List ℕ
+  pub starts : List ℕ
+  pub marks : List ℕ
+  pub answer : List ℕ
+
+-- what a checking gives
+abbrev pub proveGives : Checking → List ℕ → ProveReply
+proveGives x ans =
+    record {
+      code = proveFills (x .checked) ans .code;
+      words = x .words;
+      starts = x .starts;
+      marks = x .marks;
+      answer = proveFills (x .checked) ans .answer;
+    }
+
+-- what `pellet_prove` replies
+unfoldable pub proveReply : (r : List ℕ) → (from clauses variables : ℕ) → (words starts marks ans : List ℕ) → ProveReply
+proveReply r from clauses variables words starts marks ans =
+    cond (ltb (length ans) 8)
+    (record { code = 255; words = words; starts = starts; marks = marks; answer = ans })
+    (proveGives (checking words starts marks r from clauses variables) ans)
+
+pub record ProvesReply (r : List ℕ) (from clauses variables : ℕ) (words starts marks ans words₁ starts₁ marks₁ ans₁ : List ℕ) (code : ℕ) : Type 0 where
+  pub equal : _≡_ {A = ProveReply} (record { code = code; words = words₁; starts = starts₁; marks = marks₁; answer = ans₁ }) (proveReply r from clauses variables words starts marks ans)

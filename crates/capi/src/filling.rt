@@ -11,9 +11,10 @@ use translation::Size;
 use translation::Translated;
 ghost use mathlib.Core.Path.{_≡_};
 ghost use Prim.Native.Nat.{_≤_};
+ghost use mathlib.Core.List.{[], _∷_};
 ghost use lib.ListN.{length, set};
 ghost use Rattle.machine.specs.Side.{sideNumber};
-ghost use Rattle.capi.specs.Reply.{isNegative, magnitude, countsOf, stoppedOf, sizesOf, filled, checkFills, runFills, translateFills, Fills};
+ghost use Rattle.capi.specs.Reply.{isNegative, magnitude, countsOf, stoppedOf, sizesOf, filled, checkFills, runFills, translateFills, proveFills, Fills};
 
 fn wide8(x: u8) -> u64
     ensures { λ r. ⌜ r ≡ x ⌝ }
@@ -104,6 +105,15 @@ fn fill_size(size: Size, answer: &mut [u64])
     answer[2] = wide32(size.variables);
 }
 
+// The counts of a proof.
+fn fill_proof(steps: usize, hints: usize, answer: &mut [u64])
+    requires { ⌜ 8 ≤ length (now answer) ⌝ }
+    ensures { λ r. ⌜ now (answer .exit) ≡ filled (now (answer .entry)) 0 (steps ∷ hints ∷ []) ⌝ }
+{
+    answer[0] = wide_size(steps);
+    answer[1] = wide_size(hints);
+}
+
 // What checking a routine answered.
 pub fn fill_check(checked: Checked, answer: &mut [u64]) -> u8
     requires { ⌜ 8 ≤ length (now answer) ⌝ }
@@ -160,5 +170,23 @@ pub fn fill_translate(translated: Translated, answer: &mut [u64]) -> u8
             fill_place(translation::refusals::place_of(refusal), answer);
             translation::refusals::number_of(refusal)
         }
+    }
+}
+
+// What checking a proof answered.
+pub fn fill_prove(checked: proof::Checked, answer: &mut [u64]) -> u8
+    requires { ⌜ 8 ≤ length (now answer) ⌝ }
+    ensures { λ r. ⌜ Fills (proveFills checked (now (answer .entry))) (now (answer .exit)) r ⌝ }
+{
+    match checked {
+        proof::Checked::Accepted { steps, hints } => {
+            fill_proof(steps, hints, answer);
+            0
+        }
+        proof::Checked::Refused(refusal) => {
+            fill_place(proof::refusals::place_of(refusal), answer);
+            proof::refusals::number_of(refusal)
+        }
+        proof::Checked::Unfit => 254,
     }
 }

@@ -2,9 +2,10 @@
 mod filling;
 
 use filling::fill_check;
+use filling::fill_prove;
 use filling::fill_run;
 use filling::fill_translate;
-ghost use Rattle.capi.specs.Reply.{ChecksReply, RunsReply, TranslatesReply};
+ghost use Rattle.capi.specs.Reply.{ChecksReply, RunsReply, TranslatesReply, ProvesReply};
 
 // Checks a routine.
 #[no_mangle]
@@ -52,6 +53,29 @@ pub extern "C" fn pellet_translate(
     }
     fill_translate(
         translation::translate(routine, access, side, decisions, words, starts),
+        answer,
+    )
+}
+
+// Checks a proof against clauses that stand in words and starts.
+#[no_mangle]
+pub extern "C" fn pellet_prove(
+    report: &[u8],
+    from: usize,
+    clauses: u32,
+    variables: u32,
+    words: &mut [u32],
+    starts: &mut [u32],
+    marks: &mut [u8],
+    answer: &mut [u64],
+) -> u8
+    ensures { λ r. ⌜ ProvesReply (now (report .entry)) from clauses variables (now (words .entry)) (now (starts .entry)) (now (marks .entry)) (now (answer .entry)) (now (words .exit)) (now (starts .exit)) (now (marks .exit)) (now (answer .exit)) r ⌝ }
+{
+    if answer.len() < 8 {
+        return 255;
+    }
+    fill_prove(
+        proof::check(report, from, clauses, variables, words, starts, marks),
         answer,
     )
 }
