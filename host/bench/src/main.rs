@@ -3,6 +3,8 @@
 //! then write, so that nothing would be written into buffers that are too
 //! small. `cargo run --release -p bench`.
 
+mod proof;
+
 use differential::limit::routine_of;
 use oracle::{Literal, Sink, MAX_ENTRIES};
 use std::time::{Duration, Instant};
@@ -41,6 +43,7 @@ fn main() {
     report("oracle", needed.words, oracle_time);
     let ratio = library_time.as_secs_f64() / oracle_time.as_secs_f64();
     println!("pellet_translate takes {ratio:.2} times as long");
+    proof::run();
 }
 
 fn best(mut round: impl FnMut()) -> Duration {

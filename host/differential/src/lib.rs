@@ -30,6 +30,7 @@ pub mod long_proof;
 pub mod narrow;
 pub mod plan;
 pub mod proof_case;
+pub mod proof_compare;
 pub mod proof_damage;
 pub mod proof_draft;
 pub mod proof_expected;

@@ -4,10 +4,7 @@
 use crate::lent::Lent;
 use crate::proof_case::ProofCase;
 use oracle::{follow_proof, Followed, Refusal, Totals, MAX_ENTRIES};
-use pellet::{ANSWER_LEN, ANSWER_TOO_SHORT};
-
-/// Returned where the buffers do not hold such clauses.
-pub const NOT_STANDING: u8 = 254;
+use pellet::{ANSWER_LEN, ANSWER_TOO_SHORT, NOT_STANDING};
 
 #[derive(Clone, Copy, Debug, PartialEq, Eq)]
 pub enum ProofVerdict {
