@@ -10,8 +10,8 @@ use Rattle.run.specs.declared.Ran.{Ran}
 use Rattle.lead.specs.Lead.{targetOf}
 use Rattle.translation.specs.Answer as translated
 use Rattle.translation.specs.declared.Translated.{Translated}
-use Rattle.proof.specs.Checking.{Checking, Checks}
-use Rattle.proof.specs.declared.Checked.{Checked}
+use Rattle.checker.specs.Checking.{Checking, Checks}
+use Rattle.checker.specs.declared.Checked.{Checked}
 use Rattle.capi.specs.Reply.{Reply, Fills, runFills, RunReply, runGives, runReply, RunsReply, translateFills, TranslateReply, translateGives, translateReply, TranslatesReply, proveFills, ProveReply, proveGives, proveReply, ProvesReply}
 
 abbrev put : ℕ → (values trail ans : List ℕ) → RunReply

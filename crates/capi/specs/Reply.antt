@@ -23,10 +23,10 @@ use Rattle.translation.specs.Answer as translated
 use Rattle.translation.specs.Refusal as translation
 use Rattle.translation.specs.declared.Size.{Size}
 use Rattle.translation.specs.declared.Translated.{Translated}
-use Rattle.proof.specs.Checking.{Checking, checking}
-use Rattle.proof.specs.Refusal as proof
-use Rattle.proof.specs.declared.Checked as proved
-use Rattle.proof.specs.declared.Checked.the-variants.{Accepted, Refused, Unfit}
+use Rattle.checker.specs.Checking.{Checking, checking}
+use Rattle.step.specs.Refusal as proof
+use Rattle.checker.specs.declared.Checked as proved
+use Rattle.checker.specs.declared.Checked.the-variants.{Accepted, Refused, Unfit}
 
 -- 1 if a whole number is negative
 abbrev pub isNegative : Whole → ℕ

@@ -174,19 +174,19 @@ pub fn fill_translate(translated: Translated, answer: &mut [u64]) -> u8
 }
 
 // What checking a proof answered.
-pub fn fill_prove(checked: proof::Checked, answer: &mut [u64]) -> u8
+pub fn fill_prove(checked: checker::Checked, answer: &mut [u64]) -> u8
     requires { ⌜ 8 ≤ length (now answer) ⌝ }
     ensures { λ r. ⌜ Fills (proveFills checked (now (answer .entry))) (now (answer .exit)) r ⌝ }
 {
     match checked {
-        proof::Checked::Accepted { steps, hints } => {
+        checker::Checked::Accepted { steps, hints } => {
             fill_proof(steps, hints, answer);
             0
         }
-        proof::Checked::Refused(refusal) => {
-            fill_place(proof::refusals::place_of(refusal), answer);
-            proof::refusals::number_of(refusal)
+        checker::Checked::Refused(refusal) => {
+            fill_place(step::refusals::place_of(refusal), answer);
+            step::refusals::number_of(refusal)
         }
-        proof::Checked::Unfit => 254,
+        checker::Checked::Unfit => 254,
     }
 }

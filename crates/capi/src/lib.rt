@@ -75,7 +75,7 @@ pub extern "C" fn pellet_prove(
         return 255;
     }
     fill_prove(
-        proof::check(report, from, clauses, variables, words, starts, marks),
+        checker::check(report, from, clauses, variables, words, starts, marks),
         answer,
     )
 }

@@ -1,5 +1,2 @@
-pub mod Compare
-pub mod Relation
 pub mod Product
 pub mod Join
-pub mod Access

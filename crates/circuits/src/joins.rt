@@ -1,7 +1,7 @@
 // Joining the bits of two arms.
 use crate::Bundle;
-use crate::Test;
 use netlist::Net;
+use relations::Test;
 ghost use mathlib.Core.Bool.{cond};
 ghost use mathlib.Core.Path.{_≡_};
 ghost use Prim.Native.Nat.{_≤_};

@@ -10,8 +10,8 @@ use Rattle.netlist.specs.Emit.{Emitted, Ready}
 use Rattle.netlist.specs.declared.Net.{Net}
 use Rattle.netlist.proofs.Emitting.{emitted-then, ready-after}
 use Rattle.bits.specs.Bits.{Bits}
-use Rattle.circuits.specs.Access.{aboveNodes, aboveLit}
-use Rattle.circuits.proofs.Access.{above-short}
+use Rattle.relations.specs.Access.{aboveNodes, aboveLit}
+use Rattle.relations.proofs.Access.{above-short}
 use Rattle.operands.specs.Operation.{top, accessNodes, accessArrival}
 
 module _ {w u w₁ u₁ : List ℕ} {n n₁ : Net} (a : Bits) (size v : ℕ) (p : Emitted w u n (aboveNodes (n .next) a size v) w₁ u₁ n₁) where

@@ -10,7 +10,7 @@ use Rattle.bits.specs.Bits.{Bits}
 use Rattle.bits.specs.Extend.{extend}
 use Rattle.adders.specs.Adder.{adder, subtractor, sumBit}
 use Rattle.circuits.specs.Product.{product, accBit}
-use Rattle.circuits.specs.Access.{aboveNodes, aboveLit}
+use Rattle.relations.specs.Access.{aboveNodes, aboveLit}
 
 -- copy, cut and the extensions take no gates: past the w bits of a stands 3, or for 0x08 sign-extend the top bit
 abbrev pub convertBits : (op w : ℕ) → Bits → Bits

@@ -1,9 +1,9 @@
 // An index against a size.
-use circuits::Test;
-use circuits::accesses::above;
 use netlist::Net;
 use netlist::and_gate;
 use netlist::opposite;
+use relations::Test;
+use relations::accesses::above;
 ghost use mathlib.Core.Path.{_≡_};
 ghost use Prim.Native.Nat.{_*_, _≤_, _<_};
 ghost use lib.ListN.{length, take, drop};

@@ -4,12 +4,12 @@ use adders::subtract;
 use adders::sum_bits;
 use bits::extensions::extended;
 use circuits::Bundle;
-use circuits::Test;
 use circuits::joins::join;
 use circuits::products::multiply;
-use circuits::relations::relation;
 use command::Condition;
 use netlist::Net;
+use relations::Test;
+use relations::relation;
 ghost use mathlib.Core.Path.{_≡_};
 ghost use mathlib.Core.Bool.{cond};
 ghost use lib.Dec.{eqb};
@@ -19,7 +19,7 @@ ghost use Rattle.netlist.specs.Emit.{Emitted, Ready};
 ghost use Rattle.bits.specs.Bits.{litAt, tabulate};
 ghost use Rattle.bits.specs.Extend.{extend};
 ghost use Rattle.circuits.specs.Join.{joinBit, join as joinOf};
-ghost use Rattle.circuits.specs.Relation.{relNodes, relLit};
+ghost use Rattle.relations.specs.Relation.{relNodes, relLit};
 ghost use Rattle.operands.specs.Operation.{convertBits, computeNodes, computeBits};
 
 // 0x03 add, 0x04 subtract, 0x05 multiply: variables s and t, each of w bits.

@@ -5,11 +5,11 @@ use mathlib.Core.List.{List, [], _∷_}
 use Rattle.slices.specs.Bytes.{word}
 use Rattle.clauses.specs.Clause.{Clause}
 use Rattle.propagation.specs.Hint.{notFalse, allSame, ofLeft, hintOf}
-use Rattle.proof.specs.Command.{commandAt}
+use Rattle.step.specs.Command.{commandAt}
 use Rattle.proof.specs.State.{Limits, unless}
 use Rattle.proof.specs.Check.{fresh, onLiteral, afterHint, onHint, onClose, onEnd, obey, step, run, checkProof}
-use Rattle.proof.specs.declared.Refusal.{Refusal}
-use Rattle.proof.specs.declared.Verdict.{Verdict}
+use Rattle.step.specs.declared.Refusal.{Refusal}
+use Rattle.step.specs.declared.Verdict.{Verdict}
 
 abbrev clauses : List Clause
 clauses = (2 ∷ []) ∷ (2 ∷ []) ∷ (3 ∷ []) ∷ []

@@ -16,16 +16,16 @@ use Rattle.clauses.proofs.Appending.{flatten-append}
 use Rattle.propagation.specs.Stored.{startOf, clauseAt, clausesOf, Stands}
 use Rattle.propagation.proofs.Cases.{below-or}
 use Rattle.propagation.proofs.Standing.{clauses-length, clauses-same}
-use Rattle.proof.specs.Phase.{going, conflicted, phaseAfter}
-use Rattle.proof.specs.Refusal.{refusedBy}
+use Rattle.step.specs.Phase.{going, conflicted, phaseAfter}
+use Rattle.step.specs.Refusal.{refusedBy}
 use Rattle.proof.specs.State.{State, Limits, more, unless, size, afterClose}
 use Rattle.proof.specs.Check.{onClose}
 use Rattle.proof.specs.Answer.{limitsOf, Store}
 use Rattle.proof.specs.Held.{literalsOf, stateOf, Held, Written, Did, withClose}
-use Rattle.proof.specs.declared.Phase.{Phase}
-use Rattle.proof.specs.declared.Progress.{Progress}
-use Rattle.proof.specs.declared.Refusal.{Refusal}
-use Rattle.proof.specs.declared.Turn.{Turn}
+use Rattle.step.specs.declared.Phase.{Phase}
+use Rattle.step.specs.declared.Progress.{Progress}
+use Rattle.step.specs.declared.Refusal.{Refusal}
+use Rattle.step.specs.declared.Turn.{Turn}
 use Rattle.proof.proofs.Storing.{slice-after, clause-kept, word-at-kept, own-length, taken, zeros-undecided}
 use Rattle.proof.proofs.Stopping.{stopped, conflict-goes}
 use Rattle.proof.proofs.Writing.{words-close, starts-close}

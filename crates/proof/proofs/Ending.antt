@@ -5,13 +5,13 @@ use mathlib.Core.List.{List}
 use mathlib.Core.Bool.{true, false}
 use lib.ListN.{length}
 use borrow.Author.Tests.{le-leb, lt-leb}
-use Rattle.proof.specs.Phase.{going}
+use Rattle.step.specs.Phase.{going}
 use Rattle.proof.specs.State.{stop, unless}
 use Rattle.proof.specs.Check.{onEnd}
 use Rattle.proof.specs.Held.{stateOf}
-use Rattle.proof.specs.declared.Progress.{Progress}
-use Rattle.proof.specs.declared.Refusal.{Refusal}
-use Rattle.proof.specs.declared.Verdict.{Verdict}
+use Rattle.step.specs.declared.Progress.{Progress}
+use Rattle.step.specs.declared.Refusal.{Refusal}
+use Rattle.step.specs.declared.Verdict.{Verdict}
 
 module _ (w s m r : List ℕ) (p : Progress) where
   pub end-early : going (p .phase) ≡ true → stop (Verdict.Refused (Refusal.OutOfPlace (p .at))) ≡ onEnd r (stateOf w s m p)

@@ -10,16 +10,16 @@ use Rattle.propagation.specs.Clear.{clear}
 use Rattle.propagation.specs.declared.Hint.{Hint}
 use Rattle.propagation.proofs.Standing.{In, unit-in}
 use Rattle.propagation.proofs.Clearing.{clear-marked}
-use Rattle.proof.specs.Command.{commandAt}
+use Rattle.step.specs.Command.{commandAt}
 use Rattle.proof.specs.State.{State, Limits, Next, more, stop, afterLiteral, hinted, afterClose}
 use Rattle.proof.specs.Check.{onLiteral, afterHint, onHint, onClose}
-use Rattle.proof.specs.Undo.{touches, touched, Clean}
-use Rattle.proof.specs.declared.Command.{Command}
-use Rattle.proof.specs.declared.Phase.{Phase}
-use Rattle.proof.specs.declared.Refusal.{Refusal}
-use Rattle.proof.specs.declared.Verdict.{Verdict}
+use Rattle.step.specs.Undo.{touches, touched, Clean}
+use Rattle.step.specs.declared.Command.{Command}
+use Rattle.step.specs.declared.Phase.{Phase}
+use Rattle.step.specs.declared.Refusal.{Refusal}
+use Rattle.step.specs.declared.Verdict.{Verdict}
 use Rattle.proof.proofs.Unless.{unless-in}
-use Rattle.proof.proofs.Cleaning.{clean-more}
+use Rattle.step.proofs.Cleaning.{clean-more}
 
 unfoldable pub Goes : List ℕ → ℕ → ℕ → Next → Type 0
 Goes r k to (more t) = Clean r k (t .clauses) (t .marks) (t .place) × (t .place ≡ to)

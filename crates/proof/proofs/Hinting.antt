@@ -12,15 +12,15 @@ use Rattle.propagation.specs.Hint.{hintOf}
 use Rattle.propagation.specs.Stored.{clauseAt}
 use Rattle.propagation.specs.declared.Hint.{Hint}
 use Rattle.propagation.proofs.Standing.{clauses-length, clauses-at}
-use Rattle.proof.specs.Phase.{going, inLiterals, conflicted}
-use Rattle.proof.specs.Refusal.{refusedBy}
+use Rattle.step.specs.Phase.{going, inLiterals, conflicted}
+use Rattle.step.specs.Refusal.{refusedBy}
 use Rattle.proof.specs.State.{State, unless}
 use Rattle.proof.specs.Check.{afterHint, onHint}
 use Rattle.proof.specs.Held.{stateOf, Held, Written, Did, withHint}
-use Rattle.proof.specs.declared.Phase.{Phase}
-use Rattle.proof.specs.declared.Progress.{Progress}
-use Rattle.proof.specs.declared.Refusal.{Refusal}
-use Rattle.proof.specs.declared.Turn.{Turn}
+use Rattle.step.specs.declared.Phase.{Phase}
+use Rattle.step.specs.declared.Progress.{Progress}
+use Rattle.step.specs.declared.Refusal.{Refusal}
+use Rattle.step.specs.declared.Turn.{Turn}
 use Rattle.proof.proofs.Stopping.{stopped}
 
 takes-hint : (s : State) (h : ℕ) → going (s .phase) ≡ true → h < length (s .clauses) → conflicted (s .phase) ≡ false → onHint s h ≡ afterHint s (hintOf (s .marks) (getD (s .clauses) h []))

@@ -1,5 +1,4 @@
 -- What the proofs of several functions use, and the laws for the layers above.
-mod Reading
 mod Unless
 mod Truth
 pub mod Soundness
@@ -8,7 +7,6 @@ mod Bench
 mod Storing
 mod Stopping
 mod Writing
-mod Cleaning
 mod Taking
 mod Ending
 mod Hinting
@@ -17,7 +15,4 @@ mod Going
 mod Turning
 mod Running
 pub mod Laying
-mod Fitting
-mod Zeroing
-mod Stood
-mod Asking
+pub mod Zeroing

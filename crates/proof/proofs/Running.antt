@@ -13,13 +13,13 @@ use Rattle.propagation.specs.Clear.{clear}
 use Rattle.proof.specs.State.{State, Limits, more, stop}
 use Rattle.proof.specs.Check.{fresh, step, Outcome, follow, run, checkProof}
 use Rattle.proof.specs.Answer.{limitsOf, Answer, leaves, answer, Answers, Begins}
-use Rattle.proof.specs.Undo.{touched, Clean}
+use Rattle.step.specs.Undo.{touched, Clean}
 use Rattle.proof.specs.Held.{stateOf, nextIs, Written, Ready, ReadyAfter, Done}
 use Rattle.proof.specs.Sound.{Refutes}
-use Rattle.proof.specs.declared.Phase.{Phase}
-use Rattle.proof.specs.declared.Progress.{Progress}
-use Rattle.proof.specs.declared.Turn.{Turn}
-use Rattle.proof.specs.declared.Verdict.{Verdict}
+use Rattle.step.specs.declared.Phase.{Phase}
+use Rattle.step.specs.declared.Progress.{Progress}
+use Rattle.step.specs.declared.Turn.{Turn}
+use Rattle.step.specs.declared.Verdict.{Verdict}
 use Rattle.proof.proofs.Storing.{zeros-undecided}
 use Rattle.proof.proofs.Soundness.{sound}
 

@@ -3,15 +3,15 @@ use Prim.Native.Nat.{ℕ}
 use mathlib.Core.Path.{_≡_, refl, sym, ap, subst, _∙_}
 use mathlib.Core.List.{List}
 use mathlib.Core.Bool.{true}
-use Rattle.proof.specs.Phase.{going, inLiterals, conflicted}
-use Rattle.proof.specs.Refusal.{refusedBy}
+use Rattle.step.specs.Phase.{going, inLiterals, conflicted}
+use Rattle.step.specs.Refusal.{refusedBy}
 use Rattle.proof.specs.State.{Next, stop}
 use Rattle.proof.specs.Held.{nextIs, Kept, Did}
-use Rattle.proof.specs.declared.Phase.{Phase}
-use Rattle.proof.specs.declared.Progress.{Progress}
-use Rattle.proof.specs.declared.Refusal.{Refusal}
-use Rattle.proof.specs.declared.Turn.{Turn}
-use Rattle.proof.specs.declared.Verdict.{Verdict}
+use Rattle.step.specs.declared.Phase.{Phase}
+use Rattle.step.specs.declared.Progress.{Progress}
+use Rattle.step.specs.declared.Refusal.{Refusal}
+use Rattle.step.specs.declared.Turn.{Turn}
+use Rattle.step.specs.declared.Verdict.{Verdict}
 
 pub stopped : (w s m : List ℕ) (p : Progress) (k : ℕ) (v : Refusal) (t : Turn) (n : Next) → t ≡ refusedBy v → n ≡ stop (Verdict.Refused v) → Did w s m p w s m k t n
 stopped w s m p k v t n q e = record {

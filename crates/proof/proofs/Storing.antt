@@ -17,7 +17,7 @@ use Rattle.propagation.proofs.Standing.{clauses-same}
 use Rattle.proof.specs.Check.{fresh}
 use Rattle.proof.specs.Answer.{Store}
 use Rattle.proof.specs.Held.{Held, literalsOf}
-use Rattle.proof.specs.declared.Progress.{Progress}
+use Rattle.step.specs.declared.Progress.{Progress}
 use Rattle.proof.proofs.Zeroing.{getD-zeros}
 
 -- a part that ends before the place of a store

@@ -13,16 +13,16 @@ use Rattle.clauses.specs.Clause.{Clause}
 use Rattle.propagation.specs.Marks.{falseMark, undecided}
 use Rattle.propagation.specs.Stored.{LiteralsIn, clausesOf}
 use Rattle.propagation.proofs.Cases.{both}
-use Rattle.proof.specs.Phase.{going, inLiterals}
-use Rattle.proof.specs.Refusal.{refusedBy}
+use Rattle.step.specs.Phase.{going, inLiterals}
+use Rattle.step.specs.Refusal.{refusedBy}
 use Rattle.proof.specs.State.{State, Limits, more, unless, size, afterLiteral}
 use Rattle.proof.specs.Check.{ofVariable, fresh, onLiteral}
 use Rattle.proof.specs.Answer.{limitsOf}
 use Rattle.proof.specs.Held.{literalsOf, stateOf, Held, Written, Did, withLiteral}
-use Rattle.proof.specs.declared.Phase.{Phase}
-use Rattle.proof.specs.declared.Progress.{Progress}
-use Rattle.proof.specs.declared.Refusal.{Refusal}
-use Rattle.proof.specs.declared.Turn.{Turn}
+use Rattle.step.specs.declared.Phase.{Phase}
+use Rattle.step.specs.declared.Progress.{Progress}
+use Rattle.step.specs.declared.Refusal.{Refusal}
+use Rattle.step.specs.declared.Turn.{Turn}
 use Rattle.proof.proofs.Storing.{slice-snoc, clauses-kept, store-kept, taken, literals-more}
 use Rattle.proof.proofs.Stopping.{stopped, literals-go}
 use Rattle.proof.proofs.Writing.{words-literal}

@@ -8,7 +8,7 @@ use Rattle.clauses.specs.Clause.{flatten, offsets}
 use Rattle.propagation.specs.Stored.{clausesOf, Stands}
 use Rattle.proof.specs.State.{State, Limits}
 use Rattle.proof.specs.Check.{Outcome, checkProof}
-use Rattle.proof.specs.declared.Verdict.{Verdict}
+use Rattle.step.specs.declared.Verdict.{Verdict}
 
 -- what there is room for: a mark for each variable and one more
 abbrev pub limitsOf : (words starts marks : List ℕ) → Limits

@@ -8,13 +8,13 @@ use Rattle.clauses.specs.Clause.{Clause}
 use Rattle.propagation.specs.Marks.{variableOf, trueMark}
 use Rattle.propagation.specs.Hint.{hintOf}
 use Rattle.propagation.specs.declared.Hint.{Hint}
-use Rattle.proof.specs.Command.{commandAt}
-use Rattle.proof.specs.Phase.{going, inLiterals, conflicted}
+use Rattle.step.specs.Command.{commandAt}
+use Rattle.step.specs.Phase.{going, inLiterals, conflicted}
 use Rattle.proof.specs.State.{State, Limits, Next, more, stop, unless, size, afterLiteral, hinted, afterClose, begin}
-use Rattle.proof.specs.declared.Command.{Command}
-use Rattle.proof.specs.declared.Phase.{Phase}
-use Rattle.proof.specs.declared.Refusal.{Refusal}
-use Rattle.proof.specs.declared.Verdict.{Verdict}
+use Rattle.step.specs.declared.Command.{Command}
+use Rattle.step.specs.declared.Phase.{Phase}
+use Rattle.step.specs.declared.Refusal.{Refusal}
+use Rattle.step.specs.declared.Verdict.{Verdict}
 
 -- a literal of one of n variables
 abbrev pub ofVariable : (n l : ℕ) → Bool

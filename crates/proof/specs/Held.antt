@@ -8,14 +8,14 @@ use lib.ListN.{length}
 use lib.Seq.{slice}
 use Rattle.propagation.specs.Marks.{undecided}
 use Rattle.propagation.specs.Stored.{LiteralsIn, clausesOf}
-use Rattle.proof.specs.Phase.{inLiterals}
+use Rattle.step.specs.Phase.{inLiterals}
 use Rattle.proof.specs.State.{State, Next, more, stop}
 use Rattle.proof.specs.Check as Check
 use Rattle.proof.specs.Answer.{wordsOf, startsOf, Store}
-use Rattle.proof.specs.Undo.{Clean}
-use Rattle.proof.specs.declared.Phase.{Phase}
-use Rattle.proof.specs.declared.Progress.{Progress}
-use Rattle.proof.specs.declared.Turn.{Turn}
+use Rattle.step.specs.Undo.{Clean}
+use Rattle.step.specs.declared.Phase.{Phase}
+use Rattle.step.specs.declared.Progress.{Progress}
+use Rattle.step.specs.declared.Turn.{Turn}
 
 -- the step's literals stand after the word for their count
 abbrev pub literalsOf : List ℕ → Progress → List ℕ

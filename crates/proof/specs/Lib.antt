@@ -1,12 +1,5 @@
-pub mod Refusal
-pub mod Command
-pub mod Phase
 pub mod State
 pub mod Check
 pub mod Sound
 pub mod Answer
-pub mod Fit
-pub mod Checking
-pub mod Undo
 pub mod Held
-pub mod Parts

@@ -5,10 +5,10 @@ use mathlib.Core.Bool.{Bool, cond}
 use lib.ListN.{length, set, replicate}
 use Rattle.clauses.specs.Clause.{Clause, flatten}
 use Rattle.propagation.specs.Marks.{variableOf, falseMark}
-use Rattle.proof.specs.Phase.{phaseAfter}
-use Rattle.proof.specs.declared.Phase.{Phase}
-use Rattle.proof.specs.declared.Refusal.{Refusal}
-use Rattle.proof.specs.declared.Verdict.{Verdict}
+use Rattle.step.specs.Phase.{phaseAfter}
+use Rattle.step.specs.declared.Phase.{Phase}
+use Rattle.step.specs.declared.Refusal.{Refusal}
+use Rattle.step.specs.declared.Verdict.{Verdict}
 
 -- the clauses so far; the step's literals; the marks; the step's phase; the steps closed and the hints read; the place of the next command
 pub record State : Type 0 where

@@ -1,19 +1,19 @@
 // The close of a step.
-use crate::Phase;
-use crate::Progress;
-use crate::Refusal;
-use crate::Turn;
-use crate::phases::is_conflicted;
-use crate::phases::is_going;
-use crate::phases::phase_after;
-use crate::refusals::refused;
-use crate::undoing::clear_step;
+use step::Phase;
+use step::Progress;
+use step::Refusal;
+use step::Turn;
+use step::phases::is_conflicted;
+use step::phases::is_going;
+use step::phases::phase_after;
+use step::refusals::refused;
+use step::undoing::clear_step;
 ghost use mathlib.Core.Path.{_≡_};
 ghost use Prim.Native.Nat.{_^_, _≤_, _<_};
 ghost use Rattle.propagation.specs.Stored.{clausesOf};
 ghost use Rattle.proof.specs.Answer.{limitsOf};
 ghost use Rattle.proof.specs.Check.{onClose};
-ghost use Rattle.proof.specs.Undo.{Clean};
+ghost use Rattle.step.specs.Undo.{Clean};
 ghost use Rattle.proof.specs.Held.{stateOf, Held, Did, withClose};
 
 fn with_close(p: Progress, phase: Phase) -> Progress

@@ -1,8 +1,8 @@
 // The end of a proof.
-use crate::Progress;
-use crate::Refusal;
-use crate::Verdict;
-use crate::phases::is_going;
+use step::Progress;
+use step::Refusal;
+use step::Verdict;
+use step::phases::is_going;
 ghost use mathlib.Core.Path.{_≡_};
 ghost use mathlib.Core.List.{List};
 ghost use Prim.Native.Nat.{ℕ, _^_, _<_};

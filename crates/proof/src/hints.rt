@@ -1,14 +1,14 @@
 // A hint of a step.
-use crate::Phase;
-use crate::Progress;
-use crate::Refusal;
-use crate::Turn;
-use crate::phases::is_conflicted;
-use crate::phases::is_going;
-use crate::refusals::refused;
 use propagation::Hint;
 use propagation::marks::true_mark;
 use propagation::scans::scan_stored;
+use step::Phase;
+use step::Progress;
+use step::Refusal;
+use step::Turn;
+use step::phases::is_conflicted;
+use step::phases::is_going;
+use step::refusals::refused;
 ghost use mathlib.Core.Path.{_≡_};
 ghost use Prim.Native.Nat.{_+_, _^_, _≤_, _<_};
 ghost use Rattle.proof.specs.Check.{onHint};

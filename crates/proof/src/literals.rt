@@ -1,12 +1,12 @@
 // A literal of a step.
-use crate::Phase;
-use crate::Progress;
-use crate::Refusal;
-use crate::Turn;
-use crate::phases::is_going;
-use crate::phases::is_in_literals;
-use crate::refusals::refused;
 use propagation::marks::false_mark;
+use step::Phase;
+use step::Progress;
+use step::Refusal;
+use step::Turn;
+use step::phases::is_going;
+use step::phases::is_in_literals;
+use step::refusals::refused;
 ghost use mathlib.Core.Path.{_≡_};
 ghost use mathlib.Core.List.{List};
 ghost use Prim.Native.Nat.{ℕ, _+_, _^_, _≤_, _<_};

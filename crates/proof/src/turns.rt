@@ -1,14 +1,14 @@
 // One command of a proof after another.
-use crate::Command;
-use crate::Progress;
-use crate::Refusal;
-use crate::Turn;
 use crate::closes::on_close;
-use crate::commands::read_command;
 use crate::ends::on_end;
 use crate::hints::on_hint;
 use crate::literals::on_literal;
-use crate::refusals::refused;
+use step::Command;
+use step::Progress;
+use step::Refusal;
+use step::Turn;
+use step::commands::read_command;
+use step::refusals::refused;
 ghost use Rattle.proof.specs.Answer.{limitsOf};
 ghost use Rattle.proof.specs.Check.{step};
 ghost use Rattle.proof.specs.Held.{stateOf, Ready, Done};

@@ -33,13 +33,13 @@ use Rattle.netlist.specs.declared.Net.{Net}
 use Rattle.bits.specs.Bits.{Bits}
 use Rattle.adders.specs.Adder.{adder, subtractor, oppBits}
 use Rattle.circuits.specs.Product.{product}
-use Rattle.circuits.specs.Access.{aboveNodes}
+use Rattle.relations.specs.Access.{aboveNodes}
 use Rattle.adders.proofs.Adder.{length-adder}
 use Rattle.circuits.proofs.Product.{product-short}
 use Rattle.bits.proofs.Input.{length-inputs}
 use Rattle.circuits.proofs.Join.{length-join}
-use Rattle.circuits.proofs.Access.{above-short}
-use Rattle.circuits.proofs.Relation.{relation-short}
+use Rattle.relations.proofs.Access.{above-short}
+use Rattle.relations.proofs.Relating.{relation-short}
 use Rattle.wiring.specs.Wires.{bitsIn, bitsOf, arriving}
 use Rattle.wiring.specs.Command.{Stretch, still, access, readInto, simple}
 use Rattle.operands.specs.Operation.{computeNodes, accessNodes, accessArrival, claimNodes}

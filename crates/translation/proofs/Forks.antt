@@ -22,7 +22,7 @@ use Rattle.clauses.specs.Meaning.{Assign, lit}
 use Rattle.netlist.specs.Meaning.{Inputs}
 use Rattle.netlist.proofs.Truth.{Models, models-append}
 use Rattle.bits.proofs.Values.{value}
-use Rattle.circuits.proofs.Relation.{relation-value}
+use Rattle.relations.proofs.Relating.{relation-value}
 use Rattle.wiring.specs.Wires.{bitsOf, arriving, isMade}
 use Rattle.wiring.specs.Command.{Stretch}
 use Rattle.wiring.specs.Branch.{conditionNodes, conditionLit, branchNodes, firstLit, elseLit, joined}

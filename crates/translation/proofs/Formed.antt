@@ -28,15 +28,15 @@ use Rattle.circuits.specs.Product.{product, accBit}
 use Rattle.bits.specs.Extend.{constBit}
 use Rattle.bits.specs.Input.{inputs, inBit}
 use Rattle.circuits.specs.Join.{join, joinBit}
-use Rattle.circuits.specs.Access.{aboveNodes, aboveLit}
+use Rattle.relations.specs.Access.{aboveNodes, aboveLit}
 use Rattle.bits.proofs.Values.{AllBefore}
 use Rattle.adders.proofs.Adder.{length-adder, adder-formed, subtractor-formed, sum-before}
 use Rattle.circuits.proofs.Product.{product-formed, product-before}
 use Rattle.bits.proofs.Extend.{const-before, extend-before}
 use Rattle.bits.proofs.Input.{length-inputs, inputs-formed, input-before}
 use Rattle.circuits.proofs.Join.{join-formed, join-before}
-use Rattle.circuits.proofs.Access.{above-formed, above-before}
-use Rattle.circuits.proofs.Relation.{relation-formed, relation-before}
+use Rattle.relations.proofs.Access.{above-formed, above-before}
+use Rattle.relations.proofs.Relating.{relation-formed, relation-before}
 use Rattle.wiring.specs.Wires.{bitsIn, bitsPut, bitsOf, put, arriving}
 use Rattle.wiring.specs.Command.{Stretch, after, still, access, readInto, simple}
 use Rattle.operands.specs.Operation.{convertBits, computeNodes, computeBits, top, accessNodes, accessArrival, claimNodes, claimLit}

@@ -15,7 +15,7 @@ use Rattle.netlist.specs.Meaning.{Inputs, nodeVal}
 use Rattle.netlist.proofs.Literals.{lit-pos, lit-neg, lit-opp, lit-false}
 use Rattle.netlist.proofs.Truth.{Models, models-append}
 use Rattle.bits.specs.Bits.{Bits}
-use Rattle.circuits.specs.Access.{aboveNodes, aboveLit}
+use Rattle.relations.specs.Access.{aboveNodes, aboveLit}
 use Rattle.operands.specs.Operation.{top, accessNodes, accessArrival}
 use Rattle.wiring.specs.Branch.{armNodes, armLit, branchNodes, firstLit, elseLit, joinNodes, joined}
 use Rattle.wiring.specs.declared.Wires.{Wires}

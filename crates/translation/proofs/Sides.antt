@@ -16,9 +16,9 @@ use Rattle.clauses.specs.Meaning.{Assign, lit}
 use Rattle.netlist.specs.Meaning.{Inputs}
 use Rattle.netlist.proofs.Truth.{Models}
 use Rattle.bits.specs.Bits.{Bits}
-use Rattle.circuits.specs.Access.{aboveNodes, aboveLit}
+use Rattle.relations.specs.Access.{aboveNodes, aboveLit}
 use Rattle.bits.proofs.Values.{not-less, value, value-lt, top-value}
-use Rattle.circuits.proofs.Access.{above-value}
+use Rattle.relations.proofs.Access.{above-value}
 use Rattle.operands.specs.Operation.{top, claimNodes, claimLit}
 use Rattle.machine.specs.Side.{sideOf}
 

@@ -19,11 +19,11 @@ use Rattle.netlist.proofs.Emitting.{emitted-then, ready-after}
 use Rattle.bits.specs.Bits.{litAt, tabulate}
 use Rattle.bits.specs.Extend.{extend}
 use Rattle.bits.proofs.Laws.{extended-table}
-use Rattle.circuits.specs.Relation.{relNodes, relLit}
+use Rattle.relations.specs.Relation.{relNodes, relLit}
 use Rattle.circuits.specs.Join.{join, joinBit}
-use Rattle.circuits.specs.declared.Test.{Test}
+use Rattle.relations.specs.declared.Test.{Test}
 use Rattle.circuits.proofs.Join.{length-join}
-use Rattle.circuits.proofs.Relation.{relation-short}
+use Rattle.relations.proofs.Relating.{relation-short}
 use Rattle.wiring.specs.Wires.{bitsIn}
 use Rattle.wiring.specs.Branch.{conditionNodes, conditionLit, armNodes, armLit, branchNodes, joinNodes, joinLits, joined}
 use Rattle.wiring.specs.Makes.{storing, Makes, Branched, joinedVariables}

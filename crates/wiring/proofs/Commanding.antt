@@ -17,8 +17,8 @@ use Rattle.netlist.proofs.Emitting.{emitted-then}
 use Rattle.bits.specs.Bits.{Bits, litAt, tabulate}
 use Rattle.bits.specs.Input.{inBit, TakesInputs}
 use Rattle.bits.proofs.Laws.{sized-table}
-use Rattle.circuits.specs.Access.{aboveNodes}
-use Rattle.circuits.proofs.Access.{above-short}
+use Rattle.relations.specs.Access.{aboveNodes}
+use Rattle.relations.proofs.Access.{above-short}
 use Rattle.wiring.specs.Wires.{bitsOf, put, arriving, claiming, isMade}
 use Rattle.wiring.specs.Command.{Stretch, after, still, claimed, passed, readInto, simple}
 use Rattle.operands.specs.Operation.{computeNodes, claimNodes, claimLit, accessNodes, accessArrival}

@@ -9,7 +9,7 @@ use Rattle.header.specs.declared.Header.{Header}
 use Rattle.command.specs.declared.Condition.{Condition}
 use Rattle.netlist.specs.Literal.{opp, pos, neg}
 use Rattle.netlist.specs.Node.{Node, and}
-use Rattle.circuits.specs.Relation.{relNodes, relLit}
+use Rattle.relations.specs.Relation.{relNodes, relLit}
 use Rattle.circuits.specs.Join.{join, joinBit}
 use Rattle.wiring.specs.Wires.{bitsIn, bitsPut, bitsOf}
 use Rattle.wiring.specs.Command.{Stretch}

@@ -1,8 +1,8 @@
 use mathlib.Core.Path.{sym, ap, _∙_}
 use lib.ListN.{length}
 use borrow.Author.Tests.{not-true, not-false}
-use Rattle.proof.specs.Undo.{Clean}
-use Rattle.proof.specs.declared.Turn.{Turn}
+use Rattle.step.specs.Undo.{Clean}
+use Rattle.step.specs.declared.Turn.{Turn}
 use Rattle.proof.proofs.Storing.{stands}
 use Rattle.proof.proofs.Closing.{close-over, close-early, full-words, full-starts, did-close}
 use borrow.Author.Needs.{needs}

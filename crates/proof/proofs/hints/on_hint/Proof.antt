@@ -2,7 +2,7 @@ use mathlib.Core.Path.{sym, ap, _∙_}
 use lib.ListN.{length}
 use borrow.Author.Tests.{not-true, not-false}
 use Rattle.propagation.proofs.Standing.{unit-fits}
-use Rattle.proof.specs.declared.Turn.{Turn}
+use Rattle.step.specs.declared.Turn.{Turn}
 use Rattle.proof.proofs.Storing.{stands}
 use Rattle.proof.proofs.Hinting.{hint-over, hint-far, hint-late, did-conflict, did-unit, did-neither}
 use borrow.Author.Needs.{needs}

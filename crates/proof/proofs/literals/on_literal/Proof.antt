@@ -1,6 +1,6 @@
 use mathlib.Core.Path.{sym, ap, _∙_}
 use borrow.Author.Tests.{not-true, not-false}
-use Rattle.proof.specs.declared.Turn.{Turn}
+use Rattle.step.specs.declared.Turn.{Turn}
 use Rattle.proof.proofs.Taking.{literal-over, literal-late, literal-none, literal-high, literal-again, literal-full, did-literal}
 use borrow.Author.Needs.{needs}
 use Rattle.proof.proofs.literals.on_literal.Statement.{statement}

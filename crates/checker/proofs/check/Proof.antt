@@ -1,0 +1,112 @@
+use native.Mathlib.Omega.{arith}
+use Prim.Native.Nat.{_+_}
+use Rattle.propagation.specs.Stored.{clausesOf}
+use Rattle.checker.specs.Checking.{part}
+use Rattle.checker.proofs.Asking.{unsatisfied-unfit, check-unfit, too-long, too-far, too-few, check-over, unsatisfied-over, part-length, part-short}
+use borrow.Author.Needs.{needs}
+use Rattle.checker.proofs.check.Statement.{statement}
+use Rattle.checker.proofs.check.Tie as tie
+
+usable-requires : tie.Need-usable-requires
+usable-requires c κs = search needs
+
+usable-requires-2 : tie.Need-usable-requires-2
+usable-requires-2 c κs = search needs
+
+add-m : tie.Need-add-m
+add-m c = search needs
+
+returns : tie.Need-returns
+returns c =
+    let a = c .before .before .before .before .before .before .before .args in (
+      check-unfit (a .words .now) (a .starts .now) (a .marks .now) (a .report .now) (a .from) (a .clauses) (a .variables)
+          (too-long (a .words .now) (a .starts .now) (a .marks .now) (a .report .now) (a .from) (a .clauses) (a .variables) (c .if1 .taken)),
+      unsatisfied-unfit (clausesOf (part (a .words .now)) (part (a .starts .now)) (a .clauses)),
+    )
+
+returns-2 : tie.Need-returns-2
+returns-2 c =
+    let a = c .before .before .before .before .before .before .before .before .args in (
+      check-unfit (a .words .now) (a .starts .now) (a .marks .now) (a .report .now) (a .from) (a .clauses) (a .variables)
+          (too-far (a .words .now) (a .starts .now) (a .marks .now) (a .report .now) (a .from) (a .clauses) (a .variables) (c .before .if1 .left) (c .if2 .taken)),
+      unsatisfied-unfit (clausesOf (part (a .words .now)) (part (a .starts .now)) (a .clauses)),
+    )
+
+usable-requires-3 : tie.Need-usable-requires-3
+usable-requires-3 c κs = search needs
+
+returns-3 : tie.Need-returns-3
+returns-3 c =
+    let a = c .before .before .before .before .before .before .before .before .before .before .args in (
+      check-unfit (a .words .now) (a .starts .now) (a .marks .now) (a .report .now) (a .from) (a .clauses) (a .variables)
+          (too-few (a .words .now) (a .starts .now) (a .marks .now) (a .report .now) (a .from) (a .clauses) (a .variables) (c .before .before .before .if1 .left) (c .before .before .if2 .left) (omega (arith, c .before .usable3 .ensures, c .if3 .taken))),
+      unsatisfied-unfit (clausesOf (part (a .words .now)) (part (a .starts .now)) (a .clauses)),
+    )
+
+slice-relend-prefix-check-parts : tie.Need-slice-relend-prefix-check-parts
+slice-relend-prefix-check-parts c = search needs
+
+slice-aggregate-check-parts : tie.Need-slice-aggregate-check-parts
+slice-aggregate-check-parts c = part-length (c .before .before .before .before .before .before .before .before .before .before .before .args .words .now) (c .before .before .before .before .before .before .usable .result) (omega (arith, c .before .before .before .before .before .before .usable .ensures))
+
+slice-relend-prefix-check-parts-2 : tie.Need-slice-relend-prefix-check-parts-2
+slice-relend-prefix-check-parts-2 c = search needs
+
+slice-aggregate-check-parts-2 : tie.Need-slice-aggregate-check-parts-2
+slice-aggregate-check-parts-2 c = part-length (c .before .before .before .before .before .before .before .before .before .before .before .before .args .starts .now) (c .before .before .before .before .before .before .usable2 .result) (omega (arith, c .before .before .before .before .before .before .usable2 .ensures))
+
+slice-relend-prefix-check-parts-3 : tie.Need-slice-relend-prefix-check-parts-3
+slice-relend-prefix-check-parts-3 c = search needs
+
+slice-aggregate-check-parts-3 : tie.Need-slice-aggregate-check-parts-3
+slice-aggregate-check-parts-3 c = part-length (c .before .before .before .before .before .before .before .before .before .before .before .before .before .args .marks .now) (c .before .before .before .before .before .before .before .before .before .before .before .before .before .args .variables + 1) (omega (arith, c .before .before .before .before .usable3 .ensures, c .before .before .before .if3 .left))
+
+check-parts-requires : tie.Need-check-parts-requires
+check-parts-requires c κs =
+    let a = c .before .before .before .before .before .before .before .before .before .before .before .before .before .args in (
+      part-short (a .words .now) (c .before .before .before .before .before .before .before .before .usable .result) (c .before .before .before .before .before .before .before .before .usable .ensures),
+      omega (arith, part-length (a .marks .now) (a .variables + 1) (omega (arith, c .before .before .before .before .usable3 .ensures, c .before .before .before .if3 .left))),
+      c .before .before .before .before .before .if2 .left,
+      c .before .before .before .before .before .before .if1 .left,
+    )
+
+same-length : tie.Need-same-length
+same-length c = search needs
+
+same-length-2 : tie.Need-same-length-2
+same-length-2 c = search needs
+
+same-length-3 : tie.Need-same-length-3
+same-length-3 c = search needs
+
+returns-4 : tie.Need-returns-4
+returns-4 c =
+    let a = c .before .before .before .before .before .before .before .before .before .before .before .before .before .before .before .before .before .before .before .before .args in
+    let k = c .before .before .before .before .before .before .check-parts in (
+      check-over (a .words .now) (a .starts .now) (a .marks .now) (a .report .now) (a .from) (a .clauses) (a .variables) (c .before .before .before .before .before .before .before .before .before .before .before .before .before .if1 .left) (c .before .before .before .before .before .before .before .before .before .before .before .before .if2 .left) (omega (arith, c .before .before .before .before .before .before .before .before .before .before .before .usable3 .ensures, c .before .before .before .before .before .before .before .before .before .before .if3 .left))
+          (c .before .before .before .before .before .before .before .before .before .before .before .before .before .before .before .usable .result) (c .before .before .before .before .before .before .before .before .before .before .before .before .before .before .usable2 .result) (c .before .before .before .before .before .before .before .before .before .before .before .before .before .before .before .usable .ensures) (c .before .before .before .before .before .before .before .before .before .before .before .before .before .before .usable2 .ensures) (k .last .1 .1 .1 .0) (k .last .1 .1 .1 .1 .0) (k .last .1 .1 .1 .1 .1 .0) (k .result) (k .ensures .0),
+      unsatisfied-over (a .words .now) (a .starts .now) (a .clauses) (c .before .before .before .before .before .before .before .before .before .before .before .before .before .before .before .usable .result) (c .before .before .before .before .before .before .before .before .before .before .before .before .before .before .usable2 .result) (c .before .before .before .before .before .before .before .before .before .before .before .before .before .before .before .usable .ensures) (c .before .before .before .before .before .before .before .before .before .before .before .before .before .before .usable2 .ensures) (k .result) (k .ensures .1),
+    )
+
+pub check-spec : {M : Type 1} → statement M
+check-spec =
+    tie.close
+    (tie.spec
+    usable-requires
+    usable-requires-2
+    add-m
+    returns
+    returns-2
+    usable-requires-3
+    returns-3
+    slice-relend-prefix-check-parts
+    slice-aggregate-check-parts
+    slice-relend-prefix-check-parts-2
+    slice-aggregate-check-parts-2
+    slice-relend-prefix-check-parts-3
+    slice-aggregate-check-parts-3
+    check-parts-requires
+    same-length
+    same-length-2
+    same-length-3
+    returns-4)

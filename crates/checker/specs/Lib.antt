@@ -1,0 +1,3 @@
+pub mod Fit
+pub mod Checking
+pub mod Parts

@@ -1,0 +1,56 @@
+// A check over the parts of the buffers that are used.
+use crate::Checked;
+use crate::Standing;
+use crate::fits::stand;
+use proof::check_proof;
+use step::Verdict;
+ghost use mathlib.Core.Path.{_≡_};
+ghost use Prim.Native.Nat.{_≤_};
+ghost use lib.ListN.{length, replicate};
+ghost use Rattle.propagation.specs.Stored.{clausesOf};
+ghost use Rattle.checker.specs.Checking.{checkedBy, Unsatisfied};
+ghost use Rattle.checker.specs.Parts.{InParts};
+
+// Every variable is undecided.
+fn undecide(marks: &mut [u8])
+    ensures { λ _. ⌜ now (marks .exit) ≡ replicate (length (now (marks .entry))) 0 ⌝ }
+{
+    let mut i = 0;
+    while i < marks.len() {
+        marks[i] = 0;
+        i += 1;
+    }
+}
+
+fn checked_by(verdict: Verdict) -> Checked
+    ensures { λ r. ⌜ r ≡ checkedBy verdict ⌝ }
+{
+    match verdict {
+        Verdict::Accepted { steps, hints } => Checked::Accepted { steps, hints },
+        Verdict::Refused(refusal) => Checked::Refused(refusal),
+    }
+}
+
+// Looks first whether the clauses stand there; nothing is written where they do not.
+pub fn check_parts(
+    report: &[u8],
+    from: usize,
+    count: usize,
+    words: &mut [u32],
+    starts: &mut [u32],
+    marks: &mut [u8],
+) -> Checked
+    requires { ⌜ (length (now words) ≤ 16777216) × (1 ≤ length (now marks)) × (from ≤ length (now report)) × (length (now report) ≤ 16777216) ⌝ }
+    ensures { λ r. ⌜ InParts (now (words .entry)) (now (starts .entry)) (now (marks .entry)) (now (report .entry)) from count (now (words .exit)) (now (starts .exit)) (now (marks .exit)) r ⌝ }
+    ensures { λ r. ⌜ Unsatisfied (clausesOf (now (words .entry)) (now (starts .entry)) count) r ⌝ }
+{
+    let variables = marks.len() - 1;
+    let found = stand(words, starts, variables, count);
+    match found {
+        Standing::Ends(used) => {
+            undecide(marks);
+            checked_by(check_proof(report, from, count, used, words, starts, marks))
+        }
+        Standing::Nowhere => Checked::Unfit,
+    }
+}

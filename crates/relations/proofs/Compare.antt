@@ -1,0 +1,180 @@
+-- Comparisons: lengths, values at any width, well-formedness, and the turns of their loops.
+use mathlib.Core.Bool.{Bool, _&&_, cond, false, not, true}
+use mathlib.Core.List.{List, _++_}
+use mathlib.Core.Logic.{_⊎_, inl, inr}
+use mathlib.Core.Path.{_∙_, _≡_, ap, ap₂, refl, subst, sym}
+use Prim.Native.Nat.{_%_, _*_, _+_, _-_, _<_, _^_, _≤_, suc, zero, ℕ}
+use native.Mathlib.Decide.{ℕ-discrete}
+use native.Mathlib.Nat.{mod-eq-of-lt, mod-eq-sub-mod, pow-suc}
+use native.Mathlib.Numerals.{add-one}
+use native.Mathlib.Omega.{arith}
+use lib.Dec.{eqb, ltb}
+use lib.ListN.{length, length-append}
+use borrow.Author.Tests.{eq-eqb, le-ltb, lt-ltb, ne-eqb}
+use Rattle.adders.proofs.Adder.{adder-cong, less-value, subtractor-formed}
+use Rattle.bits.proofs.Values.{AllBefore, bit, order, value, value-cong, value-lt}
+use Rattle.adders.specs.Adder.{carryAt, oppBits}
+use Rattle.bits.specs.Bits.{Bits}
+use Rattle.relations.specs.Compare.{equality, flipped, same, sameAt, signedLess}
+use Rattle.netlist.proofs.Emitting.{emitted-then}
+use Rattle.netlist.proofs.Formed.{before-later, before-neg, before-opp, before-pos, formed-append}
+use Rattle.netlist.proofs.Literals.{lit-neg, lit-opp, lit-pos, lit-true}
+use Rattle.netlist.proofs.Model.{Before, WellFormed}
+use Rattle.netlist.proofs.Truth.{Models, models-append}
+use Rattle.netlist.specs.Emit.{Emitted}
+use Rattle.netlist.specs.Literal.{opp}
+use Rattle.clauses.specs.Meaning.{Assign, lit}
+use Rattle.netlist.specs.Meaning.{Inputs, nodeVal, xorB}
+use Rattle.netlist.specs.Node.{Node}
+use Rattle.netlist.specs.declared.Net.{Net}
+
+pub length-equality : (g : ℕ) (a b : Bits) (w : ℕ) → length (equality g a b w) ≡ 2 * w
+unfolding equality
+length-equality g a b zero = refl
+length-equality g a b (suc j) = simp length-append (omega (arith, length-equality g a b j))
+
+-- tests of facts that follow from each other
+eqb-iff : (u v x y : ℕ) → (u ≡ v → x ≡ y) → (x ≡ y → u ≡ v) → eqb u v ≡ eqb x y
+eqb-iff u v x y f g =
+    elim (ℕ-discrete u v) [ yes e ↦ eq-eqb u v e ∙ sym (eq-eqb x y (f e)) | no n ↦ ne-eqb u v n ∙ sym (ne-eqb x y (λ e. n (g e))) ]
+
+&&-true : (b : Bool) → (b && true) ≡ b
+&&-true true = refl
+&&-true false = refl
+
+&&-false : (b : Bool) → (b && false) ≡ false
+&&-false true = refl
+&&-false false = refl
+
+-- one place, at weight p
+place-same : (x y : Bool) (u v p : ℕ) → u < p → v < p → (eqb u v && not (xorB x y)) ≡ eqb (u + bit x * p) (v + bit y * p)
+place-same true true u v p h k = &&-true (eqb u v) ∙ eqb-iff u v (u + 1 * p) (v + 1 * p) (λ e. omega arith) (λ e. omega arith)
+place-same true false u v p h k = &&-false (eqb u v) ∙ sym (ne-eqb (u + 1 * p) (v + 0 * p) (λ e. omega arith))
+place-same false true u v p h k = &&-false (eqb u v) ∙ sym (ne-eqb (u + 0 * p) (v + 1 * p) (λ e. omega arith))
+place-same false false u v p h k = &&-true (eqb u v) ∙ eqb-iff u v (u + 0 * p) (v + 0 * p) (λ e. omega arith) (λ e. omega arith)
+
+-- The last literal says whether the two numbers are equal.
+pub equality-value : (ins : Inputs) (ρ : Assign) (g : ℕ) (a b : Bits) (w : ℕ) → ρ 1 ≡ true → Models ins ρ g (equality g a b w)
+    → lit ρ (sameAt g w) ≡ eqb (value ρ a w) (value ρ b w)
+unfolding equality value nodeVal
+equality-value ins ρ g a b zero t m = lit-true ρ t
+equality-value ins ρ g a b (suc j) t m =
+    let ns = same (g + 2 * j) (a j) (b j) (sameAt g j) in
+    let r = models-append ins ρ g (equality g a b j) ns m in
+    let q : Models ins ρ (g + 2 * j) ns = subst (λ (k : ℕ). Models ins ρ (g + k) ns) (length-equality g a b j) (r .1) in
+    lit-pos ρ _ ∙ ap ρ (add-one _) ∙ q .1 .0
+    ∙ ap₂ (λ (x y : Bool). x && y) (equality-value ins ρ g a b j t (r .0)) (lit-neg ρ _ ∙ ap not (q .0))
+    ∙ place-same (lit ρ (a j)) (lit ρ (b j)) _ _ (2 ^ j) (value-lt ρ a j) (value-lt ρ b j)
+
+-- a number of w bits as its distance from the least signed number
+abbrev pub offset : ℕ → ℕ → ℕ
+offset w x = (x + 2 ^ (w - 1)) % 2 ^ w
+
+pub flipped-below : (m : ℕ) (a : Bits) (j : ℕ) → j < m → flipped m a j ≡ a j
+flipped-below m a j h = rw (ne-eqb j m (λ e. omega arith))
+
+pub flipped-top : (m : ℕ) (a : Bits) → flipped m a m ≡ opp (a m)
+flipped-top m a = rw (eq-eqb m m refl)
+
+top-place : (v p : ℕ) (b : Bool) → v < p → v + bit (not b) * p ≡ (v + bit b * p + p) % (p * 2)
+top-place v p true h = sym (mod-eq-sub-mod (omega arith) ∙ ap (λ (z : ℕ). z % (p * 2)) (omega arith) ∙ mod-eq-of-lt (omega arith))
+top-place v p false h = sym (mod-eq-of-lt (omega arith) ∙ (omega arith))
+
+pub flipped-value : (ρ : Assign) (a : Bits) (m : ℕ) → value ρ (flipped m a) (suc m) ≡ offset (suc m) (value ρ a (suc m))
+unfolding value
+flipped-value ρ a m =
+    let e : suc m - 1 ≡ m = omega arith in
+    ap₂ (λ (x : ℕ) (b : Bool). x + bit b * 2 ^ m) (value-cong ρ (flipped m a) a m (flipped-below m a)) (ap (lit ρ) (flipped-top m a) ∙ lit-opp ρ (a m))
+    ∙ top-place (value ρ a m) (2 ^ m) (lit ρ (a m)) (value-lt ρ a m)
+    ∙ ap₂ (λ (k q : ℕ). (value ρ a m + bit (lit ρ (a m)) * 2 ^ m + 2 ^ k) % q) (sym e) (sym (pow-suc 2 m))
+
+-- a <s b is the opposite of the last carry
+pub signed-value : (ins : Inputs) (ρ : Assign) (g : ℕ) (a b : Bits) (w : ℕ) → 0 < w → ρ 1 ≡ true → Models ins ρ g (signedLess g a b w)
+    → lit ρ (opp (carryAt g 2 w)) ≡ ltb (offset w (value ρ a w)) (offset w (value ρ b w))
+signed-value ins ρ g a b zero z t m = absurd (omega arith)
+signed-value ins ρ g a b (suc k) z t m =
+    let e : suc k - 1 ≡ k = omega arith in
+    less-value ins ρ g (flipped (suc k - 1) a) (flipped (suc k - 1) b) (suc k) t m
+    ∙ ap₂ ltb (ap (λ (i : ℕ). value ρ (flipped i a) (suc k)) e ∙ flipped-value ρ a k) (ap (λ (i : ℕ). value ρ (flipped i b) (suc k)) e ∙ flipped-value ρ b k)
+
+pub offset-low : (h x : ℕ) → x < h → (x + h) % (h * 2) ≡ x + h
+offset-low h x l = mod-eq-of-lt (omega arith)
+
+pub offset-high : (h x : ℕ) → h ≤ x → x < h * 2 → (x + h) % (h * 2) ≡ x - h
+offset-high h x l k =
+    mod-eq-sub-mod (omega arith) ∙ ap (λ (z : ℕ). z % (h * 2)) (omega arith) ∙ mod-eq-of-lt {n = x - h} (omega arith)
+
+pub ltb-iff : (u v x y : ℕ) → (u < v → x < y) → (x < y → u < v) → ltb u v ≡ ltb x y
+ltb-iff u v x y f g = pick (order u v) (order x y)
+  where
+    pick : (u < v) ⊎ (v ≤ u) → (x < y) ⊎ (y ≤ x) → ltb u v ≡ ltb x y
+    pick (inl a) (inl b) = lt-ltb u v a ∙ sym (lt-ltb x y b)
+    pick (inl a) (inr b) = absurd (omega (arith, f a))
+    pick (inr a) (inl b) = absurd (omega (arith, g b))
+    pick (inr a) (inr b) = le-ltb u v a ∙ sym (le-ltb x y b)
+
+half-less : (h x s : ℕ) → x < h * 2 → s < h → ltb ((x + h) % (h * 2)) ((s + h) % (h * 2)) ≡ cond (ltb x h) (ltb x s) true
+half-less h x s k l = pick (order x h)
+  where
+    pick : (x < h) ⊎ (h ≤ x) → ltb ((x + h) % (h * 2)) ((s + h) % (h * 2)) ≡ cond (ltb x h) (ltb x s) true
+    pick (inl a) =
+        rw (lt-ltb x h a, offset-low h x a, offset-low h s l)
+        (ltb-iff (x + h) (s + h) x s (λ q. omega arith) (λ q. omega arith))
+    pick (inr a) = rw (le-ltb x h a, offset-high h x a k, offset-low h s l) (lt-ltb (x - h) (s + h) (omega arith))
+
+-- an index x of w bits is below the size s, as signed numbers: negative, or below as it stands
+pub size-less : (w x s : ℕ) → 0 < w → x < 2 ^ w → s < 2 ^ (w - 1) → ltb (offset w x) (offset w s) ≡ cond (ltb x (2 ^ (w - 1))) (ltb x s) true
+size-less zero x s z k l = absurd (omega arith)
+size-less (suc m) x s z k l =
+    let e : suc m - 1 ≡ m = omega arith in
+    let p : 2 ^ suc m ≡ 2 ^ (suc m - 1) * 2 = pow-suc 2 m ∙ ap (λ (i : ℕ). 2 ^ i * 2) (sym e) in
+    rw p (half-less (2 ^ (suc m - 1)) x s (rw p at k) l)
+
+flipped-before : (g m : ℕ) (a : Bits) (w : ℕ) → AllBefore g a w → AllBefore g (flipped m a) w
+flipped-before g m a w h j l = pick (eqb j m)
+  where
+    pick : (t : Bool) → Before g (cond t (opp (a j)) (a j))
+    pick true = before-opp (h j l)
+    pick false = h j l
+
+pub signed-formed : (g : ℕ) (a b : Bits) (w : ℕ) → 1 < g → AllBefore g a w → AllBefore g b w → WellFormed g (signedLess g a b w)
+signed-formed g a b w z ha hb =
+    subtractor-formed g (flipped (w - 1) a) (flipped (w - 1) b) w z (flipped-before g (w - 1) a w ha) (flipped-before g (w - 1) b w hb)
+
+pub same-before : (g j : ℕ) → 1 < g → Before (g + 2 * j) (sameAt g j)
+same-before g zero z = before-pos _ 1 (omega arith) (omega arith)
+same-before g (suc j) z = before-pos _ _ (omega arith) (omega arith)
+
+pub equality-formed : (g : ℕ) (a b : Bits) (w : ℕ) → 1 < g → AllBefore g a w → AllBefore g b w → WellFormed g (equality g a b w)
+unfolding equality
+equality-formed g a b zero z ha hb = tt
+equality-formed g a b (suc j) z ha hb =
+    let h : ℕ = g + 2 * j in
+    formed-append g (equality g a b j) (same h (a j) (b j) (sameAt g j))
+    (equality-formed g a b j z (λ i l. ha i (omega arith)) (λ i l. hb i (omega arith)))
+    (subst (λ (i : ℕ). WellFormed (g + i) (same h (a j) (b j) (sameAt g j))) (sym (length-equality g a b j)) (
+      (before-later h (omega arith) (ha j (omega arith)), before-later h (omega arith) (hb j (omega arith))),
+      ((before-later (suc h) (omega arith) (same-before g j z), before-neg (suc h) h (omega arith) (omega arith)), tt),
+    ))
+
+module _ {w t w₁ t₁ w₂ t₂ : List ℕ} {n n₁ n₂ : Net} (a b : Bits) (j k : ℕ)
+    (p : Emitted w t n (equality (n .next) a b j) w₁ t₁ n₁) (e : k ≡ sameAt (n .next) j)
+    (q : Emitted w₁ t₁ n₁ (same (n₁ .next) (a j) (b j) k) w₂ t₂ n₂) where
+  at-place : n₁ .next ≡ n .next + 2 * j
+  at-place = p .next ∙ ap (λ (i : ℕ). n .next + i) (length-equality (n .next) a b j)
+
+  pub equality-turn : Emitted w t n (equality (n .next) a b (j + 1)) w₂ t₂ n₂
+  unfolding equality
+  equality-turn =
+      rw (add-one j)
+      (subst (λ (ns : List Node). Emitted w t n (equality (n .next) a b j ++ ns) w₂ t₂ n₂)
+      (λ i. same (at-place i) (a j) (b j) (e i))
+      (emitted-then p q))
+
+  pub same-turn : 2 * (n₂ .next - 1) ≡ sameAt (n .next) (j + 1)
+  same-turn = rw (add-one j) (omega (arith, at-place, q .next))
+
+pub signed-cong : (g : ℕ) (a b b′ : Bits) (w : ℕ) → ((j : ℕ) → j < w → b j ≡ b′ j) → signedLess g a b w ≡ signedLess g a b′ w
+signed-cong g a b b′ w h =
+    adder-cong g (flipped (w - 1) a) (oppBits (flipped (w - 1) b)) (flipped (w - 1) a) (oppBits (flipped (w - 1) b′)) 2 w (λ j l. refl)
+    (λ j l. ap (λ (z : ℕ). opp (cond (eqb j (w - 1)) (opp z) z)) (h j l))

@@ -1,0 +1,94 @@
+use mathlib.Core.Path.{sym, _∙_}
+use Rattle.step.specs.Command.{commandAt}
+use Rattle.step.proofs.Cleaning.{undo-literal, undo-hint, undo-far, undo-close, undo-end, undo-unreadable}
+use borrow.Author.Needs.{needs}
+use Rattle.step.proofs.undoing.clear_command.Statement.{statement}
+use Rattle.step.proofs.undoing.clear_command.Tie as tie
+
+read-command-requires : tie.Need-read-command-requires
+read-command-requires c κs = search needs
+
+enum-known-command : tie.Need-enum-known-command
+enum-known-command c = search needs
+
+clear-literal-requires : tie.Need-clear-literal-requires
+clear-literal-requires c κs = search needs
+
+enum-known-command-2 : tie.Need-enum-known-command-2
+enum-known-command-2 c = search needs
+
+cast-i : tie.Need-cast-i
+cast-i c = search needs
+
+clear-stored-requires : tie.Need-clear-stored-requires
+clear-stored-requires c κs = c .before .before .before .before .before .before .before .before .before .before .pre (c .before .before .before .command2 .given .0 .0) (c .before .if1 .taken)
+
+enum-told : tie.Need-enum-told
+enum-told c = search needs
+
+enum-told-2 : tie.Need-enum-told-2
+enum-told-2 c = search needs
+
+enum-told-3 : tie.Need-enum-told-3
+enum-told-3 c = search needs
+
+same-length : tie.Need-same-length
+same-length c = search needs
+
+returns : tie.Need-returns
+returns c =
+    let a = c .before .before .before .before .before .before .before .before .before .before .before .before .args in
+    undo-literal (a .words .now) (a .starts .now) (a .marks .now) (c .before .before .clear-literal .last .0) (a .count) (commandAt (a .report .now) (a .at)) (c .before .before .before .before .before .command .given .0 .0)
+    (sym (c .before .before .before .before .before .before .before .read-command .ensures) ∙ c .before .before .before .before .before .command .given .1) (c .before .before .clear-literal .ensures)
+
+same-length-2 : tie.Need-same-length-2
+same-length-2 c = search needs
+
+returns-2 : tie.Need-returns-2
+returns-2 c =
+    let a = c .before .before .before .before .before .before .before .before .before .before .before .before .before .args in
+    undo-hint (a .words .now) (a .starts .now) (a .marks .now) (c .before .before .clear-stored .last .1 .1 .0) (a .count) (commandAt (a .report .now) (a .at)) (c .before .before .before .before .before .before .command2 .given .0 .0)
+    (sym (c .before .before .before .before .before .before .before .before .read-command .ensures) ∙ c .before .before .before .before .before .before .command2 .given .1) (c .before .before .before .before .if1 .taken) (c .before .before .clear-stored .ensures)
+
+returns-3 : tie.Need-returns-3
+returns-3 c =
+    let a = c .before .before .before .before .before .before .before .before .before .args in
+    undo-far (a .words .now) (a .starts .now) (a .marks .now) (a .marks .now) (a .count) (commandAt (a .report .now) (a .at)) (c .before .before .command2 .given .0 .0)
+    (sym (c .before .before .before .before .read-command .ensures) ∙ c .before .before .command2 .given .1) (c .if1 .left)
+
+returns-4 : tie.Need-returns-4
+returns-4 c =
+    let a = c .before .before .before .before .before .before .before .args in
+    undo-close (a .words .now) (a .starts .now) (a .marks .now) (a .marks .now) (a .count) (commandAt (a .report .now) (a .at)) (sym (c .before .before .read-command .ensures) ∙ c .enum-told .given .1)
+
+returns-5 : tie.Need-returns-5
+returns-5 c =
+    let a = c .before .before .before .before .before .before .before .args in
+    undo-end (a .words .now) (a .starts .now) (a .marks .now) (a .marks .now) (a .count) (commandAt (a .report .now) (a .at)) (sym (c .before .before .read-command .ensures) ∙ c .enum-told2 .given .1)
+
+returns-6 : tie.Need-returns-6
+returns-6 c =
+    let a = c .before .before .before .before .before .before .before .args in
+    undo-unreadable (a .words .now) (a .starts .now) (a .marks .now) (a .marks .now) (a .count) (commandAt (a .report .now) (a .at)) (sym (c .before .before .read-command .ensures) ∙ c .enum-told3 .given .1)
+
+pub clear-command-spec : {M : Type 1} → statement M
+clear-command-spec =
+    tie.close
+    (tie.spec
+    read-command-requires
+    enum-known-command
+    clear-literal-requires
+    enum-known-command-2
+    cast-i
+    clear-stored-requires
+    enum-told
+    enum-told-2
+    enum-told-3
+    same-length
+    returns
+    same-length-2
+    returns-2
+    returns-3
+    returns-4
+    returns-5
+    returns-6)

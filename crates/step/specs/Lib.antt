@@ -1,0 +1,4 @@
+pub mod Refusal
+pub mod Command
+pub mod Phase
+pub mod Undo

@@ -1,0 +1,30 @@
+// The commands of a proof in the report.
+use crate::Command;
+use slices::byte_at;
+use slices::word_at;
+ghost use mathlib.Core.Path.{_≡_};
+ghost use Rattle.step.specs.Command.{commandAt};
+
+// The command at an offset.
+pub fn read_command(report: &[u8], at: usize) -> Command
+    ensures { λ r. ⌜ r ≡ commandAt (now (report .entry)) at ⌝ }
+{
+    if report.len() <= at {
+        return Command::Unreadable;
+    }
+    let kind = byte_at(report, at);
+    if kind == 0 {
+        return Command::End;
+    }
+    if kind == 3 {
+        return Command::Close;
+    }
+    if report.len() - at < 5 {
+        return Command::Unreadable;
+    }
+    match kind {
+        1 => Command::Literal(word_at(report, at + 1)),
+        2 => Command::Hint(word_at(report, at + 1)),
+        _ => Command::Unreadable,
+    }
+}
