@@ -3,24 +3,14 @@ use crate::Checked;
 use crate::Standing;
 use crate::fits::stand;
 use proof::check_proof;
+use slices::zero_bytes;
 use step::Verdict;
 ghost use mathlib.Core.Path.{_≡_};
 ghost use Prim.Native.Nat.{_≤_};
-ghost use lib.ListN.{length, replicate};
+ghost use lib.ListN.{length};
 ghost use Rattle.propagation.specs.Stored.{clausesOf};
 ghost use Rattle.checker.specs.Checking.{checkedBy, Unsatisfied};
 ghost use Rattle.checker.specs.Parts.{InParts};
-
-// Every variable is undecided.
-fn undecide(marks: &mut [u8])
-    ensures { λ _. ⌜ now (marks .exit) ≡ replicate (length (now (marks .entry))) 0 ⌝ }
-{
-    let mut i = 0;
-    while i < marks.len() {
-        marks[i] = 0;
-        i += 1;
-    }
-}
 
 fn checked_by(verdict: Verdict) -> Checked
     ensures { λ r. ⌜ r ≡ checkedBy verdict ⌝ }
@@ -48,7 +38,7 @@ pub fn check_parts(
     let found = stand(words, starts, variables, count);
     match found {
         Standing::Ends(used) => {
-            undecide(marks);
+            zero_bytes(marks);
             checked_by(check_proof(report, from, count, used, words, starts, marks))
         }
         Standing::Nowhere => Checked::Unfit,

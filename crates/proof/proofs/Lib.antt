@@ -15,4 +15,3 @@ mod Going
 mod Turning
 mod Running
 pub mod Laying
-pub mod Zeroing

@@ -18,7 +18,7 @@ use Rattle.proof.specs.Check.{fresh}
 use Rattle.proof.specs.Answer.{Store}
 use Rattle.proof.specs.Held.{Held, literalsOf}
 use Rattle.step.specs.declared.Progress.{Progress}
-use Rattle.proof.proofs.Zeroing.{getD-zeros}
+use Rattle.slices.proofs.Zeroing.{getD-zeros}
 
 -- a part that ends before the place of a store
 slice-set : (w : List ℕ) (f t j x : ℕ) → t ≤ j → slice f t (set w j x) ≡ slice f t w

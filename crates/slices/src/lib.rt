@@ -1,6 +1,7 @@
-// Lent slices: reading them, and how much of one is used. A read past the end gives 0, so that no caller has to test before it reads.
+// Lent slices: reading them, how much of one is used, and zeroing them. A read past the end gives 0, so that no caller has to test before it reads.
 ghost use mathlib.Core.Path.{_≡_};
 ghost use Prim.Native.Nat.{min};
+ghost use lib.ListN.{length, replicate};
 ghost use Rattle.slices.specs.Bytes.{entry, half, word};
 
 // The byte at i.
@@ -51,4 +52,26 @@ pub fn usable(len: usize) -> usize
     ensures { λ r. ⌜ r ≡ min len 16777216 ⌝ }
 {
     if len < 16777216 { len } else { 16777216 }
+}
+
+// Every entry becomes 0.
+pub fn zero_words(words: &mut [u32])
+    ensures { λ _. ⌜ now (words .exit) ≡ replicate (length (now (words .entry))) 0 ⌝ }
+{
+    let mut i = 0;
+    while i < words.len() {
+        words[i] = 0;
+        i += 1;
+    }
+}
+
+// Every byte becomes 0.
+pub fn zero_bytes(bytes: &mut [u8])
+    ensures { λ _. ⌜ now (bytes .exit) ≡ replicate (length (now (bytes .entry))) 0 ⌝ }
+{
+    let mut at = 0;
+    while at < bytes.len() {
+        bytes[at] = 0;
+        at += 1;
+    }
 }

@@ -14,15 +14,15 @@ stand-requires c κs = search needs
 enum-known-found : tie.Need-enum-known-found
 enum-known-found c = search needs
 
-undecide-requires : tie.Need-undecide-requires
-undecide-requires c κs = search needs
+zero-bytes-requires : tie.Need-zero-bytes-requires
+zero-bytes-requires c κs = search needs
 
 check-proof-requires : tie.Need-check-proof-requires
 check-proof-requires c κs =
     let a = c .before .before .before .before .before .before .before .before .before .before .before .before .before .before .before .before .before .args in
     let z = c .before .before .before .before .before .before .before .before .before .before .before .before .before .before .before .before .before .pre in
-    parts-begin (a .words .now) (a .starts .now) (a .marks .now) (a .report .now) (a .from) (a .count) (c .before .before .before .before .before .before .before .before .found .given .0 .0) (c .before .before .before .before .before .undecide .last .0) (z .0) (z .1) (z .2) (z .3)
-    (sym (c .before .before .before .before .before .before .before .before .before .before .stand .ensures) ∙ c .before .before .before .before .before .before .before .before .found .given .1) (c .before .before .before .before .before .undecide .ensures)
+    parts-begin (a .words .now) (a .starts .now) (a .marks .now) (a .report .now) (a .from) (a .count) (c .before .before .before .before .before .before .before .before .found .given .0 .0) (c .before .before .before .before .before .zero-bytes .last .0) (z .0) (z .1) (z .2) (z .3)
+    (sym (c .before .before .before .before .before .before .before .before .before .before .stand .ensures) ∙ c .before .before .before .before .before .before .before .before .found .given .1) (c .before .before .before .before .before .zero-bytes .ensures)
 
 checked-by-requires : tie.Need-checked-by-requires
 checked-by-requires c κs = search needs
@@ -43,8 +43,8 @@ returns : tie.Need-returns
 returns c =
     let a = c .before .before .before .before .before .before .before .before .before .before .before .before .before .before .before .before .before .before .before .before .before .before .before .before .before .args in
     let k = c .before .before .before .before .before .before .before .check-proof in (
-      parts-checked (a .words .now) (a .starts .now) (a .marks .now) (a .report .now) (a .from) (a .count) (c .before .before .before .before .before .before .before .before .before .before .before .before .before .before .before .before .found .given .0 .0) (c .before .before .before .before .before .before .before .before .before .before .before .before .before .undecide .last .0) (k .last .1 .1 .1 .1 .0) (k .last .1 .1 .1 .1 .1 .0) (k .last .1 .1 .1 .1 .1 .1 .0) (k .result) (c .checked-by .result)
-          (sym (c .before .before .before .before .before .before .before .before .before .before .before .before .before .before .before .before .before .before .stand .ensures) ∙ c .before .before .before .before .before .before .before .before .before .before .before .before .before .before .before .before .found .given .1) (c .before .before .before .before .before .before .before .before .before .before .before .before .before .undecide .ensures) (k .ensures .0) (c .checked-by .ensures),
+      parts-checked (a .words .now) (a .starts .now) (a .marks .now) (a .report .now) (a .from) (a .count) (c .before .before .before .before .before .before .before .before .before .before .before .before .before .before .before .before .found .given .0 .0) (c .before .before .before .before .before .before .before .before .before .before .before .before .before .zero-bytes .last .0) (k .last .1 .1 .1 .1 .0) (k .last .1 .1 .1 .1 .1 .0) (k .last .1 .1 .1 .1 .1 .1 .0) (k .result) (c .checked-by .result)
+          (sym (c .before .before .before .before .before .before .before .before .before .before .before .before .before .before .before .before .before .before .stand .ensures) ∙ c .before .before .before .before .before .before .before .before .before .before .before .before .before .before .before .before .found .given .1) (c .before .before .before .before .before .before .before .before .before .before .before .before .before .zero-bytes .ensures) (k .ensures .0) (c .checked-by .ensures),
       unsatisfied-by (clausesOf (a .words .now) (a .starts .now) (a .count)) (k .result) (c .checked-by .result) (k .ensures .1) (c .checked-by .ensures),
     )
 
@@ -68,7 +68,7 @@ check-parts-spec =
     sub-variables
     stand-requires
     enum-known-found
-    undecide-requires
+    zero-bytes-requires
     check-proof-requires
     checked-by-requires
     enum-told
