@@ -7,24 +7,16 @@ use native.Mathlib.Omega.{arith}
 use native.Mathlib.Numerals.{add-one}
 use native.Mathlib.Nat.{add-zero, zero-add}
 use lib.ListN.{length, set, replicate, length-append, length-replicate}
-use lib.Seq.{slice, slice-cons, slice-empty, length-slice, sets, set-getD}
+use lib.Seq.{slice, length-slice, sets, set-getD}
 use Rattle.slices.specs.Bytes.{entry}
 use Rattle.clauses.specs.Clause.{Clause, flatten, offsets}
-use Rattle.clauses.proofs.Appending.{sets-append}
+use Rattle.clauses.proofs.Appending.{sets-append, sets-self}
 use Rattle.propagation.specs.Stored.{startOf, endOf, clauseAt, clausesOf, Stands}
 use Rattle.propagation.proofs.Cases.{both, from-or}
 use Rattle.proof.specs.Answer.{Begins}
 use Rattle.checker.specs.Fit.{endAt, clauseFits, standing}
 use Rattle.checker.specs.declared.Standing.{Standing}
 use Rattle.checker.proofs.Fitting.{Fits, clause-fits, fit-in}
-
--- a part that is written over itself
-sets-self : (w : List ℕ) (d f t : ℕ) → f + d ≡ t → t ≤ length w → sets w f (slice f t w) ≡ w
-sets-self w zero f t e k = let q : f ≡ t = omega arith in rw (q, slice-empty t w) refl
-sets-self w (suc d) f t e k =
-    ap (sets w f) (slice-cons f t w 0 (omega arith) k)
-    ∙ ap (λ (x : List ℕ). sets x (suc f) (slice (suc f) t w)) (set-getD w f 0)
-    ∙ sets-self w d (suc f) t (omega arith) k
 
 -- the clauses from number i on, the first first
 unfoldable clausesFrom : (w s : List ℕ) → (n i : ℕ) → List Clause

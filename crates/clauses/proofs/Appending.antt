@@ -1,17 +1,60 @@
--- Appending clauses, one list after another.
+-- Runs of stores, and appending clauses, one list after another.
 use mathlib.Core.List.{List, [], _++_, _∷_, append-assoc, append-nil}
 use mathlib.Core.Path.{_∙_, _≡_, ap, ap₂, refl, sym}
-use Prim.Native.Nat.{_+_, _≤_, suc, ℕ}
-use native.Mathlib.Nat.{add-suc, add-zero, suc-add}
+use mathlib.Core.Bool.{Bool, true, false}
+use Prim.Native.Nat.{_+_, _<_, _≤_, suc, zero, ℕ}
+use native.Mathlib.Nat.{add-suc, add-zero, suc-add, zero-add}
 use native.Mathlib.Omega.{arith}
-use lib.ListN.{length, length-append, set}
-use lib.Seq.{length-sets, sets}
+use lib.ListN.{drop, length, length-append, length-take, set, take}
+use lib.Seq.{drop-at, length-sets, set-comm, set-getD, set-out, sets, sets-eq, slice, slice-cons, slice-empty, take-set-le, take-set-lt}
+use lib.Dec.{ltb}
+use borrow.Author.Tests.{ltb-false, ltb-true}
 use Rattle.clauses.specs.Clause.{Appended, Clause, Room, flatten, offsets}
 use Rattle.clauses.specs.declared.Store.{Store}
 
+-- ---- runs of stores
+
+-- one run after another
 pub sets-append : (l : List ℕ) (i : ℕ) (a b : List ℕ) → sets (sets l i a) (i + length a) b ≡ sets l i (a ++ b)
 sets-append l i [] b = rw add-zero
 sets-append l i (x ∷ a) b = rw (add-suc, ← suc-add) (sets-append (set l i x) (suc i) a b)
+
+-- a store before a run of stores
+pub set-sets : (l : List ℕ) (i : ℕ) (vs : List ℕ) (j x : ℕ) → j < i → set (sets l i vs) j x ≡ sets (set l j x) i vs
+set-sets l i [] j x h = refl
+set-sets l i (v ∷ vs) j x h =
+    set-sets (set l i v) (suc i) vs j x (omega arith) ∙ ap (λ (z : List ℕ). sets z (suc i) vs) (set-comm l i j v x (λ q. omega arith))
+
+-- a list that was written over the beginning
+pub sets-front : (l vs : List ℕ) → length vs ≤ length l → sets l 0 vs ≡ vs ++ drop (length vs) l
+sets-front l vs h = sets-eq vs l 0 (rw zero-add h) ∙ ap (λ (k : ℕ). vs ++ drop k l) (zero-add (length vs))
+
+-- and once more
+pub sets-twice : (l vs : List ℕ) → length vs ≤ length l → sets (sets l 0 vs) 0 vs ≡ sets l 0 vs
+sets-twice l vs h =
+    sets-front (sets l 0 vs) vs (rw length-sets h)
+    ∙ ap (λ (x : List ℕ). vs ++ drop (length vs) x) (sets-front l vs h)
+    ∙ ap (λ (x : List ℕ). vs ++ x) (drop-at vs (drop (length vs) l) (length vs) refl)
+    ∙ sym (sets-front l vs h)
+
+-- a part that is written over itself
+pub sets-self : (w : List ℕ) (d f t : ℕ) → f + d ≡ t → t ≤ length w → sets w f (slice f t w) ≡ w
+sets-self w zero f t e k = let q : f ≡ t = omega arith in rw (q, slice-empty t w) refl
+sets-self w (suc d) f t e k =
+    ap (sets w f) (slice-cons f t w 0 (omega arith) k)
+    ∙ ap (λ (x : List ℕ). sets x (suc f) (slice (suc f) t w)) (set-getD w f 0)
+    ∙ sets-self w d (suc f) t (omega arith) k
+
+-- what is written into a buffer is written into the first entries of it that are lent
+pub take-sets : (k : ℕ) (l : List ℕ) (i : ℕ) (vs : List ℕ) → take k (sets l i vs) ≡ sets (take k l) i vs
+take-sets k l i [] = refl
+take-sets k l i (v ∷ vs) = take-sets k (set l i v) (suc i) vs ∙ ap (λ (x : List ℕ). sets x (suc i) vs) (one (ltb i k) refl)
+  where
+    one : (b : Bool) → ltb i k ≡ b → take k (set l i v) ≡ set (take k l) i v
+    one true e = take-set-lt k l i v (ltb-true i k e)
+    one false e = let h = ltb-false i k e in take-set-le k l i v h ∙ sym (set-out (take k l) i v (omega (arith, length-take k l)))
+
+-- ---- clauses
 
 pub flatten-append : (a b : List Clause) → flatten (a ++ b) ≡ flatten a ++ flatten b
 flatten-append [] b = refl

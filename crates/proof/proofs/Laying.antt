@@ -1,47 +1,20 @@
 -- Clauses that were written into two buffers, one after another from the beginning, are what `check_proof` asks for. Assumes nothing.
 use Prim.Native.Nat.{ℕ, zero, suc, _+_, _-_, _/_, _≤_, _<_}
-use mathlib.Core.Path.{_≡_, refl, sym, ap, _∙_}
+use mathlib.Core.Path.{_≡_, sym, ap, _∙_}
 use mathlib.Core.List.{List, [], _∷_, _++_, append-assoc}
-use mathlib.Core.Logic.{inl, inr}
 use native.Mathlib.Omega.{arith}
 use native.Mathlib.Nat.{add-zero, zero-add}
-use lib.ListN.{length, getD, set, take, drop, length-take, replicate, length-append, List·getD-append}
-use lib.Seq.{set-out, take-set-lt, take-set-le, slice, sets, sets-eq, length-sets, take-at, drop-at, getD-append-seam, getD-drop, getD-take, ext-getD}
-use lib.Dec.{ltb}
-use borrow.Author.Tests.{ltb-true, ltb-false}
+use lib.ListN.{length, getD, take, drop, replicate, length-append, List·getD-append}
+use lib.Seq.{slice, sets, length-sets, take-at, drop-at, getD-append-seam, getD-drop, getD-take, ext-getD}
 use Rattle.clauses.specs.Clause.{Clause, flatten, offsets}
-use Rattle.clauses.proofs.Appending.{length-offsets}
+use Rattle.clauses.proofs.Appending.{sets-front, sets-twice, length-offsets}
 use Rattle.propagation.specs.Stored.{LiteralsIn, startOf, endOf, clauseAt, clausesOf}
-use Rattle.propagation.proofs.Cases.{both}
 use Rattle.propagation.proofs.Standing.{clauses-length, clauses-at}
 use Rattle.proof.specs.Answer.{Store, Begins}
 
 -- literals of variables that have a mark
 abbrev pub Proper : ℕ → List Clause → Type 0
 Proper marks cs = (i j : ℕ) → i < length cs → j < length (getD cs i []) → (2 ≤ getD (getD cs i []) j 0) × (getD (getD cs i []) j 0 / 2 < marks)
-
--- a list that was written over the beginning
-sets-front : (l vs : List ℕ) → length vs ≤ length l → sets l 0 vs ≡ vs ++ drop (length vs) l
-sets-front l vs h = sets-eq vs l 0 (rw zero-add h) ∙ ap (λ (k : ℕ). vs ++ drop k l) (zero-add (length vs))
-
--- and once more
-sets-twice : (l vs : List ℕ) → length vs ≤ length l → sets (sets l 0 vs) 0 vs ≡ sets l 0 vs
-sets-twice l vs h =
-    sets-front (sets l 0 vs) vs (rw length-sets h)
-    ∙ ap (λ (x : List ℕ). vs ++ drop (length vs) x) (sets-front l vs h)
-    ∙ ap (λ (x : List ℕ). vs ++ x) (drop-at vs (drop (length vs) l) (length vs) refl)
-    ∙ sym (sets-front l vs h)
-
--- what is written into a buffer is written into the first entries of it that are lent
-pub take-sets : (k : ℕ) (l : List ℕ) (i : ℕ) (vs : List ℕ) → take k (sets l i vs) ≡ sets (take k l) i vs
-take-sets k l i [] = refl
-take-sets k l i (v ∷ vs) = take-sets k (set l i v) (suc i) vs ∙ ap (λ (x : List ℕ). sets x (suc i) vs) one
-  where
-    one : take k (set l i v) ≡ set (take k l) i v
-    one = elim (both (ltb i k)) [
-      | inl e ↦ take-set-lt k l i v (ltb-true i k e)
-      | inr e ↦ let h = ltb-false i k e in take-set-le k l i v h ∙ sym (set-out (take k l) i v (omega (arith, length-take k l)))
-    ]
 
 -- a clause that stands after a list p of words
 first-count : (p c q : List ℕ) → getD (p ++ ((length c ∷ c) ++ q)) (length p) 0 ≡ length c

@@ -1,20 +1,14 @@
 -- What a literal and a close write. Assumes nothing.
-use Prim.Native.Nat.{ℕ, suc, _+_, _<_}
-use mathlib.Core.Path.{_≡_, refl, sym, ap, _∙_}
+use Prim.Native.Nat.{ℕ, _+_}
+use mathlib.Core.Path.{_≡_, sym, ap, _∙_}
 use mathlib.Core.List.{List, [], _∷_, _++_, append-nil}
 use native.Mathlib.Omega.{arith}
 use native.Mathlib.Numerals.{add-one}
 use native.Mathlib.Nat.{zero-add}
 use lib.ListN.{length, set}
-use lib.Seq.{sets, set-comm}
+use lib.Seq.{sets}
 use Rattle.clauses.specs.Clause.{Clause, flatten, offsets}
-use Rattle.clauses.proofs.Appending.{sets-append, flatten-append, offsets-append, length-offsets}
-
--- a store before a run of stores
-set-sets : (l : List ℕ) (i : ℕ) (vs : List ℕ) (j x : ℕ) → j < i → set (sets l i vs) j x ≡ sets (set l j x) i vs
-set-sets l i [] j x h = refl
-set-sets l i (v ∷ vs) j x h =
-    set-sets (set l i v) (suc i) vs j x (omega arith) ∙ ap (λ (z : List ℕ). sets z (suc i) vs) (set-comm l i j v x (λ q. omega arith))
+use Rattle.clauses.proofs.Appending.{set-sets, sets-append, flatten-append, offsets-append, length-offsets}
 
 -- one literal more
 pub words-literal : (w₀ w : List ℕ) (cs : List Clause) (c : Clause) (l to : ℕ) → w ≡ sets (sets w₀ 0 (flatten cs)) (length (flatten cs) + 1) c
