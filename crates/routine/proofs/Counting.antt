@@ -1,9 +1,11 @@
--- An accepted routine has at most 32 ifs. Assumes nothing.
+-- An accepted routine has at most 32 ifs and at most 64 accesses. Assumes nothing.
 use mathlib.Core.Path.{_≡_, refl}
 use mathlib.Core.List.{List}
+use mathlib.Core.Bool.{false}
 use Prim.Native.Nat.{ℕ, _≤_}
 use native.Mathlib.Omega.{arith}
-use Rattle.command.specs.Step.{after}
+use borrow.Author.Tests.{leb-false}
+use Rattle.command.specs.Step.{accesses, tooMany, after}
 use Rattle.routine.specs.Routine.{Arm}
 use Rattle.routine.specs.Decode.{routine, decode}
 use Rattle.routine.specs.Stands.{Stands}
@@ -31,3 +33,23 @@ few-ifs-after bs h =
 
 pub few-ifs : (bs : List ℕ) (h : Header) (a : Arm) (k : Counts) → decode bs ≡ routine h a k → k .ifs ≤ 32
 few-ifs bs h a k e = few-ifs-after bs h a 0 0 _ _ _ k (decoded bs h a k e .stands) (omega arith)
+
+-- a command that is not the 65th access
+few-next : (c : Simple) (k : Counts) → tooMany c k ≡ false → accesses k ≤ 64 → accesses (after c k) ≤ 64
+unfolding tooMany
+few-next (Simple.Set d x) k e l = l
+few-next (Simple.Convert op d s) k e l = l
+few-next (Simple.Compute op d s t) k e l = l
+few-next (Simple.Read d a i) k e l = omega (arith, leb-false 64 (accesses k) e)
+few-next (Simple.Write a i s) k e l = omega (arith, leb-false 64 (accesses k) e)
+
+few-accesses-after : (bs : List ℕ) (h : Header) (a : Arm) (depth close at : ℕ) (k : Counts) (end : ℕ) (k₁ : Counts) → Stands bs h depth close at k a end k₁
+    → accesses k ≤ 64 → accesses k₁ ≤ 64
+few-accesses-after bs h =
+    induction bs h (λ depth close at k a end k₁. accesses k ≤ 64 → accesses k₁ ≤ 64)
+    (λ depth close at k mark e l f. f)
+    (λ depth close at k c rest end k₁ v go f. go (few-next c k (v .few) f))
+    (λ depth close at k c first second rest end k₁ v go₁ go₂ go₃ f. go₃ (go₂ (go₁ f)))
+
+pub few-accesses : (bs : List ℕ) (h : Header) (a : Arm) (k : Counts) → decode bs ≡ routine h a k → accesses k ≤ 64
+few-accesses bs h a k e = few-accesses-after bs h a 0 0 _ _ _ k (decoded bs h a k e .stands) (omega arith)

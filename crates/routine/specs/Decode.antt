@@ -54,3 +54,8 @@ pub record IsRoutine (bs : List ℕ) (h : Header) : Type 0 where
   pub commands : Arm
   pub counts : Counts
   pub decodes : decode bs ≡ routine h commands counts
+
+-- the bytes are a routine with this header and these counts
+pub record Counted (bs : List ℕ) (h : Header) (k : Counts) : Type 0 where
+  pub commands : Arm
+  pub decodes : decode bs ≡ routine h commands k
