@@ -3,3 +3,4 @@ mod Lists
 mod Running
 mod Admitting
 mod Bench
+pub mod Outside

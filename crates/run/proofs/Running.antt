@@ -7,7 +7,7 @@ use native.Mathlib.Omega.{arith}
 use lib.ListN.{length}
 use Rattle.command.specs.Command.{sizeOfSimple, commandAt}
 use Rattle.header.specs.Header.{firstCommand}
-use Rattle.command.specs.Step.{after, oneIf}
+use Rattle.command.specs.Step.{after, oneIf, accesses}
 use Rattle.routine.specs.Routine.{Arm}
 use Rattle.routine.specs.Decode.{noCounts, IsRoutine}
 use Rattle.routine.specs.Stands.{Stands, SomeArm, SomeIf}
@@ -134,12 +134,12 @@ module _ (bs ins : List ℕ) (h : Header) (depth close : ℕ) where
         forkStretch : Counts → (first second : Arm) → Stretch
         forkStretch k₁ first second =
             cond (holds bs c s)
-            (run.after (run.took (k₁ .ifs) 0 ∷ []) (runArm bs ins h first (take s (k₁ .ifs) 0)))
-            (run.after (run.took (k₁ .ifs) 1 ∷ []) (runArm bs ins h second (take s (k₁ .ifs) 1)))
+            (run.after (run.took (k₁ .ifs) 0 (accesses k₁) ∷ []) (runArm bs ins h first (take s (k₁ .ifs) 0)))
+            (run.after (run.took (k₁ .ifs) 1 (accesses k₁) ∷ []) (runArm bs ins h second (take s (k₁ .ifs) 1)))
 
         fork-state : (k₁ : Counts) (first second : Arm) → ranIf bs ins h c (k₁ .ifs) first second s ≡ forkStretch k₁ first second .state
         unfolding forkStretch
-        fork-state k₁ first second = cond-state (holds bs c s) (run.took (k₁ .ifs) 0 ∷ []) (run.took (k₁ .ifs) 1 ∷ []) (runArm bs ins h first (take s (k₁ .ifs) 0)) (runArm bs ins h second (take s (k₁ .ifs) 1))
+        fork-state k₁ first second = cond-state (holds bs c s) (run.took (k₁ .ifs) 0 (accesses k₁) ∷ []) (run.took (k₁ .ifs) 1 (accesses k₁) ∷ []) (runArm bs ins h first (take s (k₁ .ifs) 0)) (runArm bs ins h second (take s (k₁ .ifs) 1))
 
         pub forked : isOver (t .state .outcome) ≡ false → Going from k₀ s₀ (t .next) (t .counts) (t .state)
         unfolding runArm forkStretch

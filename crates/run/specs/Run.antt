@@ -12,9 +12,10 @@ use Rattle.machine.specs.State.{start, take, holds, indexOf, carry}
 use Rattle.machine.specs.declared.Outcome.{Outcome}
 use Rattle.machine.specs.declared.State.{State}
 
--- what a run comes to: an if, with the arm taken there (0 first, 1 else), or an access, with its array and its index
+-- what a run comes to: an if, with the arm taken there (0 first, 1 else) and the number of accesses that stand before it in the text; or an access, with its
+-- array and its index
 pub data Event : Type 0 where
-  took : (number arm : ℕ) → Event
+  took : (number arm before : ℕ) → Event
   came : (access array : ℕ) → Whole → Event
 
 -- a stretch of a run: what it came to, in order, and the state that it left
@@ -51,8 +52,8 @@ runArm bs ins h (plain at c k rest) s =
 runArm bs ins h (fork at c k first second rest) s =
     andThen
     (cond (holds bs c s)
-    (after (took (k .ifs) 0 ∷ []) (runArm bs ins h first (take s (k .ifs) 0)))
-    (after (took (k .ifs) 1 ∷ []) (runArm bs ins h second (take s (k .ifs) 1))))
+    (after (took (k .ifs) 0 (accesses k) ∷ []) (runArm bs ins h first (take s (k .ifs) 0)))
+    (after (took (k .ifs) 1 (accesses k) ∷ []) (runArm bs ins h second (take s (k .ifs) 1))))
     (runArm bs ins h rest)
 
 -- the run of a routine on an input list
