@@ -2,15 +2,17 @@
 use mathlib.Core.Path.{_≡_, refl, sym, _∙_}
 use mathlib.Core.List.{List}
 use mathlib.Core.Bool.{Bool, true, false, cond}
-use Prim.Native.Nat.{ℕ, zero, suc, _+_, _≤_}
+use Prim.Native.Nat.{ℕ, zero, suc, _+_, _*_, _<_, _≤_}
 use native.Mathlib.Omega.{arith}
-use lib.ListN.{length}
-use lib.Dec.{ltb, leb, eqb}
+use lib.ListN.{length, List·getD-eq-default}
+use lib.Dec.{ltb, leb, eqb, lit<}
+use borrow.Author.Tests.{ltb-true, ltb-false, leb-true, eqb-true}
 use Rattle.slices.specs.Bytes.{entry}
 use Rattle.header.specs.Header.{firstBad}
 use Rattle.header.specs.declared.Header.{Header}
 use Rattle.command.specs.Step.{accesses}
 use Rattle.command.specs.declared.Counts.{Counts}
+use Rattle.command.proofs.Fine.{all-ok}
 use Rattle.routine.specs.Routine.{Arm, done}
 use Rattle.routine.specs.Decode.{Decoded, rejected, routine, decode, checked, IsRoutine}
 use Rattle.routine.specs.declared.Checked.{Checked}
@@ -44,6 +46,48 @@ module _ (ds : List ℕ) where
   pub first-odd-le : firstOdd ds ≤ length ds
   unfolding firstOdd
   first-odd-le = let l : oddFrom (length ds) 0 ≤ 0 + length ds = odd-le (length ds) 0 in omega arith
+
+  -- no decision is above 2; past the last one stands 0
+  decisions-fine : firstOdd ds ≡ length ds → (n : ℕ) → entry ds n ≤ 2
+  unfolding firstOdd
+  decisions-fine e n = pick (ltb n (length ds)) refl
+    where
+      pick : (b : Bool) → ltb n (length ds) ≡ b → entry ds n ≤ 2
+      pick true l =
+          let z : 0 + 1 * n ≡ n = omega arith in
+          leb-true (entry ds n) 2 (rw z at (all-ok isDecision 1 (lit< tt) (length ds) 0 (e ∙ omega arith) n (ltb-true n (length ds) l)))
+      pick false l = let z : entry ds n ≡ 0 = List·getD-eq-default ds 0 (ltb-false n (length ds) l) in omega arith
+
+-- what 11 and 12 let through
+pub record InRange (t : Target) (ds : List ℕ) (k : Counts) : Type 0 where
+  pub counted : length ds ≡ k .ifs
+  pub access : t .access < accesses k
+  pub side : t .side ≤ 1
+  pub decisions : (n : ℕ) → entry ds n ≤ 2
+
+passed : (b : Bool) (refusal : Refusal) (x : Admission) (h : Header) → withoutTree (unless b refusal x) ≡ Admitted.Translates h
+    → (b ≡ true) × (withoutTree x ≡ Admitted.Translates h)
+passed true refusal x h e = (refl, e)
+passed false refusal x h e = let z : _≡_ {A = ℕ} 0 1 = cc in absurd (omega arith)
+
+module _ (t : Target) (ds : List ℕ) (h : Header) (a : Arm) (k : Counts) (h₁ : Header) where
+  pub lead-range : withoutTree (byLead t ds h a k) ≡ Admitted.Translates h₁ → InRange t ds k
+  lead-range e =
+      let p = passed (eqb (length ds) (k .ifs)) _ _ h₁ e in
+      let q = passed (ltb (t .access) (accesses k)) _ _ h₁ (p .1) in
+      let s = passed (leb (t .side) 1) _ _ h₁ (q .1) in
+      let u = passed (eqb (firstOdd ds) (length ds)) _ _ h₁ (s .1) in
+      record {
+        counted = eqb-true _ _ (p .0);
+        access = ltb-true _ _ (q .0);
+        side = leb-true _ _ (s .0);
+        decisions = decisions-fine ds (eqb-true _ _ (u .0));
+      }
+
+pub in-range : (t : Target) (ds : List ℕ) (h : Header) (k : Counts) (r : Admitted) → r ≡ admittedLead t ds h k → (h₁ : Header) → r ≡ Admitted.Translates h₁
+    → InRange t ds k
+unfolding admittedLead
+in-range t ds h k r is h₁ e = lead-range t ds h done k h₁ (sym is ∙ e)
 
 -- ---- what `admit` answers
 

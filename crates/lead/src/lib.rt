@@ -47,7 +47,7 @@ fn odd_decision(decisions: &[u8]) -> usize
 }
 
 // 11, then 12, for a routine with these counts.
-fn admit_lead(h: Header, k: Counts, t: Target, decisions: &[u8]) -> Admitted
+pub fn admit_lead(h: Header, k: Counts, t: Target, decisions: &[u8]) -> Admitted
     ensures { λ r. ⌜ r ≡ admittedLead t (now (decisions .entry)) h k ⌝ }
 {
     if decisions.len() != k.ifs as usize {

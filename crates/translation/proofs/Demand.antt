@@ -25,6 +25,7 @@ use Rattle.run.specs.Run.{runOf}
 use Rattle.run.specs.declared.Listed.{Listed}
 use Rattle.machine.specs.declared.Lies.{Lies}
 use Rattle.machine.specs.declared.State.{State}
+use Rattle.course.specs.declared.Course.{Course}
 use Rattle.netlist.specs.Node.{Node}
 use Rattle.clauses.specs.Meaning.{Assign, lit}
 use Rattle.netlist.specs.Meaning.{Inputs, nodeVal}
@@ -35,7 +36,6 @@ use Rattle.wiring.specs.Command.{Stretch}
 use Rattle.wiring.specs.Wires.{isMade}
 use Rattle.translation.specs.Walk.{armOf}
 use Rattle.translation.specs.Translation.{parameterNodes, start, whole}
-use Rattle.translation.specs.Course.{Course, arrived}
 use Rattle.machine.specs.Side.{sideOf}
 use Rattle.translation.specs.Faithful.{bitsOfList, Solves, courseOf, Arrives, Faithful}
 use Rattle.wiring.specs.declared.Claim.{Claim}
@@ -65,7 +65,7 @@ module _ (bs : List ℕ) (h : Header) (f : Fine bs h) (t : Target) (ds : List �
   arrives-says c r (here side₁ array index e l p q) = ((λ z. record { array = array; index = index; there = p }), (λ a. l))
 
   -- the same array and the same index
-  lies-same : (side₁ array₁ : ℕ) (index₁ : Whole) (array : ℕ) (index : Whole) → side₁ ≡ side → arrived array₁ index₁ ≡ arrived array index
+  lies-same : (side₁ array₁ : ℕ) (index₁ : Whole) (array : ℕ) (index : Whole) → side₁ ≡ side → Course.Arrived array₁ index₁ ≡ Course.Arrived array index
       → (lit ρ side₁ ≡ true) ↔ (lies (arraySize bs h array₁) index₁ ≡ Lies.Outside (sideOf (t .side)))
       → (lit ρ side ≡ true) ↔ (lies (arraySize bs h array) index ≡ Lies.Outside (sideOf (t .side)))
   lies-same side₁ array₁ index₁ array index e p q =
@@ -75,7 +75,7 @@ module _ (bs : List ℕ) (h : Header) (f : Fine bs h) (t : Target) (ds : List �
       (subst (λ (z : Whole). (lit ρ side₁ ≡ true) ↔ (lies (arraySize bs h array) z ≡ Lies.Outside (sideOf (t .side)))) i
       (subst (λ (z : ℕ). (lit ρ side₁ ≡ true) ↔ (lies (arraySize bs h z) index₁ ≡ Lies.Outside (sideOf (t .side)))) a q))
 
-  lies-says : (c : Course) (r : State) → Tally bs h f t ds ρ w c r → (array : ℕ) (index : Whole) → c ≡ arrived array index
+  lies-says : (c : Course) (r : State) → Tally bs h f t ds ρ w c r → (array : ℕ) (index : Whole) → c ≡ Course.Arrived array index
       → (lit ρ side ≡ true) ↔ (lies (arraySize bs h array) index ≡ Lies.Outside (sideOf (t .side)))
   lies-says c r (through e l p u v) array index z = not-both true refl (ap isMade (sym made ∙ e))
   lies-says c r (lost e l p) array index z = not-both true refl (ap isMade (sym made ∙ e))
@@ -160,7 +160,7 @@ module _ (bs : List ℕ) (t : Target) (ds : List ℕ) (h : Header) (a : Arm) (k 
       tally : Tally bs h ok t ds ρ (x .wires) (courseOf bs t ds h a ins) (runOf bs ins h a .state)
       unfolding runOf
       tally =
-          arm-alive bs ins h ok t ds ρ truth side few a 0 0 (firstCommand h) noCounts (length bs) k stands (fits .reads) g (start bs (h .parameters))
+          arm-alive bs ins h ok t ds ρ truth side few a 0 0 (firstCommand h) noCounts (length bs) k stands (fits .reads) (omega arith) g (start bs (h .parameters))
           (state.start ins (h .parameters)) (parts .1) alive
 
   all-parts : Faithful bs t ds h a k

@@ -7,6 +7,7 @@ use Prim.Native.Nat.{ℕ, zero, suc, _<_, _≤_}
 use native.Mathlib.Omega.{arith}
 use lib.ListN.{length}
 use lib.Dec.{eqb}
+use borrow.Author.Tests.{le-ltb}
 use Rattle.slices.specs.Bytes.{entry}
 use Rattle.bitvec.specs.Relation.{relates}
 use Rattle.header.specs.Header.{width}
@@ -18,6 +19,8 @@ use Rattle.machine.specs.State.{take, holds}
 use Rattle.run.specs.Run as run
 use Rattle.run.specs.Run.{took}
 use Rattle.machine.specs.declared.State.{State}
+use Rattle.course.specs.Course.{follows, course}
+use Rattle.course.specs.declared.Course.{Course}
 use Rattle.clauses.specs.Meaning.{Assign, lit}
 use Rattle.netlist.specs.Meaning.{Inputs}
 use Rattle.netlist.proofs.Truth.{Models, models-append}
@@ -27,7 +30,6 @@ use Rattle.wiring.specs.Wires.{bitsOf, arriving, isMade}
 use Rattle.wiring.specs.Command.{Stretch}
 use Rattle.wiring.specs.Branch.{conditionNodes, conditionLit, branchNodes, firstLit, elseLit, joined}
 use Rattle.translation.specs.Walk.{forked}
-use Rattle.translation.specs.Course.{Course, astray, follows, course}
 use Rattle.translation.specs.Faithful.{bitsOfList}
 use Rattle.wiring.specs.declared.Claim.{Claim}
 use Rattle.lead.specs.declared.Target.{Target}
@@ -38,7 +40,7 @@ use Rattle.translation.proofs.Numbers.{Elsewhere}
 use Rattle.translation.proofs.Simples.{Alive}
 use Rattle.command.proofs.Tests.{not-both}
 use Rattle.translation.proofs.Stretches.{by-cond, fork-by, afterCondition, firstFrom, firstWires, firstOf, secondFrom, secondWires, secondOf, joinFrom, joinOf}
-use Rattle.translation.proofs.Tally.{Tally, through, lost, missed, here, Tallies, not-here, ended-elsewhere}
+use Rattle.translation.proofs.Tally.{Tally, through, lost, missed, here, Ended, Tallies, not-here, ended-elsewhere}
 use Rattle.translation.proofs.Worth.{Worth, join-first, join-second}
 
 -- an arm is followed, unless the other one was decided
@@ -126,15 +128,17 @@ module _ (bs ins : List ℕ) (h : Header) (fine : Fine bs h) (t : Target) (ds : 
   -- what is known of the two arms
   pub record Arms (first second : ℕ → Wires → Stretch) (on₁ on₂ : State → run.Stretch) : Type 0 where
     pub one : Runs first on₁
-    pub two : Runs second on₂
+    -- where the named access is not in the first arm
+    pub two : (g : ℕ) (s : Wires) → s .claim ≡ Claim.Open → isMade (first g s .wires .claim) ≡ false → Runs second on₂
     pub dead₁ : (g : ℕ) (s : Wires) → Deadens I ρ o bs h t ds g s (first g s)
     pub dead₂ : (g : ℕ) (s : Wires) → Deadens I ρ o bs h t ds g s (second g s)
     pub places : (g : ℕ) (s : Wires) → length (first g s .wires .lits) ≡ length (s .lits)
     -- the named access is in the first arm, so a run of the second does not come to it
     pub apart : (g : ℕ) (s : Wires) → s .claim ≡ Claim.Open → isMade (first g s .wires .claim) ≡ true → (r : State) → Elsewhere (course ds (t .access) (on₂ r .events))
 
+  -- the if of number n, which stands after the first `before` accesses, and not after the named one
   module _ (first second : ℕ → Wires → Stretch) (on₁ on₂ : State → run.Stretch) (arms : Arms first second on₁ on₂) (n : ℕ) (few : entry ds n ≤ 2)
-      (g : ℕ) (c : Condition) (s : Wires) (r : State) (sound : SoundIf bs h c) (a : Alive bs ins h fine t ds ρ o s r) where
+      (before : ℕ) (ahead : before ≤ t .access) (g : ℕ) (c : Condition) (s : Wires) (r : State) (sound : SoundIf bs h c) (a : Alive bs ins h fine t ds ρ o s r) where
     -- the decision, the condition's literal, and the parts of the if
     abbrev d : ℕ
     d = entry ds n
@@ -224,6 +228,9 @@ module _ (bs ins : List ℕ) (h : Header) (fine : Fine bs h) (t : Target) (ds : 
     never true = refl
     never false = refl
 
+    strays : (r₁ : State) → Ended (Course.Astray n) r₁
+    strays r₁ = inl (record { number = n; astray = refl })
+
     -- ---- the first arm is taken
 
     module _ (e : holds bs c r ≡ true) where
@@ -238,13 +245,13 @@ module _ (bs ins : List ℕ) (h : Header) (fine : Fine bs h) (t : Target) (ds : 
           arms .dead₂ g₃ s₂ ym (else-come cm bm ∙ ap (λ (b : Bool). cond (eqb d 0) false (not b)) e ∙ never (eqb d 0))
 
       -- the else was decided: the run goes astray, and both arms are dead
-      first-astray : eqb d 1 ≡ true → Fork-models → Tally bs h fine t ds ρ (forked bs h d g c s first second .wires) astray (z₁ .state)
+      first-astray : eqb d 1 ≡ true → Fork-models → Tally bs h fine t ds ρ (forked bs h d g c s first second .wires) (Course.Astray n) (z₁ .state)
       first-astray q =
-          by-claim (λ (w : Wires). Tally bs h fine t ds ρ w astray (z₁ .state))
-          (λ cm bm xm p. not-here bs h fine t ds ρ (x .wires) astray (z₁ .state) (dead cm bm xm) (inl refl))
-          (λ cm bm xm ym p p₁. not-here bs h fine t ds ρ (y .wires) astray (z₁ .state) (else-dead cm bm ym) (inl refl))
-          (λ cm bm xm ym jm p p₁. not-here bs h fine t ds ρ (j .wires) astray (z₁ .state)
-          (left-first g₄ l (x .wires) (y .wires) jm astray (z₁ .state) (else-dead cm bm ym) ∙ dead cm bm xm) (inl refl))
+          by-claim (λ (w : Wires). Tally bs h fine t ds ρ w (Course.Astray n) (z₁ .state))
+          (λ cm bm xm p. not-here bs h fine t ds ρ (x .wires) (Course.Astray n) (z₁ .state) (dead cm bm xm) (strays (z₁ .state)))
+          (λ cm bm xm ym p p₁. not-here bs h fine t ds ρ (y .wires) (Course.Astray n) (z₁ .state) (else-dead cm bm ym) (strays (z₁ .state)))
+          (λ cm bm xm ym jm p p₁. not-here bs h fine t ds ρ (j .wires) (Course.Astray n) (z₁ .state)
+          (left-first g₄ l (x .wires) (y .wires) jm (Course.Astray n) (z₁ .state) (else-dead cm bm ym) ∙ dead cm bm xm) (strays (z₁ .state)))
         where
           dead : Condition-models → Branch-models → Models I ρ g₂ (x .nodes) → lit ρ (x .wires .arrival) ≡ false
           dead cm bm xm = arms .dead₁ g₂ s₁ xm (first-come cm bm ∙ ap (λ (b : Bool). cond b false (holds bs c r)) q)
@@ -260,13 +267,13 @@ module _ (bs ins : List ℕ) (h : Header) (fine : Fine bs h) (t : Target) (ds : 
           tally : Condition-models → Branch-models → Models I ρ g₂ (x .nodes) → Tally bs h fine t ds ρ (x .wires) c₁ (z₁ .state)
           tally cm bm xm = arms .one g₂ s₁ (take r n 0) xm (alive-at (firstLit d g₁) 0 (first-come cm bm ∙ ap₂ (λ (p v : Bool). cond p false v) q e))
 
-      first-run : Fork-models → Tallies bs h fine t ds ρ (forked bs h d g c s first second) (run.after (took n 0 ∷ []) z₁)
+      first-run : Fork-models → Tallies bs h fine t ds ρ (forked bs h d g c s first second) (run.after (took n 0 before ∷ []) z₁)
       unfolding course
       first-run mm =
-          rw (follows-first d few)
+          rw (le-ltb (t .access) before ahead, follows-first d few)
           (pick (eqb d 1) refl)
         where
-          pick : (b : Bool) → eqb d 1 ≡ b → Tally bs h fine t ds ρ (forked bs h d g c s first second .wires) (cond (not b) c₁ astray) (z₁ .state)
+          pick : (b : Bool) → eqb d 1 ≡ b → Tally bs h fine t ds ρ (forked bs h d g c s first second .wires) (cond (not b) c₁ (Course.Astray n)) (z₁ .state)
           pick true q = first-astray q mm
           pick false q = first-taken q mm
 
@@ -283,13 +290,13 @@ module _ (bs ins : List ℕ) (h : Header) (fine : Fine bs h) (t : Target) (ds : 
       first-dead cm bm xm = arms .dead₁ g₂ s₁ xm (first-come cm bm ∙ ap (λ (b : Bool). cond (eqb d 1) false b) e ∙ never (eqb d 1))
 
       -- the first arm was decided: the run goes astray, and both arms are dead
-      else-astray : eqb d 0 ≡ true → Fork-models → Tally bs h fine t ds ρ (forked bs h d g c s first second .wires) astray (z₂ .state)
+      else-astray : eqb d 0 ≡ true → Fork-models → Tally bs h fine t ds ρ (forked bs h d g c s first second .wires) (Course.Astray n) (z₂ .state)
       else-astray q =
-          by-claim (λ (w : Wires). Tally bs h fine t ds ρ w astray (z₂ .state))
-          (λ cm bm xm p. not-here bs h fine t ds ρ (x .wires) astray (z₂ .state) (first-dead cm bm xm) (inl refl))
-          (λ cm bm xm ym p p₁. not-here bs h fine t ds ρ (y .wires) astray (z₂ .state) (dead cm bm ym) (inl refl))
-          (λ cm bm xm ym jm p p₁. not-here bs h fine t ds ρ (j .wires) astray (z₂ .state)
-          (left-else g₄ l (x .wires) (y .wires) jm astray (z₂ .state) (first-dead cm bm xm) ∙ dead cm bm ym) (inl refl))
+          by-claim (λ (w : Wires). Tally bs h fine t ds ρ w (Course.Astray n) (z₂ .state))
+          (λ cm bm xm p. not-here bs h fine t ds ρ (x .wires) (Course.Astray n) (z₂ .state) (first-dead cm bm xm) (strays (z₂ .state)))
+          (λ cm bm xm ym p p₁. not-here bs h fine t ds ρ (y .wires) (Course.Astray n) (z₂ .state) (dead cm bm ym) (strays (z₂ .state)))
+          (λ cm bm xm ym jm p p₁. not-here bs h fine t ds ρ (j .wires) (Course.Astray n) (z₂ .state)
+          (left-else g₄ l (x .wires) (y .wires) jm (Course.Astray n) (z₂ .state) (first-dead cm bm xm) ∙ dead cm bm ym) (strays (z₂ .state)))
         where
           dead : Condition-models → Branch-models → Models I ρ g₃ (y .nodes) → lit ρ (y .wires .arrival) ≡ false
           dead cm bm ym = arms .dead₂ g₃ s₂ ym (else-come cm bm ∙ ap (λ (b : Bool). cond b false (not (holds bs c r))) q)
@@ -299,29 +306,29 @@ module _ (bs ins : List ℕ) (h : Header) (fine : Fine bs h) (t : Target) (ds : 
       else-taken q =
           by-claim (λ (w : Wires). Tally bs h fine t ds ρ w c₂ (z₂ .state))
           (λ cm bm xm p. missed p (first-dead cm bm xm) (arms .apart g₂ s₁ (a .unclaimed) p (take r n 1)))
-          (λ cm bm xm ym p p₁. tally cm bm ym)
-          (λ cm bm xm ym jm p p₁. joined-else g₄ l (x .wires) (y .wires) jm c₂ (z₂ .state) (says cm ∙ e) (first-dead cm bm xm) first-places p₁ (tally cm bm ym))
+          (λ cm bm xm ym p p₁. tally p cm bm ym)
+          (λ cm bm xm ym jm p p₁. joined-else g₄ l (x .wires) (y .wires) jm c₂ (z₂ .state) (says cm ∙ e) (first-dead cm bm xm) first-places p₁ (tally p cm bm ym))
         where
-          tally : Condition-models → Branch-models → Models I ρ g₃ (y .nodes) → Tally bs h fine t ds ρ (y .wires) c₂ (z₂ .state)
-          tally cm bm ym =
-              arms .two g₃ s₂ (take r n 1) ym
+          tally : isMade (x .wires .claim) ≡ false → Condition-models → Branch-models → Models I ρ g₃ (y .nodes) → Tally bs h fine t ds ρ (y .wires) c₂ (z₂ .state)
+          tally u cm bm ym =
+              arms .two g₂ s₁ (a .unclaimed) u g₃ s₂ (take r n 1) ym
               (alive-at (elseLit d g₁ (s .arrival) l) 1 (else-come cm bm ∙ ap₂ (λ (p v : Bool). cond p false (not v)) q e))
 
-      else-run : Fork-models → Tallies bs h fine t ds ρ (forked bs h d g c s first second) (run.after (took n 1 ∷ []) z₂)
+      else-run : Fork-models → Tallies bs h fine t ds ρ (forked bs h d g c s first second) (run.after (took n 1 before ∷ []) z₂)
       unfolding course
       else-run mm =
-          rw (follows-else d few)
+          rw (le-ltb (t .access) before ahead, follows-else d few)
           (pick (eqb d 0) refl)
         where
-          pick : (b : Bool) → eqb d 0 ≡ b → Tally bs h fine t ds ρ (forked bs h d g c s first second .wires) (cond (not b) c₂ astray) (z₂ .state)
+          pick : (b : Bool) → eqb d 0 ≡ b → Tally bs h fine t ds ρ (forked bs h d g c s first second .wires) (cond (not b) c₂ (Course.Astray n)) (z₂ .state)
           pick true q = else-astray q mm
           pick false q = else-taken q mm
 
     -- an if
     pub fork-alive : Models I ρ g (forked bs h d g c s first second .nodes)
         → Tallies bs h fine t ds ρ (forked bs h d g c s first second)
-        (cond (holds bs c r) (run.after (took n 0 ∷ []) (on₁ (take r n 0))) (run.after (took n 1 ∷ []) (on₂ (take r n 1))))
+        (cond (holds bs c r) (run.after (took n 0 before ∷ []) (on₁ (take r n 0))) (run.after (took n 1 before ∷ []) (on₂ (take r n 1))))
     fork-alive m =
         by-cond (Tallies bs h fine t ds ρ (forked bs h d g c s first second)) (holds bs c r)
-        (run.after (took n 0 ∷ []) (on₁ (take r n 0))) (run.after (took n 1 ∷ []) (on₂ (take r n 1)))
+        (run.after (took n 0 before ∷ []) (on₁ (take r n 0))) (run.after (took n 1 before ∷ []) (on₂ (take r n 1)))
         (λ e. first-run e m) (λ e. else-run e m)

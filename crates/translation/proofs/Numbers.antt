@@ -1,13 +1,11 @@
 -- The numbers of the accesses: an arm has those from the counts before it up to the counts after it. So a run over an arm whose numbers are all
 -- greater does not come to the named access. Assumes nothing.
-use mathlib.Core.Path.{_≡_, refl, sym, ap, subst, _∙_}
-use mathlib.Core.List.{List, [], _∷_, _++_}
-use mathlib.Core.Bool.{Bool, true, false, cond}
+use mathlib.Core.Path.{_≡_, refl, sym, subst}
+use mathlib.Core.List.{List, [], _∷_}
+use mathlib.Core.Bool.{cond}
 use Prim.Native.Nat.{ℕ, _+_, _<_, _≤_}
 use native.Mathlib.Omega.{arith}
-use lib.Dec.{eqb}
 use borrow.Author.Tests.{ne-eqb}
-use Rattle.slices.specs.Bytes.{entry}
 use Rattle.bitvec.specs.declared.Whole.{Whole}
 use Rattle.command.specs.Step.{accesses, after, oneIf}
 use Rattle.routine.specs.Routine.{Arm}
@@ -18,49 +16,27 @@ use Rattle.command.specs.declared.Simple.{Simple}
 use Rattle.routine.proofs.Views.{induction}
 use Rattle.machine.specs.State.{take, holds, carry}
 use Rattle.run.specs.Run as run
-use Rattle.run.specs.Run.{Event, took, came, unlessStopped, eventsAt, runArm}
+use Rattle.run.specs.Run.{took, came, unlessStopped, eventsAt, runArm}
 use Rattle.machine.specs.declared.Outcome.{Outcome}
 use Rattle.machine.specs.declared.Side.{Side}
 use Rattle.machine.specs.declared.State.{State}
-use Rattle.translation.specs.Course.{Course, astray, passing, arrived, follows, course}
+use Rattle.course.specs.Course.{keeps, course}
+use Rattle.course.specs.declared.Course.{Course}
+use Rattle.course.proofs.Laws.{onward, course-append}
 use Rattle.translation.proofs.Stretches.{by-cond}
 
 -- ---- a course that goes on
 
--- what comes after counts only where the run is passing
-abbrev pub thenCourse : Course → Course → Course
-thenCourse astray y = astray
-thenCourse passing y = y
-thenCourse (arrived array index) y = arrived array index
-
-course-cond : (b : Bool) (x y : Course) → cond b (thenCourse x y) astray ≡ thenCourse (cond b x astray) y
-course-cond true x y = refl
-course-cond false x y = refl
-
-course-here : (b : Bool) (array : ℕ) (index : Whole) (x y : Course) → cond b (arrived array index) (thenCourse x y) ≡ thenCourse (cond b (arrived array index) x) y
-course-here true array index x y = refl
-course-here false array index x y = refl
-
-pub course-append : (ds : List ℕ) (access : ℕ) (es fs : List Event) → course ds access (es ++ fs) ≡ thenCourse (course ds access es) (course ds access fs)
-unfolding course
-course-append ds access [] fs = refl
-course-append ds access (took number arm ∷ es) fs =
-    ap (λ (z : Course). cond (follows (entry ds number) arm) z astray) (course-append ds access es fs)
-    ∙ course-cond (follows (entry ds number) arm) (course ds access es) (course ds access fs)
-course-append ds access (came number array index ∷ es) fs =
-    ap (λ (z : Course). cond (eqb number access) (arrived array index) z) (course-append ds access es fs)
-    ∙ course-here (eqb number access) array index (course ds access es) (course ds access fs)
-
 -- the run has not come to the access
 abbrev pub Elsewhere : Course → Type 0
-Elsewhere astray = Unit {0}
-Elsewhere passing = Unit {0}
-Elsewhere (arrived array index) = ⊥
+Elsewhere (Course.Astray number) = Unit {0}
+Elsewhere Course.Passing = Unit {0}
+Elsewhere (Course.Arrived array index) = ⊥
 
-pub elsewhere-then : (x y : Course) → Elsewhere x → Elsewhere y → Elsewhere (thenCourse x y)
-elsewhere-then astray y p q = tt
-elsewhere-then passing y p q = q
-elsewhere-then (arrived array index) y p q = p
+pub elsewhere-then : (x y : Course) → Elsewhere x → Elsewhere y → Elsewhere (onward x y)
+elsewhere-then (Course.Astray number) y p q = tt
+elsewhere-then Course.Passing y p q = q
+elsewhere-then (Course.Arrived array index) y p q = p
 
 -- ---- a run that goes on
 
@@ -114,10 +90,10 @@ module _ (bs ins : List ℕ) (h : Header) (ds : List ℕ) (access : ℕ) where
   misses-simple (Simple.Read d array i) k s l = misses-came (accesses k) array _ l
   misses-simple (Simple.Write array i a) k s l = misses-came (accesses k) array _ l
 
-  misses-took : (number arm : ℕ) (x : run.Stretch) → Misses x → Misses (run.after (took number arm ∷ []) x)
+  misses-took : (number arm before : ℕ) (x : run.Stretch) → Misses x → Misses (run.after (took number arm before ∷ []) x)
   unfolding course
-  misses-took number arm x p =
-      by-cond Elsewhere (follows (entry ds number) arm) (course ds access (x .events)) astray (λ e. p) (λ e. tt)
+  misses-took number arm before x p =
+      by-cond Elsewhere (keeps ds access number arm before) (course ds access (x .events)) (Course.Astray number) (λ e. p) (λ e. tt)
 
   -- an arm whose accesses all have greater numbers
   pub misses : (a : Arm) (depth close at : ℕ) (k : Counts) (end : ℕ) (k₁ : Counts) → Stands bs h depth close at k a end k₁
@@ -133,11 +109,11 @@ module _ (bs ins : List ℕ) (h : Header) (ds : List ℕ) (access : ℕ) where
       let g₁ = accesses-grow bs h first (depth + 1) 12 (at + 4) (oneIf k) (v .else) (v .k₂) (v .stands-first) in
       let g₂ = accesses-grow bs h second (depth + 1) 13 (v .else) (v .k₂) (v .next) (v .k₃) (v .stands-second) in
       let x : run.Stretch =
-      cond (holds bs c r) (run.after (took (k .ifs) 0 ∷ []) (runArm bs ins h first (take r (k .ifs) 0)))
-      (run.after (took (k .ifs) 1 ∷ []) (runArm bs ins h second (take r (k .ifs) 1))) in
+      cond (holds bs c r) (run.after (took (k .ifs) 0 (accesses k) ∷ []) (runArm bs ins h first (take r (k .ifs) 0)))
+      (run.after (took (k .ifs) 1 (accesses k) ∷ []) (runArm bs ins h second (take r (k .ifs) 1))) in
       misses-then x (runArm bs ins h rest)
-      (by-cond Misses (holds bs c r) (run.after (took (k .ifs) 0 ∷ []) (runArm bs ins h first (take r (k .ifs) 0)))
-      (run.after (took (k .ifs) 1 ∷ []) (runArm bs ins h second (take r (k .ifs) 1)))
-      (λ e. misses-took (k .ifs) 0 (runArm bs ins h first (take r (k .ifs) 0)) (go₁ (omega arith) (take r (k .ifs) 0)))
-      (λ e. misses-took (k .ifs) 1 (runArm bs ins h second (take r (k .ifs) 1)) (go₂ (omega arith) (take r (k .ifs) 1))))
+      (by-cond Misses (holds bs c r) (run.after (took (k .ifs) 0 (accesses k) ∷ []) (runArm bs ins h first (take r (k .ifs) 0)))
+      (run.after (took (k .ifs) 1 (accesses k) ∷ []) (runArm bs ins h second (take r (k .ifs) 1)))
+      (λ e. misses-took (k .ifs) 0 (accesses k) (runArm bs ins h first (take r (k .ifs) 0)) (go₁ (omega arith) (take r (k .ifs) 0)))
+      (λ e. misses-took (k .ifs) 1 (accesses k) (runArm bs ins h second (take r (k .ifs) 1)) (go₂ (omega arith) (take r (k .ifs) 1))))
       (go₃ (omega arith) (x .state)))

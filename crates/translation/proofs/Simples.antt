@@ -25,6 +25,8 @@ use Rattle.run.specs.Run.{came, eventsAt}
 use Rattle.machine.specs.declared.Lies.{Lies}
 use Rattle.machine.specs.declared.Outcome.{Outcome}
 use Rattle.machine.specs.declared.State.{State}
+use Rattle.course.specs.Course.{course}
+use Rattle.course.specs.declared.Course.{Course}
 use Rattle.netlist.specs.Node.{Node}
 use Rattle.clauses.specs.Meaning.{Assign, lit}
 use Rattle.netlist.specs.Meaning.{Inputs}
@@ -42,7 +44,6 @@ use Rattle.bits.proofs.Input.{input-word}
 use Rattle.wiring.specs.Wires.{bitsOf, put, arriving, claiming}
 use Rattle.wiring.specs.Command.{Stretch, still, access, readInto, simple}
 use Rattle.operands.specs.Operation.{convertBits, computeNodes, computeBits, accessNodes, accessArrival, claimNodes, claimLit}
-use Rattle.translation.specs.Course.{Course, passing, arrived, course}
 use Rattle.translation.specs.Faithful.{bitsOfList}
 use Rattle.wiring.specs.declared.Claim.{Claim}
 use Rattle.lead.specs.declared.Target.{Target}
@@ -108,7 +109,7 @@ module _ (bs ins : List ℕ) (h : Header) (fine : Fine bs h) (t : Target) (ds : 
     pub going : r .outcome ≡ Outcome.Going
     pub worth : Worth bs h fine ρ (s .lits) (r .values)
 
-  pub alive-through : (w : Wires) (c : Course) (r : State) → Alive w r → c ≡ passing → Tally bs h fine t ds ρ w c r
+  pub alive-through : (w : Wires) (c : Course) (r : State) → Alive w r → c ≡ Course.Passing → Tally bs h fine t ds ρ w c r
   alive-through w c r a e = through (a .unclaimed) (a .come) e (a .going) (a .worth)
 
   pub alive-put : (s : Wires) (r : State) → Alive s r → (d : ℕ) (f : Bits) (x : ℕ) → d < h .variables → value ρ f (width bs d) ≡ x
@@ -121,11 +122,11 @@ module _ (bs ins : List ℕ) (h : Header) (fine : Fine bs h) (t : Target) (ds : 
   and-true : (a b : Bool) → a ≡ true → (a && b) ≡ b
   and-true a b e = ap (λ (x : Bool). x && b) e
 
-  came-here : (number array : ℕ) (index : Whole) → eqb number (t .access) ≡ true → course ds (t .access) (came number array index ∷ []) ≡ arrived array index
+  came-here : (number array : ℕ) (index : Whole) → eqb number (t .access) ≡ true → course ds (t .access) (came number array index ∷ []) ≡ Course.Arrived array index
   unfolding course
   came-here number array index e = rw e
 
-  came-past : (number array : ℕ) (index : Whole) → eqb number (t .access) ≡ false → course ds (t .access) (came number array index ∷ []) ≡ passing
+  came-past : (number array : ℕ) (index : Whole) → eqb number (t .access) ≡ false → course ds (t .access) (came number array index ∷ []) ≡ Course.Passing
   unfolding course
   came-past number array index e = rw e
 
@@ -201,13 +202,13 @@ module _ (bs ins : List ℕ) (h : Header) (fine : Fine bs h) (t : Target) (ds : 
   unfolding simple carry course widthsFit
   simple-alive sd g (Simple.Set d c) k s r q f m a =
       let p = set-fine bs h d c q in
-      alive-through (put bs s d (constBit c)) passing (state.put r d c) (alive-put s r a d (constBit c) c (p .0) (const-word ρ c (width bs d) o (p .1))) refl
+      alive-through (put bs s d (constBit c)) Course.Passing (state.put r d c) (alive-put s r a d (constBit c) c (p .0) (const-word ρ c (width bs d) o (p .1))) refl
   simple-alive sd g (Simple.Convert op d b) k s r q f m a =
       let p = convert-fine bs h op d b q in
       let e : Bits = convertBits op (width bs b) (bitsOf bs s b) in
       let x : ℕ = converted op (width bs d) (width bs b) (entry (r .values) b) in
       let z : 0 < width bs b = omega (arith, fine .widths b (p .1)) in
-      alive-through (put bs s d e) passing (state.put r d x)
+      alive-through (put bs s d e) Course.Passing (state.put r d x)
       (alive-put s r a d e x (p .0) (convert-word ρ o op (width bs d) (width bs b) (bitsOf bs s b) z (q .widths)
       ∙ ap (converted op (width bs d) (width bs b)) (a .worth .worth b (p .1)))) refl
   simple-alive sd g (Simple.Compute op d b c) k s r q f m a =
@@ -216,7 +217,7 @@ module _ (bs ins : List ℕ) (h : Header) (fine : Fine bs h) (t : Target) (ds : 
       let x : ℕ = computed op w (entry (r .values) b) (entry (r .values) c) in
       let vb : value ρ (bitsOf bs s b) w ≡ entry (r .values) b = ap (value ρ (bitsOf bs s b)) (p .3) ∙ a .worth .worth b (p .1) in
       let vc : value ρ (bitsOf bs s c) w ≡ entry (r .values) c = ap (value ρ (bitsOf bs s c)) (p .4) ∙ a .worth .worth c (p .2) in
-      alive-through (put bs s d (computeBits op g w)) passing (state.put r d x)
+      alive-through (put bs s d (computeBits op g w)) Course.Passing (state.put r d x)
       (alive-put s r a d (computeBits op g w) x (p .0)
       (compute-word (bitsOfList ins) ρ o op g (bitsOf bs s b) (bitsOf bs s c) w m ∙ ap₂ (computed op w) vb vc)) refl
   simple-alive sd g (Simple.Read d array i) k s r q f m a =

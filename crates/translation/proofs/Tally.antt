@@ -16,39 +16,46 @@ use Rattle.run.specs.Walker.{isOver}
 use Rattle.machine.specs.declared.Lies.{Lies}
 use Rattle.machine.specs.declared.Outcome.{Outcome}
 use Rattle.machine.specs.declared.State.{State}
+use Rattle.course.specs.Course.{course}
+use Rattle.course.specs.declared.Course.{Course}
 use Rattle.clauses.specs.Meaning.{Assign, lit}
 use Rattle.wiring.specs.Command.{Stretch, after}
 use Rattle.wiring.specs.Wires.{isMade}
 use Rattle.translation.specs.Walk.{andThen}
-use Rattle.translation.specs.Course.{Course, astray, passing, arrived, course}
 use Rattle.machine.specs.Side.{sideOf}
 use Rattle.wiring.specs.declared.Claim.{Claim}
 use Rattle.lead.specs.declared.Target.{Target}
 use Rattle.wiring.specs.declared.Wires.{Wires}
 use Rattle.translation.proofs.Claimed.{open-of}
-use Rattle.translation.proofs.Numbers.{thenCourse, course-append, Elsewhere, elsewhere-then, run-then-by}
+use Rattle.course.proofs.Laws.{onward, course-append}
+use Rattle.translation.proofs.Numbers.{Elsewhere, elsewhere-then, run-then-by}
 use Rattle.command.proofs.Tests.{not-both}
 use Rattle.translation.proofs.Worth.{Worth}
 
+-- the run took another arm than was decided, at some if
+pub record Strays (c : Course) : Type 0 where
+  pub number : ℕ
+  pub astray : c ≡ Course.Astray number
+
 -- nothing that comes after can come to the access: the run went astray, or it stopped
 abbrev pub Ended : Course → State → Type 0
-Ended c r = (c ≡ astray) ⊎ ((c ≡ passing) × (isOver (r .outcome) ≡ true))
+Ended c r = Strays c ⊎ ((c ≡ Course.Passing) × (isOver (r .outcome) ≡ true))
 
 pub ended-elsewhere : (c : Course) (r : State) → Ended c r → Elsewhere c
-ended-elsewhere c r (inl e) = subst Elsewhere (sym e) tt
+ended-elsewhere c r (inl e) = subst Elsewhere (sym (e .astray)) tt
 ended-elsewhere c r (inr p) = subst Elsewhere (sym (p .0)) tt
 
 module _ (bs : List ℕ) (h : Header) (fine : Fine bs h) (t : Target) (ds : List ℕ) (ρ : Assign) where
   -- the wires w after a stretch, the course c of the run over it, and the state r that it left
   pub data Tally (w : Wires) (c : Course) (r : State) : Type 0 where
     -- the run went through, by the decisions, and arrival is true
-    through : w .claim ≡ Claim.Open → lit ρ (w .arrival) ≡ true → c ≡ passing → r .outcome ≡ Outcome.Going → Worth bs h fine ρ (w .lits) (r .values) → Tally w c r
+    through : w .claim ≡ Claim.Open → lit ρ (w .arrival) ≡ true → c ≡ Course.Passing → r .outcome ≡ Outcome.Going → Worth bs h fine ρ (w .lits) (r .values) → Tally w c r
     -- it did not, and arrival is false
     lost : w .claim ≡ Claim.Open → lit ρ (w .arrival) ≡ false → Ended c r → Tally w c r
     -- the named access was in the stretch, the run did not come to it, and arrival there is false
     missed : isMade (w .claim) ≡ true → lit ρ (w .arrival) ≡ false → Elsewhere c → Tally w c r
     -- the run came to the named access, arrival there is true, and the side literal tells the side
-    here : (side array : ℕ) (index : Whole) → w .claim ≡ Claim.Made (w .arrival) side → lit ρ (w .arrival) ≡ true → c ≡ arrived array index
+    here : (side array : ℕ) (index : Whole) → w .claim ≡ Claim.Made (w .arrival) side → lit ρ (w .arrival) ≡ true → c ≡ Course.Arrived array index
         → (lit ρ side ≡ true) ↔ (lies (arraySize bs h array) index ≡ Lies.Outside (sideOf (t .side))) → Tally w c r
 
   -- the same of two stretches
@@ -74,7 +81,7 @@ module _ (bs : List ℕ) (h : Header) (fine : Fine bs h) (t : Target) (ds : List
     next = go (g + length (x .nodes)) (x .wires)
 
     -- what is known of the course when the run goes on, or stops
-    on-course : (Q : Course → State → Type 0) → (isOver (y .state .outcome) ≡ false → Q (thenCourse course₁ course₂) (on (y .state) .state))
+    on-course : (Q : Course → State → Type 0) → (isOver (y .state .outcome) ≡ false → Q (onward course₁ course₂) (on (y .state) .state))
         → (isOver (y .state .outcome) ≡ true → Q course₁ (y .state))
         → Q (course ds (t .access) (run.andThen y on .events)) (run.andThen y on .state)
     on-course Q p q =
@@ -97,15 +104,15 @@ module _ (bs : List ℕ) (h : Header) (fine : Fine bs h) (t : Target) (ds : List
     tally-then (through e l p u w) alive dead misses =
         open-wires e (λ (z : Stretch). Tallies z (run.andThen y on))
         (on-course (λ (c : Course) (r : State). Tally (next .wires) c r)
-        (λ f. subst (λ (c : Course). Tally (next .wires) (thenCourse c course₂) (on (y .state) .state)) (sym p) (alive l e u w))
+        (λ f. subst (λ (c : Course). Tally (next .wires) (onward c course₂) (on (y .state) .state)) (sym p) (alive l e u w))
         (λ f. not-both (isOver (y .state .outcome)) f (ap isOver u)))
     tally-then (lost e l q) alive dead misses =
         open-wires e (λ (z : Stretch). Tallies z (run.andThen y on))
         (not-here (next .wires) _ _ (dead e l)
         (on-course Ended (λ f. still f q) (λ f. q)))
       where
-        still : isOver (y .state .outcome) ≡ false → Ended course₁ (y .state) → Ended (thenCourse course₁ course₂) (on (y .state) .state)
-        still f (inl a) = inl (ap (λ (c : Course). thenCourse c course₂) a)
+        still : isOver (y .state .outcome) ≡ false → Ended course₁ (y .state) → Ended (onward course₁ course₂) (on (y .state) .state)
+        still f (inl a) = inl (record { number = a .number; astray = ap (λ (c : Course). onward c course₂) (a .astray) })
         still f (inr a) = not-both (isOver (y .state .outcome)) (a .1) f
     tally-then (missed m l q) alive dead misses =
         made-wires m (λ (z : Stretch). Tallies z (run.andThen y on))
@@ -113,4 +120,4 @@ module _ (bs : List ℕ) (h : Header) (fine : Fine bs h) (t : Target) (ds : List
     tally-then (here side array index m l p q) alive dead misses =
         made-wires (ap isMade m) (λ (z : Stretch). Tallies z (run.andThen y on))
         (here side array index m l
-        (on-course (λ (c : Course) (r : State). c ≡ arrived array index) (λ f. ap (λ (c : Course). thenCourse c course₂) p) (λ f. p)) q)
+        (on-course (λ (c : Course) (r : State). c ≡ Course.Arrived array index) (λ f. ap (λ (c : Course). onward c course₂) p) (λ f. p)) q)

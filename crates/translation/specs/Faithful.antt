@@ -16,13 +16,14 @@ use Rattle.machine.specs.State.{lies}
 use Rattle.run.specs.Run.{runOf}
 use Rattle.run.specs.declared.Listed.{Listed}
 use Rattle.machine.specs.declared.Lies.{Lies}
+use Rattle.course.specs.Course.{course}
+use Rattle.course.specs.declared.Course.{Course}
 use Rattle.bits.specs.Input.{bitsOfWord}
 use Rattle.netlist.specs.Node.{clausesOf}
 use Rattle.clauses.specs.Meaning.{Assign, lit, sat}
 use Rattle.netlist.specs.Meaning.{Inputs, Extends, Agree}
 use Rattle.wiring.specs.Command.{Stretch}
 use Rattle.translation.specs.Translation.{whole}
-use Rattle.translation.specs.Course.{Course, arrived, course}
 use Rattle.machine.specs.Side.{sideOf}
 use Rattle.wiring.specs.declared.Claim.{Claim}
 use Rattle.lead.specs.declared.Target.{Target}
@@ -44,7 +45,7 @@ courseOf bs t ds h a ins = course ds (t .access) (runOf bs ins h a .events)
 pub record Arrives (x : Course) : Type 0 where
   pub array : ℕ
   pub index : Whole
-  pub there : x ≡ arrived array index
+  pub there : x ≡ Course.Arrived array index
 
 -- For each accepted input list just one assignment, on the variables, extends it and satisfies the clauses before the last two. There the arrival literal
 -- is true exactly when the run comes to the named access by the decisions, and then the side literal exactly when the index lies on that side.
@@ -59,5 +60,5 @@ pub record Faithful (bs : List ℕ) (t : Target) (ds : List ℕ) (h : Header) (a
   pub arrives : (ins : List ℕ) → listed bs ins h a k ≡ Listed.Accepted → (ρ : Assign) → Solves ins (whole bs t ds h a) ρ
       → (lit ρ arrival ≡ true) ↔ Arrives (courseOf bs t ds h a ins)
   pub lies : (ins : List ℕ) → listed bs ins h a k ≡ Listed.Accepted → (ρ : Assign) → Solves ins (whole bs t ds h a) ρ
-      → (array : ℕ) (index : Whole) → courseOf bs t ds h a ins ≡ arrived array index
+      → (array : ℕ) (index : Whole) → courseOf bs t ds h a ins ≡ Course.Arrived array index
       → (lit ρ side ≡ true) ↔ (lies (arraySize bs h array) index ≡ Lies.Outside (sideOf (t .side)))

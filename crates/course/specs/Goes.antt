@@ -1,0 +1,20 @@
+-- A run goes the way of the decisions as far as they matter, and comes to an access.
+use Prim.Native.Nat.{ℕ}
+use mathlib.Core.Path.{_≡_}
+use mathlib.Core.List.{List, [], _∷_, _++_}
+use mathlib.Core.Bool.{Bool, true, _&&_}
+use Rattle.bitvec.specs.declared.Whole.{Whole}
+use Rattle.run.specs.Run.{Event, took, came}
+use Rattle.course.specs.Course.{keeps}
+
+-- at every if that the run comes to and that stands before the access, it takes the decided arm, if one is decided
+unfoldable pub goesWay : (ds : List ℕ) → (access : ℕ) → List Event → Bool
+goesWay ds access [] = true
+goesWay ds access (took number arm before ∷ es) = keeps ds access number arm before && goesWay ds access es
+goesWay ds access (came number array index ∷ es) = goesWay ds access es
+
+-- the run comes to the access, in an array, with an index
+pub record Comes (access array : ℕ) (index : Whole) (es : List Event) : Type 0 where
+  pub before : List Event
+  pub after : List Event
+  pub there : es ≡ before ++ came access array index ∷ after

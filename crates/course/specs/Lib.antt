@@ -1,0 +1,3 @@
+pub mod Course
+pub mod Goes
+pub mod Walker

@@ -1,0 +1,80 @@
+-- What the walkers over the bytes of an accepted routine tell of the course: of whatever tree was decoded, of whatever arm stands there.
+use Prim.Native.Nat.{ℕ, _+_}
+use mathlib.Core.Path.{_≡_}
+use mathlib.Core.List.{List, _∷_, []}
+use mathlib.Core.Bool.{Bool, true, false, cond}
+use lib.Dec.{eqb}
+use Rattle.command.specs.Command.{sizeOfSimple}
+use Rattle.command.specs.Step.{oneIf, accesses, after}
+use Rattle.routine.specs.Routine.{Arm}
+use Rattle.routine.specs.Decode.{routine, decode}
+use Rattle.routine.specs.Stands.{Stands}
+use Rattle.header.specs.declared.Header.{Header}
+use Rattle.command.specs.declared.Condition.{Condition}
+use Rattle.command.specs.declared.Counts.{Counts}
+use Rattle.command.specs.declared.Simple.{Simple}
+use Rattle.machine.specs.State.{take, holds, indexOf, carry}
+use Rattle.machine.specs.declared.State.{State}
+use Rattle.run.specs.Run.{Stretch, took, eventsAt, runArm, runOf}
+use Rattle.run.specs.Run as run
+use Rattle.run.specs.Walker.{isOver}
+use Rattle.course.specs.Course.{course}
+use Rattle.course.specs.declared.Course.{Course}
+use Rattle.course.specs.declared.Way.{Way}
+
+-- the run went astray or came to the access
+abbrev pub settled : Course → Bool
+settled (Course.Astray number) = true
+settled Course.Passing = false
+settled (Course.Arrived array index) = true
+
+-- the course is settled, or an access before the named one stopped the run
+abbrev pub isDone : Way → Bool
+isDone w = cond (settled (w .course)) true (isOver (w .state .outcome))
+
+-- the walk at an offset, with the counts there
+abbrev pub wayAt : ℕ → Counts → State → Course → Way
+wayAt next counts state course = record { next = next; counts = counts; state = state; course = course }
+
+-- the arm that an if takes: 0 first, 1 else
+unfoldable pub armAt : List ℕ → Condition → State → ℕ
+armAt bs c s = cond (holds bs c s) 0 1
+
+-- what an access says of the course, the counts before it being k
+unfoldable pub arrivalAt : List ℕ → State → (access : ℕ) → Counts → (array i : ℕ) → Course
+arrivalAt bs s access k array i = cond (eqb (accesses k) access) (Course.Arrived array (indexOf bs s i)) Course.Passing
+
+-- the walk after a command that is no if
+unfoldable pub stepOn : (bs ins : List ℕ) → (access : ℕ) → Header → Simple → Way → Way
+stepOn bs ins access h c w =
+    wayAt (w .next + sizeOfSimple c) (after c (w .counts)) (carry bs ins h c (w .counts) (w .state))
+    (course [] access (eventsAt bs c (w .counts) (w .state)))
+
+-- the walk has the course of the stretch x, and where that is not settled, its state; where it goes on, it is at `end` with the counts k
+pub record Arrives (ds : List ℕ) (access : ℕ) (x : Stretch) (end : ℕ) (k : Counts) (r : Way) : Type 0 where
+  pub course : r .course ≡ course ds access (x .events)
+  pub state : settled (r .course) ≡ false → r .state ≡ x .state
+  pub next : isDone r ≡ false → r .next ≡ end
+  pub counts : isDone r ≡ false → r .counts ≡ k
+
+-- an arm, followed from where the walk w is
+pub record FollowsArm (bs ins ds : List ℕ) (access : ℕ) (h : Header) (depth close : ℕ) (w r : Way) : Type 0 where
+  pub tells : (a : Arm) (end : ℕ) (k₁ : Counts) → Stands bs h depth close (w .next) (w .counts) a end k₁
+      → Arrives ds access (runArm bs ins h a (w .state)) end k₁ r
+
+-- the stretch of an if with these arms, where the counts are k
+abbrev pub stretchOfIf : (bs ins : List ℕ) → Header → Condition → Counts → (first second : Arm) → State → Stretch
+stretchOfIf bs ins h c k first second s =
+    cond (holds bs c s)
+    (run.after (took (k .ifs) 0 (accesses k) ∷ []) (runArm bs ins h first (take s (k .ifs) 0)))
+    (run.after (took (k .ifs) 1 (accesses k) ∷ []) (runArm bs ins h second (take s (k .ifs) 1)))
+
+-- an if, followed from where the walk w is
+pub record FollowsIf (bs ins ds : List ℕ) (access : ℕ) (h : Header) (depth : ℕ) (c : Condition) (w r : Way) : Type 0 where
+  pub tells : (first : Arm) (else : ℕ) (k₁ : Counts) (second : Arm) (end : ℕ) (k₂ : Counts)
+      → Stands bs h (depth + 1) 0x0C (w .next + 4) (oneIf (w .counts)) first else k₁ → Stands bs h (depth + 1) 0x0D else k₁ second end k₂
+      → Arrives ds access (stretchOfIf bs ins h c (w .counts) first second (w .state)) end k₂ r
+
+-- the course of the whole run is r
+pub record FollowsRoutine (bs ins ds : List ℕ) (access : ℕ) (h : Header) (r : Course) : Type 0 where
+  pub tells : (a : Arm) (k : Counts) → decode bs ≡ routine h a k → r ≡ course ds access (runOf bs ins h a .events)
