@@ -2,7 +2,7 @@
 mod parameters;
 pub mod refusals;
 mod walks;
-mod wholes;
+pub mod wholes;
 
 use command::Counts;
 use lead::Admitted;

@@ -1,0 +1,67 @@
+-- What is said of the witness, from what the parts answered. Assumes nothing.
+use mathlib.Core.Path.{_≡_, refl, sym, ap, _∙_}
+use mathlib.Core.List.{List}
+use Prim.Native.Nat.{ℕ, _+_}
+use lib.ListN.{length, take}
+use Rattle.header.specs.declared.Header.{Header}
+use Rattle.command.specs.declared.Counts.{Counts}
+use Rattle.routine.specs.Routine.{Arm}
+use Rattle.routine.specs.Decode.{routine, decode}
+use Rattle.run.specs.Inputs.{listed}
+use Rattle.run.specs.Run.{runOf}
+use Rattle.run.specs.Walker.{Lists}
+use Rattle.run.specs.declared.Listed.{Listed}
+use Rattle.course.specs.Course.{course}
+use Rattle.course.specs.Walker.{FollowsRoutine}
+use Rattle.course.specs.declared.Course.{Course}
+use Rattle.lead.specs.declared.Target.{Target}
+use Rattle.witness.specs.Lead.{decisionsIn, wordsFrom, inputCount, witnessIn, leadOf}
+use Rattle.witness.specs.Witness.{byCourse, byOpened, witnessOf, Witnesses, Settles}
+use Rattle.witness.specs.declared.Opened.{Opened}
+use Rattle.witness.specs.declared.Refusal.{Refusal}
+use Rattle.witness.specs.declared.Witness.{Witness}
+use Rattle.witness.proofs.Words.{filled, filled-front, words-length}
+
+-- ---- the inputs, lent as the first places of an array
+
+module _ (r : List ℕ) (h : Header) (k : Counts) (n : ℕ) (is : n ≡ inputCount h k) (xs : List ℕ) (e : xs ≡ filled r (2 + k .ifs) n) where
+  front : take n xs ≡ wordsFrom r (2 + k .ifs) n
+  front = ap (take n) e ∙ filled-front r (2 + k .ifs) n
+
+  pub inputs-length : n ≡ length (take n xs)
+  inputs-length = sym (ap length front ∙ words-length r (2 + k .ifs) n)
+
+  pub inputs-are : take n xs ≡ witnessIn r h k
+  inputs-are = front ∙ ap (wordsFrom r (2 + k .ifs)) is
+
+-- ---- the witness's run
+
+module _ (bs r : List ℕ) (h : Header) (k : Counts) (t : Target) (ins : List ℕ) (same : ins ≡ witnessIn r h k) (l : Listed) (lists : Lists bs ins h k l) where
+  said : (x : Listed) → l ≡ x → (a : Arm) → decode bs ≡ routine h a k → listed bs (witnessIn r h k) h a k ≡ x
+  said x e a d = ap (λ (z : List ℕ). listed bs z h a k) (sym same) ∙ sym (lists .tells a d) ∙ e
+
+  pub settled : l ≡ Listed.Accepted → (ds : List ℕ) → ds ≡ decisionsIn r k → (x : Course) → FollowsRoutine bs ins ds (t .access) h x
+      → (w : Witness) → w ≡ byCourse bs h t x → Settles bs r h k t w
+  settled e ds by x follows w is = record {
+    tells = λ a d.
+        rw (said Listed.Accepted e a d)
+        (is ∙ ap (byCourse bs h t) (follows .tells a k d ∙ ap (λ (z : List ℕ). course z (t .access) (runOf bs ins h a .events)) by
+        ∙ ap (λ (z : List ℕ). course (decisionsIn r k) (t .access) (runOf bs z h a .events)) same));
+  }
+
+  pub settled-cut : l ≡ Listed.Miscounted → Settles bs r h k t (Witness.Refused (Refusal.Cut (length r)))
+  settled-cut e = record { tells = λ a d. rw (said Listed.Miscounted e a d) refl }
+
+  pub settled-great : (n : ℕ) → l ≡ Listed.TooGreat n → Settles bs r h k t (Witness.Refused (Refusal.Input n))
+  settled-great n e = record { tells = λ a d. rw (said (Listed.TooGreat n) e a d) refl }
+
+-- ---- the whole
+
+module _ (bs r : List ℕ) (h : Header) (k : Counts) (x : Opened) (is : x ≡ leadOf r h k) where
+  pub witness-refused : (refusal : Refusal) → x ≡ Opened.Refused refusal → Witnesses bs r h k (Witness.Refused refusal)
+  unfolding witnessOf
+  witness-refused refusal e = record { tells = λ a d. ap (byOpened bs r h a k) (sym e ∙ is) }
+
+  pub witness-settled : (t : Target) → x ≡ Opened.Opens t → (w : Witness) → Settles bs r h k t w → Witnesses bs r h k w
+  unfolding witnessOf
+  witness-settled t e w s = record { tells = λ a d. s .tells a d ∙ ap (byOpened bs r h a k) (sym e ∙ is) }

@@ -1,0 +1,54 @@
+use mathlib.Core.Path.{refl}
+use Rattle.witness.specs.Witness.{byCourse}
+use borrow.Author.Needs.{needs}
+use Rattle.witness.proofs.settling.by_course.Statement.{statement}
+use Rattle.witness.proofs.settling.by_course.Tie as tie
+
+enum-known-course : tie.Need-enum-known-course
+enum-known-course c = search needs
+
+enum-told : tie.Need-enum-told
+enum-told c = search needs
+
+enum-known-course-2 : tie.Need-enum-known-course-2
+enum-known-course-2 c = search needs
+
+size-of-array-requires : tie.Need-size-of-array-requires
+size-of-array-requires c κs = search needs
+
+lies-at-requires : tie.Need-lies-at-requires
+lies-at-requires c κs = search needs
+
+is-on-requires : tie.Need-is-on-requires
+is-on-requires c κs = search needs
+
+returns : tie.Need-returns
+unfolding byCourse
+returns c = rw (c .before .course .given .1) refl
+
+returns-2 : tie.Need-returns-2
+unfolding byCourse
+returns-2 c = rw (c .enum-told .given .1) refl
+
+returns-3 : tie.Need-returns-3
+unfolding byCourse
+returns-3 c = rw (c .before .before .before .before .before .course2 .given .1, ← c .before .before .before .size-of-array .ensures, ← c .before .before .lies-at .ensures, ← c .before .is-on .ensures, c .if1 .taken) refl
+
+returns-4 : tie.Need-returns-4
+unfolding byCourse
+returns-4 c = rw (c .before .before .before .before .before .course2 .given .1, ← c .before .before .before .size-of-array .ensures, ← c .before .before .lies-at .ensures, ← c .before .is-on .ensures, c .if1 .left) refl
+
+pub by-course-spec : {M : Type 1} → statement M
+by-course-spec =
+    tie.close
+    (tie.spec
+    enum-known-course
+    enum-told
+    enum-known-course-2
+    size-of-array-requires
+    lies-at-requires
+    is-on-requires
+    returns
+    returns-2
+    returns-3
+    returns-4)

@@ -1,0 +1,53 @@
+-- The lead of a report: access, side, a decision for each if, the witness's inputs of four bytes each. The proof begins after it.
+use Prim.Native.Nat.{ℕ, zero, suc, _+_, _*_}
+use mathlib.Core.List.{List, [], _∷_}
+use mathlib.Core.Bool.{cond}
+use lib.ListN.{length, take, drop}
+use lib.Dec.{leb}
+use Rattle.slices.specs.Bytes.{entry, word}
+use Rattle.header.specs.declared.Header.{Header}
+use Rattle.command.specs.declared.Counts.{Counts}
+use Rattle.lead.specs.Lead.{targetOf, admittedLead}
+use Rattle.lead.specs.declared.Target.{Target}
+use Rattle.lead.specs.declared.Admitted.{Admitted}
+use Rattle.witness.specs.declared.Refusal.{Refusal}
+use Rattle.witness.specs.declared.Opened.{Opened}
+
+-- the named access and side
+abbrev pub targetIn : List ℕ → Target
+targetIn r = targetOf (entry r 0) (entry r 1)
+
+-- the decisions
+abbrev pub decisionsIn : List ℕ → Counts → List ℕ
+decisionsIn r k = take (k .ifs) (drop 2 r)
+
+-- n words from an offset on
+unfoldable pub wordsFrom : List ℕ → (at n : ℕ) → List ℕ
+wordsFrom r at zero = []
+wordsFrom r at (suc n) = word r at ∷ wordsFrom r (at + 4) n
+
+-- how many inputs the routine takes: one for each parameter and each read
+abbrev pub inputCount : Header → Counts → ℕ
+inputCount h k = h .parameters + k .reads
+
+-- the witness: the input list in the lead
+abbrev pub witnessIn : List ℕ → Header → Counts → List ℕ
+witnessIn r h k = wordsFrom r (2 + k .ifs) (inputCount h k)
+
+-- where the proof begins
+abbrev pub proofAt : Header → Counts → ℕ
+proofAt h k = 2 + k .ifs + 4 * inputCount h k
+
+-- what 12 says
+abbrev pub byAdmitted : Target → Admitted → Opened
+byAdmitted t (Admitted.Refused refusal) = Opened.Refused (Refusal.Lead refusal)
+byAdmitted t (Admitted.Translates h) = Opened.Opens t
+
+-- 11: the report is over 16,777,216, or the lead is cut short; then 12
+unfoldable pub leadOf : List ℕ → Header → Counts → Opened
+leadOf r h k =
+    cond (leb (length r) 16777216)
+    (cond (leb (proofAt h k) (length r))
+    (byAdmitted (targetIn r) (admittedLead (targetIn r) (decisionsIn r k) h k))
+    (Opened.Refused (Refusal.Cut (length r))))
+    (Opened.Refused (Refusal.Cut (length r)))

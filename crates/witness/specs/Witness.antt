@@ -1,0 +1,64 @@
+-- The witness: its input list is accepted, and its run goes the report's way, comes to the named access, and has its index there on the side.
+use Prim.Native.Nat.{ℕ}
+use mathlib.Core.Path.{_≡_}
+use mathlib.Core.List.{List}
+use mathlib.Core.Bool.{Bool, false, cond}
+use lib.ListN.{length}
+use lib.Dec.{eqb}
+use Rattle.header.specs.Header.{arraySize}
+use Rattle.header.specs.declared.Header.{Header}
+use Rattle.command.specs.declared.Counts.{Counts}
+use Rattle.routine.specs.Routine.{Arm}
+use Rattle.routine.specs.Decode.{routine, decode}
+use Rattle.machine.specs.Side.{sideNumber}
+use Rattle.machine.specs.State.{lies}
+use Rattle.machine.specs.declared.Lies.{Lies}
+use Rattle.run.specs.Inputs.{listed}
+use Rattle.run.specs.Run.{runOf}
+use Rattle.run.specs.declared.Listed.{Listed}
+use Rattle.course.specs.Course.{course}
+use Rattle.course.specs.declared.Course.{Course}
+use Rattle.lead.specs.declared.Target.{Target}
+use Rattle.witness.specs.Lead.{decisionsIn, witnessIn, leadOf}
+use Rattle.witness.specs.declared.Refusal.{Refusal}
+use Rattle.witness.specs.declared.Opened.{Opened}
+use Rattle.witness.specs.declared.Witness.{Witness}
+
+-- an index lies on the side of a number
+abbrev pub isOn : (side : ℕ) → Lies → Bool
+isOn side Lies.Inside = false
+isOn side (Lies.Outside s) = eqb side (sideNumber s)
+
+-- 13 or 14, then 15
+unfoldable pub byCourse : List ℕ → Header → Target → Course → Witness
+byCourse bs h t (Course.Astray number) = Witness.Refused (Refusal.Astray number)
+byCourse bs h t Course.Passing = Witness.Refused (Refusal.Missed (t .access))
+byCourse bs h t (Course.Arrived array index) =
+    cond (isOn (t .side) (lies (arraySize bs h array) index)) (Witness.Stands t array index) (Witness.Refused (Refusal.OffSide (t .access)))
+
+-- 10, then the course; the inputs in a lead that is not cut short are never too few
+abbrev pub byListed : (bs r : List ℕ) → Header → Target → Course → Listed → Witness
+byListed bs r h t x Listed.Accepted = byCourse bs h t x
+byListed bs r h t x Listed.Miscounted = Witness.Refused (Refusal.Cut (length r))
+byListed bs r h t x (Listed.TooGreat n) = Witness.Refused (Refusal.Input n)
+
+-- the course of the witness's run
+abbrev pub witnessCourse : (bs r : List ℕ) → Header → Arm → Counts → Target → Course
+witnessCourse bs r h a k t = course (decisionsIn r k) (t .access) (runOf bs (witnessIn r h k) h a .events)
+
+-- 11 and 12, then the witness
+abbrev pub byOpened : (bs r : List ℕ) → Header → Arm → Counts → Opened → Witness
+byOpened bs r h a k (Opened.Refused refusal) = Witness.Refused refusal
+byOpened bs r h a k (Opened.Opens t) = byListed bs r h t (witnessCourse bs r h a k t) (listed bs (witnessIn r h k) h a k)
+
+-- what is said of a report on a routine, as far as its proof
+unfoldable pub witnessOf : (bs r : List ℕ) → Header → Arm → Counts → Witness
+witnessOf bs r h a k = byOpened bs r h a k (leadOf r h k)
+
+-- this is said of a report on whatever was decoded
+pub record Witnesses (bs r : List ℕ) (h : Header) (k : Counts) (w : Witness) : Type 0 where
+  pub tells : (a : Arm) → decode bs ≡ routine h a k → w ≡ witnessOf bs r h a k
+
+-- the same of a report whose lead names the target
+pub record Settles (bs r : List ℕ) (h : Header) (k : Counts) (t : Target) (w : Witness) : Type 0 where
+  pub tells : (a : Arm) → decode bs ≡ routine h a k → w ≡ byOpened bs r h a k (Opened.Opens t)

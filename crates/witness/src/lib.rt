@@ -1,0 +1,54 @@
+// A report as far as its proof: the lead, the witness's inputs in it, and the witness's run.
+mod inputs;
+pub mod leads;
+pub mod refusals;
+mod settling;
+
+use bitvec::Whole;
+use command::Counts;
+use header::Header;
+use lead::Target;
+ghost use Rattle.routine.specs.Decode.{Counted};
+ghost use Rattle.witness.specs.Witness.{Witnesses};
+
+// Why a report is turned down before its proof is looked at.
+pub enum Refusal {
+    Lead(lead::Refusal),
+    // the report, of this length, is too long, or its lead is cut short
+    Cut(usize),
+    // the input word of this number is too great
+    Input(usize),
+    // the witness takes another arm at the if of this number
+    Astray(u8),
+    // the witness does not come to this access
+    Missed(u8),
+    // the index there is not on the side
+    OffSide(u8),
+}
+
+// What is said of a lead: what it names, or why it is turned down.
+pub enum Opened {
+    Refused(Refusal),
+    Opens(Target),
+}
+
+// What is said of a report as far as its proof: what it names, and the array and the index that the witness has there.
+pub enum Witness {
+    Refused(Refusal),
+    Stands {
+        target: Target,
+        array: u8,
+        index: Whole,
+    },
+}
+
+// Looks at the lead of a report on a routine with these counts, and runs its witness as far as the named access.
+pub fn run_witness(routine: &[u8], report: &[u8], h: Header, k: Counts) -> Witness
+    requires { ⌜ Counted (now routine) h k ⌝ }
+    ensures { λ r. ⌜ Witnesses (now (routine .entry)) (now (report .entry)) h k r ⌝ }
+{
+    match leads::open(report, h, k) {
+        Opened::Refused(refusal) => Witness::Refused(refusal),
+        Opened::Opens(t) => settling::settle(routine, report, h, k, t),
+    }
+}

@@ -1,0 +1,74 @@
+// The witness's run: 10, 13 or 14, then 15.
+use crate::Refusal;
+use crate::Witness;
+use crate::inputs::words_from;
+use crate::leads::input_count;
+use command::Counts;
+use course::Course;
+use course::follow;
+use header::Header;
+use header::size_of_array;
+use lead::Target;
+use machine::Lies;
+use machine::Side;
+use machine::states::lies_at;
+use run::Listed;
+use run::inputs::check_inputs;
+ghost use mathlib.Core.Path.{_≡_};
+ghost use Prim.Native.Nat.{_≤_};
+ghost use lib.ListN.{length};
+ghost use Rattle.routine.specs.Decode.{IsRoutine};
+ghost use Rattle.witness.specs.Lead.{inputCount, proofAt};
+ghost use Rattle.witness.specs.Witness.{isOn, byCourse, Settles};
+
+// Whether an index lies on the side of a number.
+fn is_on(side: u8, lies: Lies) -> bool
+    ensures { λ r. ⌜ r ≡ isOn side lies ⌝ }
+{
+    match lies {
+        Lies::Inside => false,
+        Lies::Outside(s) => match s {
+            Side::Below => side == 0,
+            Side::Above => side == 1,
+        },
+    }
+}
+
+// 13 or 14, then 15.
+fn by_course(routine: &[u8], h: Header, t: Target, course: Course) -> Witness
+    ensures { λ r. ⌜ r ≡ byCourse (now (routine .entry)) h t course ⌝ }
+{
+    match course {
+        Course::Astray(number) => Witness::Refused(Refusal::Astray(number)),
+        Course::Passing => Witness::Refused(Refusal::Missed(t.access)),
+        Course::Arrived { array, index } => {
+            if is_on(t.side, lies_at(size_of_array(routine, h, array), index)) {
+                Witness::Stands {
+                    target: t,
+                    array,
+                    index,
+                }
+            } else {
+                Witness::Refused(Refusal::OffSide(t.access))
+            }
+        }
+    }
+}
+
+// The witness of a report whose lead is whole and names t.
+pub fn settle(routine: &[u8], report: &[u8], h: Header, k: Counts, t: Target) -> Witness
+    requires { ⌜ IsRoutine (now routine) h × (proofAt h k ≤ length (now report)) × (inputCount h k ≤ 96) ⌝ }
+    ensures { λ r. ⌜ Settles (now (routine .entry)) (now (report .entry)) h k t r ⌝ }
+{
+    let n = input_count(h, k);
+    let end = 2 + k.ifs as usize;
+    let words = words_from(report, end, n);
+    match check_inputs(routine, &words[..n], h, k) {
+        Listed::Accepted => {
+            let course = follow(routine, &words[..n], &report[2..end], t.access, h);
+            by_course(routine, h, t, course)
+        }
+        Listed::Miscounted => Witness::Refused(Refusal::Cut(report.len())),
+        Listed::TooGreat(number) => Witness::Refused(Refusal::Input(number)),
+    }
+}
