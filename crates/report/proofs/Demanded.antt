@@ -1,0 +1,178 @@
+-- Demand 3: what an accepted report says of every run. Assumes nothing.
+use mathlib.Core.Path.{_≡_, refl, sym, ap, subst, _∙_}
+use mathlib.Core.List.{List, _++_}
+use mathlib.Core.Bool.{Bool, true, false, cond, not, _&&_, _||_}
+use Prim.Native.Nat.{ℕ, _+_}
+use native.Mathlib.Omega.{arith}
+use lib.Dec.{leb}
+use Rattle.bitvec.specs.declared.Whole.{Whole}
+use Rattle.header.specs.Header.{arraySize}
+use Rattle.header.specs.declared.Header.{Header}
+use Rattle.command.specs.declared.Counts.{Counts}
+use Rattle.routine.specs.Routine.{Arm}
+use Rattle.routine.specs.Decode.{Decoded, rejected, routine, decode}
+use Rattle.machine.specs.Side.{sideOf}
+use Rattle.machine.specs.State.{lies}
+use Rattle.machine.specs.declared.Lies.{Lies}
+use Rattle.run.specs.Answer.{ranBy}
+use Rattle.run.specs.Inputs.{listed}
+use Rattle.run.specs.Run.{runOf}
+use Rattle.run.specs.declared.Listed.{Listed}
+use Rattle.run.proofs.Outside.{Ends, ends}
+use Rattle.course.specs.Course.{course}
+use Rattle.course.specs.Goes.{goesWay, Comes}
+use Rattle.course.specs.declared.Course.{Course}
+use Rattle.course.proofs.Arriving.{comes, goes, same, arrives}
+use Rattle.clauses.specs.Clause.{Clause}
+use Rattle.clauses.specs.Meaning.{Assign, lit, satClause, sat}
+use Rattle.netlist.specs.Node.{clausesOf}
+use Rattle.netlist.proofs.Literals.{lit-opp}
+use Rattle.netlist.proofs.Truth.{sat-append}
+use Rattle.lead.specs.declared.Target.{Target}
+use Rattle.translation.specs.Faithful.{Faithful}
+use Rattle.translation.specs.Translation.{whole, lastClauses, clausesOfAll, sizeOf}
+use Rattle.translation.proofs.Demand.{faithful}
+use Rattle.proof.specs.Check.{checkProof}
+use Rattle.proof.proofs.Soundness.{sound}
+use Rattle.step.specs.declared.Verdict.{Verdict}
+use Rattle.wiring.specs.Command.{Stretch}
+use Rattle.wiring.specs.declared.Claim.{Claim}
+use Rattle.witness.specs.Lead.{decisionsIn, witnessIn, proofAt}
+use Rattle.witness.specs.Witness.{witnessOf}
+use Rattle.witness.specs.declared.Witness.{Witness}
+use Rattle.witness.proofs.Opening.{lets}
+use Rattle.witness.proofs.Standing.{Stood, stood}
+use Rattle.report.specs.Demand.{StopsOutside, Finding, Found, Demand3}
+use Rattle.report.specs.Judging.{Room, byVerdict, limitsIn, provedBy, byProof, byWitness, byRoutine, judgement}
+use Rattle.report.specs.declared.Judged.{Judged}
+use Rattle.report.specs.declared.Proved.{Proved}
+use Rattle.report.specs.declared.Refusal.{Refusal}
+
+-- the same index in the same array
+lies-same : (bs : List ℕ) (h : Header) (array₁ array : ℕ) (index₁ index : Whole) → array₁ ≡ array → index₁ ≡ index → (l : Lies)
+    → lies (arraySize bs h array) index ≡ l → lies (arraySize bs h array₁) index₁ ≡ l
+lies-same bs h array₁ array index₁ index p q l e = rw (p, q) e
+
+-- ---- clauses that nothing satisfies
+
+module _ (ρ : Assign) (arrival side : ℕ) where
+  -- where the other clauses hold and the arrival literal is true, the last clause is to blame: the side literal is true
+  side-true : (cs : List Clause) → sat ρ (cs ++ lastClauses (Claim.Made arrival side)) ≡ false → sat ρ cs ≡ true → lit ρ arrival ≡ true → lit ρ side ≡ true
+  unfolding sat satClause
+  side-true cs e all come =
+      pick (lit ρ side) refl (rw (all, come, lit-opp ρ side) at (sym (sat-append ρ cs (lastClauses (Claim.Made arrival side))) ∙ e))
+    where
+      pick : (b : Bool) → lit ρ side ≡ b → (not (lit ρ side) || false) && true ≡ false → lit ρ side ≡ true
+      pick true q z = q
+      pick false q z = let y : true ≡ false = rw q at z in let x : _≡_ {A = ℕ} 0 1 = cc in absurd (omega arith)
+
+-- ---- a proof that was accepted
+
+module _ (steps hints : ℕ) where
+  past : (b : Bool) (x : Proved) (refusal : Refusal) → cond b x (Proved.Refused refusal) ≡ Proved.Closed steps hints → x ≡ Proved.Closed steps hints
+  past true x refusal e = e
+  past false x refusal e = let z : _≡_ {A = ℕ} 0 1 = cc in absurd (omega arith)
+
+  by-verdict : (v : Verdict) → byVerdict v ≡ Proved.Closed steps hints → v ≡ Verdict.Accepted steps hints
+  by-verdict (Verdict.Accepted steps₁ hints₁) e =
+      let p : steps₁ ≡ steps = cc in
+      let q : hints₁ ≡ hints = cc in
+      rw (p, q) refl
+  by-verdict (Verdict.Refused refusal) e = let z : _≡_ {A = ℕ} 0 1 = cc in absurd (omega arith)
+
+  verdict-was : (r : List ℕ) (from : ℕ) (m : Room) (h : Header) (k : Counts) (x : Stretch) → provedBy r from m h k x ≡ Proved.Closed steps hints
+      → checkProof (clausesOfAll x) (limitsIn m x) r from .verdict ≡ Verdict.Accepted steps hints
+  unfolding provedBy
+  verdict-was r from m h k x e =
+      by-verdict _
+      (past (leb (k .ifs) (m .trail)) _ _
+      (past (leb (h .variables) (m .values)) _ _
+      (past (leb (sizeOf x .variables + 1) (m .marks)) _ _
+      (past (leb (sizeOf x .clauses) (m .starts)) _ _
+      (past (leb (sizeOf x .words) (m .words)) _ _ e)))))
+
+-- ---- what an accepted report says of the runs
+
+module _ (bs r : List ℕ) (h : Header) (a : Arm) (k : Counts) (d : decode bs ≡ routine h a k) (t : Target) (array : ℕ) (index : Whole)
+    (s : Stood bs r h a k t array index)
+    (unsatisfied : (σ : Assign) → sat σ (clausesOfAll (whole bs t (decisionsIn r k) h a)) ≡ false) where
+  abbrev ds : List ℕ
+  ds = decisionsIn r k
+
+  abbrev x : Stretch
+  x = whole bs t ds h a
+
+  claim : Faithful bs t ds h a k
+  claim = let l = lets r h k t _ (sym (s .opens)) refl .range in faithful bs t ds h a k d (l .access) (l .side) (l .decisions)
+
+  -- every accepted input list whose run arrives has its index outside
+  outside : (ins : List ℕ) → listed bs ins h a k ≡ Listed.Accepted → (array₁ : ℕ) (index₁ : Whole)
+      → course ds (t .access) (runOf bs ins h a .events) ≡ Course.Arrived array₁ index₁
+      → lies (arraySize bs h array₁) index₁ ≡ Lies.Outside (sideOf (t .side))
+  unfolding clausesOfAll
+  outside ins ok array₁ index₁ e =
+      let ρ : Assign = claim .solution ins ok in
+      let y = claim .solves ins ok in
+      let come : lit ρ (claim .arrival) ≡ true = claim .arrives ins ok ρ y .1 (record { array = array₁; index = index₁; there = e }) in
+      let none : sat ρ (clausesOf 1 (x .nodes) ++ lastClauses (Claim.Made (claim .arrival) (claim .side))) ≡ false = rw (claim .claims) at (unsatisfied ρ) in
+      claim .lies ins ok ρ y array₁ index₁ e .0 (side-true ρ (claim .arrival) (claim .side) (clausesOf 1 (x .nodes)) none (y .satisfies) come)
+
+  finding : Finding bs ds (witnessIn r h k) h a k (t .access) (t .side) array index
+  finding = record {
+    accepted = s .accepted;
+    goes = goes ds (t .access) bs h _ _ _ array index (ends bs h (witnessIn r h k) a) (s .arrived) (s .outside);
+    comes = comes ds (t .access) _ array index (s .arrived);
+    every = λ ins ok way array₁ index₁ c. stops ins ok way array₁ index₁ c;
+  }
+    where
+      stops : (ins : List ℕ) → listed bs ins h a k ≡ Listed.Accepted → goesWay ds (t .access) (runOf bs ins h a .events) ≡ true
+          → (array₁ : ℕ) (index₁ : Whole) → Comes (t .access) array₁ index₁ (runOf bs ins h a .events)
+          → StopsOutside bs h (t .access) (sideOf (t .side)) array₁ index₁ (runOf bs ins h a)
+      stops ins ok way array₁ index₁ c =
+          let z = arrives ds (t .access) (c .before) array₁ index₁ (c .after) (sym (ap (goesWay ds (t .access)) (c .there)) ∙ way) in
+          let l = outside ins ok (z .array) (z .index) (ap (course ds (t .access)) (c .there) ∙ z .there) in
+          let n = same ds (t .access) bs h (runOf bs ins h a .state .outcome) (sideOf (t .side)) (c .before) array₁ index₁ (c .after) (z .array) (z .index) (subst (λ es. Ends bs h es (runOf bs ins h a .state .outcome)) (c .there) (ends bs h ins a)) (z .there) l in
+          record { stops = ap ranBy (n .2); outside = lies-same bs h array₁ (z .array) index₁ (z .index) (n .0) (n .1) _ l }
+
+-- ---- the whole
+
+module _ (bs r : List ℕ) (m : Room) (access side array size : ℕ) (index : Whole) (steps hints : ℕ) where
+  abbrev Says : Judged → Type 0
+  Says j = j ≡ Judged.Accepted access side array size index steps hints
+
+  by-proof : (h : Header) (t : Target) (array₁ : ℕ) (index₁ : Whole) (p : Proved) → Says (byProof bs h t array₁ index₁ p)
+      → (t .access ≡ access) × (t .side ≡ side) × (array₁ ≡ array) × (index₁ ≡ index) × (p ≡ Proved.Closed steps hints)
+  by-proof h t array₁ index₁ (Proved.Refused refusal) e = let z : _≡_ {A = ℕ} 0 1 = cc in absurd (omega arith)
+  by-proof h t array₁ index₁ (Proved.Closed steps₁ hints₁) e =
+      let p : t .access ≡ access = cc in
+      let q : t .side ≡ side = cc in
+      let u : array₁ ≡ array = cc in
+      let v : index₁ ≡ index = cc in
+      let y : steps₁ ≡ steps = cc in
+      let z : hints₁ ≡ hints = cc in
+      (p, q, u, v, rw (y, z) refl)
+
+  module _ (h : Header) (a : Arm) (k : Counts) (d : decode bs ≡ routine h a k) where
+    by-witness : (w : Witness) → witnessOf bs r h a k ≡ w → Says (byWitness bs r m h a k w)
+        → Finding bs (decisionsIn r k) (witnessIn r h k) h a k access side array index
+    by-witness (Witness.Refused refusal) is e = let z : _≡_ {A = ℕ} 0 1 = cc in absurd (omega arith)
+    by-witness (Witness.Stands t array₁ index₁) is e =
+        let p = by-proof h t array₁ index₁ (provedBy r (proofAt h k) m h k (whole bs t (decisionsIn r k) h a)) e in
+        let v = verdict-was steps hints r (proofAt h k) m h k (whole bs t (decisionsIn r k) h a) (p .4) in
+        let none = sound (clausesOfAll (whole bs t (decisionsIn r k) h a)) (limitsIn m (whole bs t (decisionsIn r k) h a)) r (proofAt h k) .none steps hints v in
+        rw (← p .0, ← p .1, ← p .2, ← p .3) (finding bs r h a k d t array₁ index₁ (stood bs r h a k t array₁ index₁ is) none)
+
+  by-decoded : (x : Decoded) → decode bs ≡ x → Says (byRoutine bs r m x) → Found bs r access side array index
+  by-decoded (rejected refusal) d e = let z : _≡_ {A = ℕ} 0 1 = cc in absurd (omega arith)
+  by-decoded (routine h a k) d e =
+      record { header = h; commands = a; counts = k; decodes = d; finding = by-witness h a k d (witnessOf bs r h a k) refl e }
+
+  holds : Says (judgement bs r m) → Found bs r access side array index
+  unfolding judgement
+  holds e = by-decoded (decode bs) refl e
+
+-- whatever is judged so
+pub demand : (bs r : List ℕ) (m : Room) (j : Judged) → j ≡ judgement bs r m → Demand3 bs r j
+demand bs r m j is = record {
+  holds = λ access side array size index steps hints e. holds bs r m access side array size index steps hints (sym is ∙ e);
+}

@@ -1,0 +1,51 @@
+-- Demand 3: what an accepted report says of every run.
+use Prim.Native.Nat.{ℕ}
+use mathlib.Core.Path.{_≡_}
+use mathlib.Core.List.{List}
+use mathlib.Core.Bool.{true}
+use Rattle.bitvec.specs.declared.Whole.{Whole}
+use Rattle.header.specs.Header.{arraySize}
+use Rattle.header.specs.declared.Header.{Header}
+use Rattle.command.specs.declared.Counts.{Counts}
+use Rattle.routine.specs.Routine.{Arm}
+use Rattle.routine.specs.Decode.{routine, decode}
+use Rattle.machine.specs.Side.{sideOf}
+use Rattle.machine.specs.State.{lies}
+use Rattle.machine.specs.declared.Lies.{Lies}
+use Rattle.machine.specs.declared.Side.{Side}
+use Rattle.run.specs.Answer.{ranBy}
+use Rattle.run.specs.Inputs.{listed}
+use Rattle.run.specs.Run.{Stretch, runOf}
+use Rattle.run.specs.declared.Listed.{Listed}
+use Rattle.run.specs.declared.Ran.{Ran}
+use Rattle.course.specs.Goes.{goesWay, Comes}
+use Rattle.witness.specs.Lead.{decisionsIn, witnessIn}
+use Rattle.report.specs.declared.Judged.{Judged}
+
+-- the run stops at the access, with the index, which lies outside the array, on the side
+pub record StopsOutside (bs : List ℕ) (h : Header) (access : ℕ) (side : Side) (array : ℕ) (index : Whole) (x : Stretch) : Type 0 where
+  pub stops : ranBy (x .state .outcome) ≡ Ran.Stopped access index side
+  pub outside : lies (arraySize bs h array) index ≡ Lies.Outside side
+
+-- a finding: the access, on the side, overflows on the way of the decisions; the witness goes there
+pub record Finding (bs ds witness : List ℕ) (h : Header) (a : Arm) (k : Counts) (access side array : ℕ) (index : Whole) : Type 0 where
+  pub accepted : listed bs witness h a k ≡ Listed.Accepted
+  pub goes : goesWay ds access (runOf bs witness h a .events) ≡ true
+  pub comes : Comes access array index (runOf bs witness h a .events)
+  pub every : (ins : List ℕ) → listed bs ins h a k ≡ Listed.Accepted → goesWay ds access (runOf bs ins h a .events) ≡ true
+      → (array₁ : ℕ) (index₁ : Whole) → Comes access array₁ index₁ (runOf bs ins h a .events)
+      → StopsOutside bs h access (sideOf side) array₁ index₁ (runOf bs ins h a)
+
+-- the bytes are a routine, and what the report says of it is a finding
+pub record Found (bs r : List ℕ) (access side array : ℕ) (index : Whole) : Type 0 where
+  pub header : Header
+  pub commands : Arm
+  pub counts : Counts
+  pub decodes : decode bs ≡ routine header commands counts
+  pub finding : Finding bs (decisionsIn r counts) (witnessIn r header counts) header commands counts access side array index
+
+-- Whatever the report holds: if it is accepted, the witness's run goes the report's way and comes to the named access; and every run, of the witness or of
+-- any other accepted input list, that goes that way and comes to it stops there, its index outside the array that it reaches there, on the side named.
+pub record Demand3 (bs r : List ℕ) (j : Judged) : Type 0 where
+  pub holds : (access side array size : ℕ) (index : Whole) (steps hints : ℕ) → j ≡ Judged.Accepted access side array size index steps hints
+      → Found bs r access side array index

@@ -1,0 +1,86 @@
+// The judging of a whole report: the lead, the witness, the translation of its claim, and the proof.
+pub mod comparing;
+mod deciding;
+mod parts;
+mod proving;
+pub mod refusals;
+
+use bitvec::Whole;
+use slices::usable;
+ghost use Rattle.report.specs.Demand.{Demand3};
+ghost use Rattle.report.specs.Zeroed.{Judges};
+
+// A lent buffer.
+pub enum Buffer {
+    Words,
+    Starts,
+    Marks,
+    Values,
+    Trail,
+}
+
+// Why a report is turned down.
+pub enum Refusal {
+    // 1 to 8, the lead or the witness
+    Witness(witness::Refusal),
+    TooSmall(Buffer),
+    Proof(step::Refusal),
+}
+
+// What is said of the proof: the steps that it closes and the hints that it has, or why it is turned down.
+pub enum Proved {
+    Refused(Refusal),
+    Closed { steps: usize, hints: usize },
+}
+
+// What is said of a report.
+pub enum Judged {
+    Accepted {
+        access: u8,
+        side: u8,
+        array: u8,
+        // the size of the array
+        size: u32,
+        // the index that the witness has there
+        index: Whole,
+        steps: usize,
+        hints: usize,
+    },
+    Refused(Refusal),
+}
+
+// Whether two reports are alike.
+pub enum Compared {
+    Alike(bool),
+    Refused(witness::Refusal),
+}
+
+// Judges a report on a routine. If it is accepted, every run that goes the report's way and comes to the named access stops there, its index outside the array, on
+// the side named. On every return the first 16,777,216 entries of each buffer are 0, and what lies beyond is unchanged.
+pub fn judge(
+    routine: &[u8],
+    report: &[u8],
+    words: &mut [u32],
+    starts: &mut [u32],
+    marks: &mut [u8],
+    values: &mut [u32],
+    trail: &mut [u8],
+) -> Judged
+    ensures { λ r. ⌜ Judges (now (routine .entry)) (now (report .entry)) (now (words .entry)) (now (starts .entry)) (now (marks .entry)) (now (values .entry)) (now (trail .entry)) (now (words .exit)) (now (starts .exit)) (now (marks .exit)) (now (values .exit)) (now (trail .exit)) r ⌝ }
+    ensures { λ r. ⌜ Demand3 (now (routine .entry)) (now (report .entry)) r ⌝ }
+{
+    let w = usable(words.len());
+    let s = usable(starts.len());
+    let m = usable(marks.len());
+    let v = usable(values.len());
+    let t = usable(trail.len());
+    parts::judge_parts(
+        routine,
+        report,
+        &mut words[..w],
+        &mut starts[..s],
+        &mut marks[..m],
+        &mut values[..v],
+        &mut trail[..t],
+    )
+}
