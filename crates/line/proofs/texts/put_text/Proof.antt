@@ -1,0 +1,59 @@
+-- What is put after i turns is the text's first i bytes.
+use Prim.Native.Nat.{_≤_, _+_, _-_}
+use native.Mathlib.Nat.{add-zero}
+use native.Mathlib.Omega.{arith}
+use mathlib.Core.Path.{_≡_, refl, sym, _∙_}
+use lib.ListN.{length, take}
+use borrow.Author.Needs.{needs}
+use Rattle.line.specs.Puts.{Puts}
+use Rattle.line.proofs.Putting.{nothing, one-more, all-of}
+use Rattle.line.proofs.texts.put_text.Statement.{statement}
+use Rattle.line.proofs.texts.put_text.Tie as tie
+
+abbrev Inv-loop : tie.InvT-loop
+Inv-loop text out₀ at i₀ next₀ out i next = (i ≤ length text) × (length out ≡ length out₀) × (next ≡ at + i) × Puts out₀ at (take i text) out next
+
+abbrev μ-loop : tie.MeasureT-loop
+μ-loop text out₀ at i₀ next₀ out i next = length text - i
+
+loop-holds : tie.Need-loop-holds Inv-loop μ-loop
+loop-holds c = (omega arith, refl, sym (add-zero _), nothing _ _)
+
+shared-slice-read-put-byte : tie.Need-shared-slice-read-put-byte Inv-loop μ-loop
+shared-slice-read-put-byte c = search needs
+
+put-byte-requires : tie.Need-put-byte-requires Inv-loop μ-loop
+put-byte-requires c κs = search needs
+
+add-i : tie.Need-add-i Inv-loop μ-loop
+add-i c = search needs
+
+loop-less : tie.Need-loop-less Inv-loop μ-loop
+loop-less c = search needs
+
+loop-again : tie.Need-loop-again Inv-loop μ-loop
+loop-again c =
+    let p = c .before .before in
+    let l = p .before .before .before .before in
+    (omega arith, p .put-byte .kept .1 .0 ∙ l .loop .inv .1, omega (arith, p .put-byte .ensures .ends), one-more _ (l .loop .i) (p .before .before .before .loop-test .taken) (l .loop .inv .3) (p .put-byte .ensures))
+
+same-length : tie.Need-same-length Inv-loop μ-loop
+same-length c = search needs
+
+returns : tie.Need-returns Inv-loop μ-loop
+returns c = all-of _ (c .before .loop .i) (c .loop-test .left) (c .before .loop .inv .3)
+
+pub put-text-spec : {M : Type 1} → statement M
+put-text-spec =
+    tie.close
+    (tie.spec
+    Inv-loop
+    μ-loop
+    loop-holds
+    shared-slice-read-put-byte
+    put-byte-requires
+    add-i
+    loop-less
+    loop-again
+    same-length
+    returns)

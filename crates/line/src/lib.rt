@@ -1,0 +1,50 @@
+// The line that the judging program prints.
+mod accepted;
+mod numbers;
+mod texts;
+
+use numbers::put_named;
+use report::Judged;
+use report::Refusal;
+use report::refusals::number_of;
+use report::refusals::place_of;
+pub use texts::put_text;
+ghost use mathlib.Core.Path.{_≡_};
+ghost use Prim.Native.Nat.{_+_, _≤_};
+ghost use lib.ListN.{length};
+ghost use Rattle.line.specs.Line.{refused, lineOf};
+ghost use Rattle.line.specs.Puts.{Puts};
+
+// Writes the line at the beginning of `out`, and returns its length.
+pub fn write_line(judged: Judged, out: &mut [u8]) -> usize
+    requires { ⌜ 200 ≤ length (now out) ⌝ }
+    ensures { λ r. ⌜ Puts (now (out .entry)) 0 (lineOf judged) (now (out .exit)) r ⌝ }
+    ensures { λ r. ⌜ r ≤ 200 ⌝ }
+{
+    match judged {
+        Judged::Accepted {
+            access,
+            side,
+            array,
+            size,
+            index,
+            steps,
+            hints,
+        } => {
+            let next = accepted::put_claim(access, side, array, size, out);
+            accepted::put_shown(index, steps, hints, out, next)
+        }
+        Judged::Refused(refusal) => put_refusal(refusal, out),
+    }
+}
+
+// A refusal's number and place.
+fn put_refusal(refusal: Refusal, out: &mut [u8]) -> usize
+    requires { ⌜ 200 ≤ length (now out) ⌝ }
+    ensures { λ r. ⌜ Puts (now (out .entry)) 0 (refused refusal) (now (out .exit)) r ⌝ }
+    ensures { λ r. ⌜ r ≤ 200 ⌝ }
+{
+    let next = put_named(b"refused ", number_of(refusal) as usize, out, 0);
+    let next = put_named(b" place ", place_of(refusal), out, next);
+    put_text(b"\n", out, next)
+}
