@@ -1,0 +1,44 @@
+// What is printed of a report on a routine, given their bytes.
+use line::put_text;
+use line::write_line;
+use report::Judged;
+use report::judge;
+ghost use mathlib.Core.Path.{_≡_};
+ghost use Prim.Native.Nat.{_≤_};
+ghost use lib.ListN.{length};
+ghost use Rattle.io.specs.Counts.{Counts};
+ghost use Rattle.report.specs.Judging.{judgement};
+ghost use Rattle.line.specs.Puts.{Puts};
+ghost use Rattle.judging.specs.Printed.{lent, printed};
+
+// Judges with buffers of its own.
+fn judge_lent(routine: &[u8], report: &[u8]) -> Judged
+    ensures { λ r. ⌜ r ≡ judgement (now (routine .entry)) (now (report .entry)) lent ⌝ }
+{
+    let mut words = [0u32; 16384];
+    let mut starts = [0u32; 16384];
+    let mut marks = [0u8; 16384];
+    let mut values = [0u32; 32];
+    let mut trail = [0u8; 32];
+    judge(
+        routine,
+        report,
+        &mut words,
+        &mut starts,
+        &mut marks,
+        &mut values,
+        &mut trail,
+    )
+}
+
+// Writes what is printed at the beginning of `out`, and returns its length.
+pub fn answer(routine: &[u8], report: &[u8], out: &mut [u8]) -> usize
+    requires { ⌜ 200 ≤ length (now out) ⌝ }
+    ensures { λ r. ⌜ Puts (now (out .entry)) 0 (printed (now (routine .entry)) (now (report .entry))) (now (out .exit)) r ⌝ }
+    ensures { λ r. ⌜ Counts r (now (out .exit)) ⌝ }
+{
+    if report.len() > 65536 {
+        return put_text(b"too long\n", out, 0);
+    }
+    write_line(judge_lent(routine, report), out)
+}
