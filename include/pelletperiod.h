@@ -1,5 +1,6 @@
 /*
- * pelletperiod.h - checking, running and translating loop-free pick routines.
+ * pelletperiod.h - checking, running and translating loop-free pick routines,
+ * and judging reports about them.
  *
  * Every buffer is lent for the time of the call as a pointer and a number of
  * entries. A pointer must not be null, also where the number of entries is 0,
@@ -11,7 +12,7 @@
  *   0    done; `answer` is filled as said at the function.
  *   255  `answer` has fewer than 8 entries; nothing at all is changed.
  *   else the number of a refusal; answer[0] receives its place, and nothing
- *        else is changed.
+ *        else is changed, unless the function says so.
  *
  *   number  place                     when
  *        1  0                         routine empty or over 4,096 bytes
@@ -28,15 +29,39 @@
  *       10  number of the input       input too great for its variable
  *       11  number of decisions       wrong number of decisions
  *           given
+ *       11  length of the report      of a report: its lead cut short, or more
+ *                                     than 16,777,216 bytes
  *       12  0 for the access, 1 for   access, side or decision out of range
  *           the side, 2 + k for the
  *           decision of if k
+ *       13  number of the if          witness takes another arm there than the
+ *                                     decided one
+ *       14  named access              witness ends or stops without coming to it
+ *       15  named access              witness's index there not on the side
  *       16  0 for `words`,            buffer too small
  *           1 for `starts`,
+ *           2 for `marks`,
  *           3 for `values`,
  *           4 for `trail`
+ *       17  offset of the command     proof command unknown, cut short or missing
+ *       18  offset of the command     literal not of a variable, twice, with its
+ *                                     opposite, or after a hint
+ *       19  offset of the command     hint of a clause that is not there yet
+ *       20  offset of the command     hint that neither decides a variable nor
+ *                                     conflicts
+ *       21  offset of the command     close without conflict
+ *       22  offset of the command     hint after the conflict
+ *       23  offset of the command     end without the empty clause, or another
+ *                                     command after it
+ *       24  offset of the first       bytes after the end of the proof
+ *           such byte
+ *       25  offset of the command     no room in `words` or `starts` for the
+ *                                     clause of a step
  *
- * The refusals are looked for in this order, 3 to 7 command by command.
+ * The refusals are looked for in this order, 3 to 7 command by command; in a
+ * report 11 and 12 come before 10, of 13 and 14 the one that the witness's run
+ * meets first, and in a proof 17, 23, 18, 19, 22, 20, 21 and 25 are looked for
+ * command by command and then 24.
  * Entries of `answer` that are not named are left alone. Only the first
  * 16,777,216 entries of a buffer are used; needing more of them counts as a
  * buffer that is too small.
@@ -163,6 +188,62 @@ uint8_t pellet_prove(const uint8_t *report, size_t report_len, size_t from,
                      uint32_t *words, size_t words_len,
                      uint32_t *starts, size_t starts_len,
                      uint8_t *marks, size_t marks_len,
+                     uint64_t *answer, size_t answer_len);
+
+/*
+ * Judges a report on a routine; refuses with 1 to 8 and 10 to 25.
+ *
+ * A report is its lead and then its proof. The lead is the number of an
+ * access, a side (0 below, 1 above), a decision byte for each if (0 first arm,
+ * 1 else, 2 free), and an input list of four bytes for each word, the lowest
+ * first: the witness.
+ *
+ * On 0 the witness comes to the access by the decisions and has an index there
+ * on the side, every run that comes to the access by the decisions has, and
+ * the answer holds:
+ *
+ *   answer[0]  number of the access
+ *   answer[1]  side: 0 below, 1 above
+ *   answer[2]  number of the array
+ *   answer[3]  size of the array
+ *   answer[4]  1 if the witness's index is negative, else 0
+ *   answer[5]  that index without its sign
+ *   answer[6]  number of steps closed
+ *   answer[7]  number of hints read
+ *
+ * What the five buffers hold does not matter. On 0 and on every refusal, 1 to
+ * 8 among them, their first 16,777,216 entries are zeros, as far as they have
+ * so many, and what lies beyond is left alone.
+ *
+ * `words` and `starts` have room for the translation and for the clause of
+ * each step, `marks` for one entry a variable of the translation and one more,
+ * `values` for the variables of the routine, `trail` for its ifs.
+ *
+ * `routine` and `report` are only read.
+ */
+uint8_t pellet_judge(const uint8_t *routine, size_t routine_len,
+                     const uint8_t *report, size_t report_len,
+                     uint32_t *words, size_t words_len,
+                     uint32_t *starts, size_t starts_len,
+                     uint8_t *marks, size_t marks_len,
+                     uint32_t *values, size_t values_len,
+                     uint8_t *trail, size_t trail_len,
+                     uint64_t *answer, size_t answer_len);
+
+/*
+ * Says whether two reports on one routine name the same access and the same
+ * side; refuses with 1 to 8, with 11 and 12 for the first report, then with 11
+ * and 12 for the second. Witnesses and proofs are not looked at.
+ *
+ * On 0 the answer holds:
+ *
+ *   answer[0]  1 if the reports are alike, else 0
+ *
+ * `routine`, `first` and `second` are only read.
+ */
+uint8_t pellet_alike(const uint8_t *routine, size_t routine_len,
+                     const uint8_t *first, size_t first_len,
+                     const uint8_t *second, size_t second_len,
                      uint64_t *answer, size_t answer_len);
 
 #ifdef __cplusplus

@@ -12,7 +12,8 @@ use Rattle.translation.specs.Answer as translated
 use Rattle.translation.specs.declared.Translated.{Translated}
 use Rattle.checker.specs.Checking.{Checking, Checks}
 use Rattle.checker.specs.declared.Checked.{Checked}
-use Rattle.capi.specs.Reply.{Reply, Fills, runFills, RunReply, runGives, runReply, RunsReply, translateFills, TranslateReply, translateGives, translateReply, TranslatesReply, proveFills, ProveReply, proveGives, proveReply, ProvesReply}
+use Rattle.replies.specs.Reply.{Reply, Fills, runFills, translateFills, proveFills}
+use Rattle.capi.specs.Reply.{RunReply, runGives, runReply, RunsReply, TranslateReply, translateGives, translateReply, TranslatesReply, ProveReply, proveGives, proveReply, ProvesReply}
 
 abbrev put : ℕ → (values trail ans : List ℕ) → RunReply
 put code values trail ans = record { code = code; values = values; trail = trail; answer = ans }

@@ -1,90 +1,22 @@
--- What the C interface returns and writes: 0 and the answer's entries, a refusal's number and its place, or 255 where `answer` has fewer than 8 entries.
-use Prim.Native.Nat.{ℕ, _+_}
+-- What the C interface returns and leaves: what the layer's answer gives, or 255 and nothing changed where `answer` has fewer than 8 entries.
+use Prim.Native.Nat.{ℕ}
 use mathlib.Core.Path.{_≡_}
-use mathlib.Core.List.{List, [], _∷_}
+use mathlib.Core.List.{List}
 use mathlib.Core.Bool.{cond}
-use lib.ListN.{length, set}
+use lib.ListN.{length}
 use lib.Dec.{ltb}
 use Rattle.bitvec.specs.declared.Whole.{Whole}
-use Rattle.header.specs.Header.{firstCommand}
-use Rattle.command.specs.Step.{accesses}
 use Rattle.routine.specs.Decode.{checked}
-use Rattle.routine.specs.Refusal as routine
-use Rattle.header.specs.declared.Header.{Header}
-use Rattle.command.specs.declared.Counts.{Counts}
-use Rattle.routine.specs.declared.Checked.{Checked}
 use Rattle.run.specs.Answer.{Answer, answer}
-use Rattle.run.specs.Refusal as run
-use Rattle.machine.specs.Side.{sideNumber}
-use Rattle.machine.specs.declared.Side.{Side}
-use Rattle.run.specs.declared.Ran.{Ran}
 use Rattle.lead.specs.Lead.{targetOf}
 use Rattle.translation.specs.Answer as translated
-use Rattle.translation.specs.Refusal as translation
-use Rattle.translation.specs.declared.Size.{Size}
-use Rattle.translation.specs.declared.Translated.{Translated}
 use Rattle.checker.specs.Checking.{Checking, checking}
-use Rattle.step.specs.Refusal as proof
-use Rattle.checker.specs.declared.Checked as proved
-use Rattle.checker.specs.declared.Checked.the-variants.{Accepted, Refused, Unfit}
-
--- 1 if a whole number is negative
-abbrev pub isNegative : Whole → ℕ
-isNegative (Whole.Natural n) = 0
-isNegative (Whole.Negative n) = 1
-
--- its magnitude
-abbrev pub magnitude : Whole → ℕ
-magnitude (Whole.Natural n) = n
-magnitude (Whole.Negative n) = n
-
--- the entries from number i on become xs
-unfoldable pub filled : List ℕ → (i : ℕ) → List ℕ → List ℕ
-filled ans i [] = ans
-filled ans i (x ∷ xs) = filled (set ans i x) (i + 1) xs
-
--- the number returned, and the answer
-pub record Reply : Type 0 where
-  pub code : ℕ
-  pub answer : List ℕ
-
--- variables, parameters, arrays, ifs, accesses, reads, offset of the first command
-abbrev pub countsOf : Header → Counts → List ℕ
-countsOf h k = h .variables ∷ h .parameters ∷ h .arrays ∷ k .ifs ∷ accesses k ∷ k .reads ∷ firstCommand h ∷ []
-
--- stopped: 1, access, side, 1 if the index is negative, its magnitude
-abbrev pub stoppedOf : (access : ℕ) → Whole → Side → List ℕ
-stoppedOf access index side = 1 ∷ access ∷ sideNumber side ∷ isNegative index ∷ magnitude index ∷ []
-
--- clauses, words, variables
-abbrev pub sizesOf : Size → List ℕ
-sizesOf size = size .clauses ∷ size .words ∷ size .variables ∷ []
-
--- what checking a routine gives
-abbrev pub checkFills : Checked → List ℕ → Reply
-checkFills (Checked.Accepted h k) ans = record { code = 0; answer = filled ans 0 (countsOf h k) }
-checkFills (Checked.Refused refusal) ans = record { code = routine.numberOf refusal; answer = set ans 0 (routine.placeOf refusal) }
-
--- what a run gives: 0 for an end, and nothing more
-abbrev pub runFills : Ran → List ℕ → Reply
-runFills Ran.Ended ans = record { code = 0; answer = set ans 0 0 }
-runFills (Ran.Stopped access index side) ans = record { code = 0; answer = filled ans 0 (stoppedOf access index side) }
-runFills (Ran.Refused refusal) ans = record { code = run.numberOf refusal; answer = set ans 0 (run.placeOf refusal) }
-
--- what a translation gives
-abbrev pub translateFills : Translated → List ℕ → Reply
-translateFills (Translated.Made size) ans = record { code = 0; answer = filled ans 0 (sizesOf size) }
-translateFills (Translated.Refused refusal) ans = record { code = translation.numberOf refusal; answer = set ans 0 (translation.placeOf refusal) }
-
--- what checking a proof gives: steps closed and hints read; 254, no number of document 01, where the buffers do not hold what is asked
-abbrev pub proveFills : proved.Checked → List ℕ → Reply
-proveFills (Accepted steps hints) ans = record { code = 0; answer = filled ans 0 (steps ∷ hints ∷ []) }
-proveFills (Refused refusal) ans = record { code = proof.numberOf refusal; answer = set ans 0 (proof.placeOf refusal) }
-proveFills Unfit ans = record { code = 254; answer = ans }
-
--- the reply is the number r, and the answer became ans₁
-pub record Fills (reply : Reply) (ans₁ : List ℕ) (r : ℕ) : Type 0 where
-  pub equal : _≡_ {A = Reply} (record { code = r; answer = ans₁ }) reply
+use Rattle.report.specs.Judging.{judgement}
+use Rattle.report.specs.Zeroed.{zeroed, roomIn}
+use Rattle.report.specs.Demand.{Demand3}
+use Rattle.report.specs.Alike.{alike}
+use Rattle.report.specs.declared.Judged.{Judged}
+use Rattle.replies.specs.Reply.{Reply, filled, judgedOf, checkFills, runFills, translateFills, proveFills, judgeFills, alikeFills}
 
 -- what `pellet_check` replies
 unfoldable pub checkReply : (bs ans : List ℕ) → Reply
@@ -170,3 +102,59 @@ proveReply r from clauses variables words starts marks ans =
 
 pub record ProvesReply (r : List ℕ) (from clauses variables : ℕ) (words starts marks ans words₁ starts₁ marks₁ ans₁ : List ℕ) (code : ℕ) : Type 0 where
   pub equal : _≡_ {A = ProveReply} (record { code = code; words = words₁; starts = starts₁; marks = marks₁; answer = ans₁ }) (proveReply r from clauses variables words starts marks ans)
+
+-- the number returned, and all six buffers
+pub record JudgeReply : Type 0 where
+  pub code : ℕ
+  pub words : List ℕ
+  pub starts : List ℕ
+  pub marks : List ℕ
+  pub values : List ℕ
+  pub trail : List ℕ
+  pub answer : List ℕ
+
+-- what judging gives; the buffers are zeroed, whatever the answer
+abbrev pub judgeGives : Judged → (words starts marks values trail ans : List ℕ) → JudgeReply
+judgeGives j words starts marks values trail ans =
+    record {
+      code = judgeFills j ans .code;
+      words = zeroed words;
+      starts = zeroed starts;
+      marks = zeroed marks;
+      values = zeroed values;
+      trail = zeroed trail;
+      answer = judgeFills j ans .answer;
+    }
+
+-- what `pellet_judge` replies
+unfoldable pub judgeReply : (bs r words starts marks values trail ans : List ℕ) → JudgeReply
+judgeReply bs r words starts marks values trail ans =
+    cond (ltb (length ans) 8)
+    (record { code = 255; words = words; starts = starts; marks = marks; values = values; trail = trail; answer = ans })
+    (judgeGives (judgement bs r (roomIn words starts marks values trail)) words starts marks values trail ans)
+
+pub record JudgesReply (bs r words starts marks values trail ans words₁ starts₁ marks₁ values₁ trail₁ ans₁ : List ℕ) (code : ℕ) : Type 0 where
+  pub equal : _≡_ {A = JudgeReply} (record { code = code; words = words₁; starts = starts₁; marks = marks₁; values = values₁; trail = trail₁; answer = ans₁ }) (judgeReply bs r words starts marks values trail ans)
+
+-- the answer tells of an accepted report, and demand 3 holds of what it tells
+pub record Found (bs r ans ans₁ : List ℕ) : Type 0 where
+  pub access : ℕ
+  pub side : ℕ
+  pub array : ℕ
+  pub size : ℕ
+  pub index : Whole
+  pub steps : ℕ
+  pub hints : ℕ
+  pub told : ans₁ ≡ filled ans 0 (judgedOf access side array size index steps hints)
+  pub demand : Demand3 bs r (Judged.Accepted access side array size index steps hints)
+
+-- demand 3: what a return of 0 says
+pub record Finds (bs r ans ans₁ : List ℕ) (code : ℕ) : Type 0 where
+  pub found : code ≡ 0 → Found bs r ans ans₁
+
+-- what `pellet_alike` replies
+unfoldable pub alikeReply : (bs first second ans : List ℕ) → Reply
+alikeReply bs first second ans = cond (ltb (length ans) 8) (record { code = 255; answer = ans }) (alikeFills (alike bs first second) ans)
+
+pub record AlikesReply (bs first second ans ans₁ : List ℕ) (r : ℕ) : Type 0 where
+  pub equal : _≡_ {A = Reply} (record { code = r; answer = ans₁ }) (alikeReply bs first second ans)

@@ -1,11 +1,11 @@
 // The C interface, and nothing else: each call hands its arguments to the layer that does the work and writes what it answered into `answer`.
-mod filling;
-
-use filling::fill_check;
-use filling::fill_prove;
-use filling::fill_run;
-use filling::fill_translate;
-ghost use Rattle.capi.specs.Reply.{ChecksReply, RunsReply, TranslatesReply, ProvesReply};
+use replies::filling::fill_alike;
+use replies::filling::fill_check;
+use replies::filling::fill_judge;
+use replies::filling::fill_prove;
+use replies::filling::fill_run;
+use replies::filling::fill_translate;
+ghost use Rattle.capi.specs.Reply.{ChecksReply, RunsReply, TranslatesReply, ProvesReply, JudgesReply, Finds, AlikesReply};
 
 // Checks a routine.
 #[no_mangle]
@@ -78,4 +78,44 @@ pub extern "C" fn pellet_prove(
         checker::check(report, from, clauses, variables, words, starts, marks),
         answer,
     )
+}
+
+// Judges a report on a routine. Where it returns 0, demand 3 holds of what the answer tells.
+#[no_mangle]
+pub extern "C" fn pellet_judge(
+    routine: &[u8],
+    report: &[u8],
+    words: &mut [u32],
+    starts: &mut [u32],
+    marks: &mut [u8],
+    values: &mut [u32],
+    trail: &mut [u8],
+    answer: &mut [u64],
+) -> u8
+    ensures { λ r. ⌜ JudgesReply (now (routine .entry)) (now (report .entry)) (now (words .entry)) (now (starts .entry)) (now (marks .entry)) (now (values .entry)) (now (trail .entry)) (now (answer .entry)) (now (words .exit)) (now (starts .exit)) (now (marks .exit)) (now (values .exit)) (now (trail .exit)) (now (answer .exit)) r ⌝ }
+    ensures { λ r. ⌜ Finds (now (routine .entry)) (now (report .entry)) (now (answer .entry)) (now (answer .exit)) r ⌝ }
+{
+    if answer.len() < 8 {
+        return 255;
+    }
+    fill_judge(
+        report::judge(routine, report, words, starts, marks, values, trail),
+        answer,
+    )
+}
+
+// Whether two reports on one routine are alike.
+#[no_mangle]
+pub extern "C" fn pellet_alike(
+    routine: &[u8],
+    first: &[u8],
+    second: &[u8],
+    answer: &mut [u64],
+) -> u8
+    ensures { λ r. ⌜ AlikesReply (now (routine .entry)) (now (first .entry)) (now (second .entry)) (now (answer .entry)) (now (answer .exit)) r ⌝ }
+{
+    if answer.len() < 8 {
+        return 255;
+    }
+    fill_alike(report::comparing::alike(routine, first, second), answer)
 }

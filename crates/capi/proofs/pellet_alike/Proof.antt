@@ -1,0 +1,27 @@
+use mathlib.Core.Path.{_∙_}
+use borrow.Author.Tests.{lt-ltb, le-ltb}
+use Rattle.capi.specs.Reply.{alikeReply}
+use borrow.Author.Needs.{needs}
+use Rattle.capi.proofs.pellet_alike.Statement.{statement}
+use Rattle.capi.proofs.pellet_alike.Tie as tie
+
+returns : tie.Need-returns
+unfolding alikeReply
+returns c = record { equal = rw (lt-ltb _ _ (c .if1 .taken)) }
+
+alike-requires : tie.Need-alike-requires
+alike-requires c κs = search needs
+
+fill-alike-requires : tie.Need-fill-alike-requires
+fill-alike-requires c κs = search needs
+
+same-length : tie.Need-same-length
+same-length c = search needs
+
+returns-2 : tie.Need-returns-2
+unfolding alikeReply
+returns-2 c = record { equal = c .before .before .fill-alike .ensures .equal ∙ rw (le-ltb _ _ (c .before .before .before .before .before .if1 .left), c .before .before .before .before .alike .ensures) }
+
+pub pellet-alike-spec : {M : Type 1} → statement M
+pellet-alike-spec =
+    tie.close (tie.spec returns alike-requires fill-alike-requires same-length returns-2)

@@ -1,0 +1,55 @@
+use Rattle.capi.proofs.Judging.{judge-replies, finds, finds-nothing}
+use borrow.Author.Tests.{lt-ltb, le-ltb}
+use Rattle.capi.specs.Reply.{judgeReply}
+use borrow.Author.Needs.{needs}
+use Rattle.capi.proofs.pellet_judge.Statement.{statement}
+use Rattle.capi.proofs.pellet_judge.Tie as tie
+
+returns : tie.Need-returns
+unfolding judgeReply
+returns c = (record { equal = rw (lt-ltb _ _ (c .if1 .taken)) }, finds-nothing _ _ _ _)
+
+judge-requires : tie.Need-judge-requires
+judge-requires c κs = search needs
+
+fill-judge-requires : tie.Need-fill-judge-requires
+fill-judge-requires c κs = search needs
+
+same-length : tie.Need-same-length
+same-length c = search needs
+
+same-length-2 : tie.Need-same-length-2
+same-length-2 c = search needs
+
+same-length-3 : tie.Need-same-length-3
+same-length-3 c = search needs
+
+same-length-4 : tie.Need-same-length-4
+same-length-4 c = search needs
+
+same-length-5 : tie.Need-same-length-5
+same-length-5 c = search needs
+
+same-length-6 : tie.Need-same-length-6
+same-length-6 c = search needs
+
+returns-2 : tie.Need-returns-2
+returns-2 c =
+    let f = c .before .before .fill-judge .ensures in
+    let j = c .before .before .before .before .before .before .before .before .before .before .before .before .before .before .judge in
+    (judge-replies _ _ _ _ _ _ _ _ _ _ _ _ _ _ _ f (j .ensures .0) (le-ltb _ _ (c .before .before .before .before .before .before .before .before .before .before .before .before .before .before .before .before .before .before .before .before .if1 .left)), finds _ _ _ _ _ (j .result) f (j .ensures .1))
+
+pub pellet-judge-spec : {M : Type 1} → statement M
+pellet-judge-spec =
+    tie.close
+    (tie.spec
+    returns
+    judge-requires
+    fill-judge-requires
+    same-length
+    same-length-2
+    same-length-3
+    same-length-4
+    same-length-5
+    same-length-6
+    returns-2)
