@@ -15,15 +15,27 @@
 //! [`proof_case::ProofCase`] is one of them with its buffers.
 //! [`proof_expected::expected`] is what the oracle makes of it, entry by entry,
 //! and [`proof_tally::ProofTally`] counts what the proofs came to.
+//!
+//! For whole reports, a [`claim::Claim`] is drawn together with what brute force
+//! says of it, [`report_draft::Report`] proves it or forges a proof,
+//! [`report_damage`] damages it, and a [`report_case::ReportCase`] is one report
+//! with its buffers. [`truth::confirm`] holds every accepted report against all
+//! input lists, and [`report_tally::ReportTally`] counts what the reports came
+//! to. [`alike_case::AlikeCase`] is two reports on one routine.
 
 #![forbid(unsafe_code)]
 
+pub mod alike_case;
+pub mod alike_compare;
+pub mod alike_tally;
 pub mod case;
+pub mod claim;
 pub mod compare;
 pub mod counter;
 pub mod damage;
 pub mod draft;
 pub mod fault;
+pub mod guarded;
 pub mod lent;
 pub mod limit;
 pub mod long_proof;
@@ -37,6 +49,11 @@ pub mod proof_expected;
 pub mod proof_tally;
 pub mod refutations;
 pub mod refute;
+pub mod report_case;
+pub mod report_compare;
+pub mod report_damage;
+pub mod report_draft;
+pub mod report_tally;
 pub mod rng;
 pub mod seeded;
 pub mod survey;
@@ -44,3 +61,4 @@ pub mod tally;
 pub mod translation_case;
 pub mod translation_compare;
 pub mod translation_tally;
+pub mod truth;

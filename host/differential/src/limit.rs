@@ -30,18 +30,18 @@ pub fn routine_of(words: usize) -> (Vec<u8>, Vec<u8>) {
     (encode(products, bits, ifs), vec![0; ifs])
 }
 
-/// Variables 0 to 2 have 32 bits, one that the remaining adder bits have, and
-/// one.
+/// Variables 0 to 2, all parameters, have 32 bits, as many as adder bits remain,
+/// and one bit. The last is the index, so that runs stop where it is 1.
 fn encode(products: usize, bits: usize, ifs: usize) -> Vec<u8> {
     let (sums, remaining) = (bits / 32, (bits % 32) as u8);
-    let mut bytes = vec![1, 3, 32, remaining.max(1), 1, 2, 1, 1, 0];
+    let mut bytes = vec![1, 3, 32, remaining.max(1), 1, 3, 1, 1, 0];
     bytes.extend([0x05, 0, 0, 0].repeat(products));
     bytes.extend([0x03, 0, 0, 0].repeat(sums));
     if remaining > 0 {
         bytes.extend([0x03, 1, 1, 1]);
     }
     bytes.extend([0x0B, 0, 2, 2, 0x0C, 0x0D].repeat(ifs));
-    bytes.extend([0x0A, 0, 0, 0, 0x00]);
+    bytes.extend([0x0A, 0, 2, 0, 0x00]);
     bytes
 }
 

@@ -226,14 +226,14 @@ pub fn equal(rng: &mut Rng, header: &Header, variable: u8) -> u8 {
 
 /// What the index variable of an access is set to right before it.
 #[derive(Clone, Copy)]
-enum Index {
+pub enum Index {
     Inside,
     Any,
     AsItIs,
 }
 
 /// A read or write of some array.
-fn access(rng: &mut Rng, header: &Header, index: Index) -> Vec<u8> {
+pub fn access(rng: &mut Rng, header: &Header, index: Index) -> Vec<u8> {
     let array = rng.below(header.sizes.len());
     let size = header.sizes[array];
     let (i, other) = (header.any_variable(rng), header.any_variable(rng));

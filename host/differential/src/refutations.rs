@@ -4,7 +4,7 @@ use crate::narrow::{draw_followed, draw_narrow};
 use crate::proof_draft::Refutation;
 use crate::refute::{refute, Style};
 use crate::rng::Rng;
-use oracle::{translate, Clauses, Literal};
+use oracle::{translate, Clauses};
 
 /// The most steps that the proof of a claim has. Over few variables no proof
 /// becomes long.
@@ -112,13 +112,8 @@ fn claim(rng: &mut Rng) -> Option<Refutation> {
         if translation.variables > 60 {
             return None;
         }
-        let number = |literal: &Literal| literal.0;
-        let clauses = clauses
-            .first(clauses.len())
-            .map(|clause| clause.iter().map(number).collect())
-            .collect();
         let variables = translation.variables as u32;
-        let mut refutation = with_proof(rng, clauses, variables, MAX_STEPS)?;
+        let mut refutation = with_proof(rng, clauses.numbers(), variables, MAX_STEPS)?;
         refutation.lead = [&[access, side][..], &decisions].concat();
         for _ in 0..4 * routine.input_widths().len() {
             refutation.lead.push(rng.byte());

@@ -5,7 +5,7 @@ use crate::compare::Verdict;
 use crate::counter::Counter;
 use crate::survey::{AccessSite, Survey};
 use crate::translation_case::TranslationCase;
-use oracle::refusal::{BUFFER, DECISION_COUNT, LEAD_RANGE, STARTS_BUFFER, WORDS_BUFFER};
+use oracle::refusal::{BUFFER, LEAD_LENGTH, LEAD_RANGE, STARTS_BUFFER, WORDS_BUFFER};
 use oracle::{Literal, Refusal, Routine, Translation};
 use pellet::ANSWER_LEN;
 use std::fmt;
@@ -121,7 +121,7 @@ const SHAPES: &[Shape] = &[
 fn goals() -> Vec<(Event, u64)> {
     let mut goals = Vec::new();
     goals.extend((1..=8).map(|number| (Event::Refused(number), 30)));
-    goals.push((Event::Refused(DECISION_COUNT), 100));
+    goals.push((Event::Refused(LEAD_LENGTH), 100));
     goals.push((Event::Refused(LEAD_RANGE), 100));
     goals.extend(["access", "side", "decision"].map(|what| (Event::OutOfRange(what), 50)));
     goals.extend([WORDS_BUFFER, STARTS_BUFFER].map(|buffer| (Event::BufferRefused(buffer), 100)));

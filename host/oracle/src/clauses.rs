@@ -86,6 +86,12 @@ impl Clauses {
     pub fn first(&self, count: usize) -> impl Iterator<Item = &[Literal]> + Clone {
         (0..count).map(move |number| self.get(number))
     }
+
+    /// All clauses as lists of the literals' numbers.
+    pub fn numbers(&self) -> Vec<Vec<u32>> {
+        let numbers = |clause: &[Literal]| clause.iter().map(|literal| literal.0).collect();
+        self.first(self.len()).map(numbers).collect()
+    }
 }
 
 impl Sink for Clauses {

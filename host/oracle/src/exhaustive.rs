@@ -1,4 +1,5 @@
-//! The check of a translation against the run on every accepted input list:
+//! Every accepted input list of a routine: what a claim comes to on it, and the
+//! check of a translation against the run:
 //! the clauses before the last two leave one assignment that extends the list,
 //! its arrival literal is true exactly where the run comes to the named access
 //! by the decisions, and its side literal then exactly where the index lies on
@@ -7,8 +8,8 @@
 use crate::clauses::{Clauses, Literal};
 use crate::propagation::{propagate, Assignment};
 use crate::routine::{parse, Routine};
-use crate::run::{carry_out, Arm, Event, Outcome, Run};
-use crate::translation::{Decision, Named, Translation};
+use crate::run::{carry_out, Event, Outcome, Run};
+use crate::translation::{Named, Translation};
 
 /// The most input bits that are gone through.
 pub const MAX_INPUT_BITS: u32 = 10;
@@ -21,6 +22,36 @@ pub struct Lists {
     pub arriving: usize,
     /// And its index lies on the named side.
     pub on_side: usize,
+}
+
+/// What one input list says about a claim.
+#[derive(Clone, Debug, PartialEq, Eq)]
+pub struct Tried {
+    pub inputs: Vec<u32>,
+    /// The run comes to the named access by the decisions.
+    pub arrives: bool,
+    /// And its index lies on the named side.
+    pub is_on_side: bool,
+}
+
+/// Tries a claim on every accepted input list, by the run alone: it holds
+/// where every list that arrives is on the side.
+pub fn try_every_input(
+    bytes: &[u8],
+    (access, side, decisions): (u8, u8, &[u8]),
+) -> Result<Vec<Tried>, String> {
+    let refused = |refusal| format!("refused: {refusal:?}");
+    let routine = parse(bytes).map_err(refused)?;
+    let named = Named::new(&routine, access, side, decisions).map_err(refused)?;
+    let tried = every_list(&routine)?.map(|inputs| {
+        let (arrives, is_on_side) = meaning(&carry_out(&routine, &inputs), &named);
+        Tried {
+            inputs,
+            arrives,
+            is_on_side,
+        }
+    });
+    Ok(tried.collect())
 }
 
 /// How many bits the input words of a routine have together.
@@ -41,12 +72,8 @@ pub fn check_every_input(
     let routine = parse(bytes).map_err(refused)?;
     let named = Named::new(&routine, access, side, decisions).map_err(refused)?;
     let (arrival, on_side) = last_two(clauses)?;
-    if input_bits(&routine) > MAX_INPUT_BITS {
-        return Err(format!("{} input bits", input_bits(&routine)));
-    }
     let mut lists = Lists::default();
-    for number in 0..1_u64 << input_bits(&routine) {
-        let inputs = nth_list(&routine, number);
+    for inputs in every_list(&routine)? {
         let run = carry_out(&routine, &inputs);
         let assignment = extend(translation, clauses, &inputs)
             .map_err(|problem| format!("inputs {inputs:?}: {problem}"))?;
@@ -75,6 +102,15 @@ fn last_two(clauses: &Clauses) -> Result<(Literal, Literal), String> {
         (&[arrival], &[opposite]) => Ok((arrival, -opposite)),
         last => Err(format!("the last two clauses are {last:?}")),
     }
+}
+
+/// Every accepted input list, where they are not too many.
+fn every_list(routine: &Routine) -> Result<impl Iterator<Item = Vec<u32>> + '_, String> {
+    let bits = input_bits(routine);
+    if bits > MAX_INPUT_BITS {
+        return Err(format!("{bits} input bits"));
+    }
+    Ok((0..1_u64 << bits).map(|number| nth_list(routine, number)))
 }
 
 /// The input list of this number: its bits are dealt out to the words.
@@ -114,11 +150,7 @@ fn meaning(run: &Run, named: &Named) -> (bool, bool) {
         Some(position) => &run.events[..position],
     };
     let by_the_decisions = before.iter().all(|event| match *event {
-        Event::If { number, arm } => match named.decisions[number] {
-            Decision::First => arm == Arm::First,
-            Decision::Else => arm == Arm::Else,
-            Decision::Free => true,
-        },
+        Event::If { number, arm } => named.decisions[number].allows(arm),
         Event::Access { .. } => true,
     });
     let on_side = match run.outcome {

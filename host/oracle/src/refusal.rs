@@ -1,5 +1,5 @@
-//! The numbers under which a routine, a run, a translation or a proof is turned
-//! down.
+//! The numbers under which a routine, a run, a translation, a proof or a report
+//! is turned down.
 
 /// A refusal: its number and its place. What the place says goes with the
 /// number: an offset, a length, an input number or a buffer number.
@@ -35,11 +35,21 @@ pub const TRAILING: u8 = 8;
 pub const INPUT_COUNT: u8 = 9;
 /// An input too great for its variable; the place is the input's number.
 pub const INPUT_RANGE: u8 = 10;
-/// Wrong number of decisions; the place is the number given.
-pub const DECISION_COUNT: u8 = 11;
+/// Wrong number of decisions, and the place is the number given; or, of a
+/// report, its lead cut short or the report too long, and the place is the
+/// report's length.
+pub const LEAD_LENGTH: u8 = 11;
 /// Access, side or decision out of range; the place is 0 for the access, 1 for
 /// the side, 2 and the if's number for a decision.
 pub const LEAD_RANGE: u8 = 12;
+/// The witness takes another arm than the decided one; the if's number.
+pub const OTHER_WAY: u8 = 13;
+/// The witness ends or stops without coming to the named access; the place is
+/// that access.
+pub const NOT_COME_TO: u8 = 14;
+/// The witness's index at the named access is not on the side; the place is
+/// that access.
+pub const NOT_ON_SIDE: u8 = 15;
 /// A buffer too small; the place is the buffer's number.
 pub const BUFFER: u8 = 16;
 /// Proof command unknown, cut short or missing; the place is its offset.
@@ -66,6 +76,8 @@ pub const NO_ROOM: u8 = 25;
 pub const WORDS_BUFFER: usize = 0;
 /// The number of the starts buffer in a refusal 16.
 pub const STARTS_BUFFER: usize = 1;
+/// The number of the marks buffer in a refusal 16.
+pub const MARKS_BUFFER: usize = 2;
 /// The number of the values buffer in a refusal 16.
 pub const VALUES_BUFFER: usize = 3;
 /// The number of the trail buffer in a refusal 16.

@@ -79,7 +79,7 @@ pub fn run(
 
 /// One word for each parameter and each read, each below 2 to the width of
 /// its variable, whether the run will come to the read or not.
-fn check_inputs(routine: &Routine, inputs: &[u32]) -> Result<(), Refusal> {
+pub(crate) fn check_inputs(routine: &Routine, inputs: &[u32]) -> Result<(), Refusal> {
     let widths = routine.input_widths();
     if inputs.len() != widths.len() {
         return Err(Refusal::new(INPUT_COUNT, inputs.len()));
@@ -94,7 +94,11 @@ fn check_inputs(routine: &Routine, inputs: &[u32]) -> Result<(), Refusal> {
     }
 }
 
-fn check_buffers(routine: &Routine, values_len: usize, trail_len: usize) -> Result<(), Refusal> {
+pub(crate) fn check_buffers(
+    routine: &Routine,
+    values_len: usize,
+    trail_len: usize,
+) -> Result<(), Refusal> {
     if values_len < routine.header.widths.len() {
         return Err(Refusal::new(BUFFER, VALUES_BUFFER));
     }

@@ -5,9 +5,9 @@ use crate::circuits::{constant, resize, top};
 use crate::clauses::{Discard, Literal, Sink};
 use crate::netlist::Netlist;
 use crate::propagation::Assignment;
-use crate::refusal::{Refusal, BUFFER, DECISION_COUNT, LEAD_RANGE, STARTS_BUFFER, WORDS_BUFFER};
+use crate::refusal::{Refusal, BUFFER, LEAD_LENGTH, LEAD_RANGE, STARTS_BUFFER, WORDS_BUFFER};
 use crate::routine::{parse, Branch, Command, Header, Routine};
-use crate::run::Side;
+use crate::run::{Arm, Side};
 use std::mem::replace;
 use std::ops::ControlFlow;
 
@@ -87,6 +87,17 @@ pub(crate) enum Decision {
     Free,
 }
 
+impl Decision {
+    /// Whether a run that takes this arm keeps to the decision.
+    pub fn allows(self, arm: Arm) -> bool {
+        match self {
+            Decision::First => arm == Arm::First,
+            Decision::Else => arm == Arm::Else,
+            Decision::Free => true,
+        }
+    }
+}
+
 /// The access and side that a translation is about, and the decisions.
 pub(crate) struct Named {
     pub access: usize,
@@ -97,7 +108,7 @@ pub(crate) struct Named {
 impl Named {
     pub fn new(routine: &Routine, access: u8, side: u8, decisions: &[u8]) -> Result<Self, Refusal> {
         if decisions.len() != routine.ifs {
-            return Err(Refusal::new(DECISION_COUNT, decisions.len()));
+            return Err(Refusal::new(LEAD_LENGTH, decisions.len()));
         }
         let access = usize::from(access);
         if access >= routine.accesses {

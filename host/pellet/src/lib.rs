@@ -14,8 +14,10 @@ pub const ANSWER_TOO_SHORT: u8 = 255;
 /// the buffer as too small.
 pub const MAX_ENTRIES: usize = 16_777_216;
 
+mod judge;
 mod prove;
 
+pub use judge::{alike, judge};
 pub use prove::{prove, NOT_STANDING};
 
 mod ffi {

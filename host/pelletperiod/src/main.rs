@@ -1,10 +1,13 @@
-//! Checks, runs and translates pick routines from the command line, over the
-//! proved calls of the static library. Nothing is decided here: files are read,
-//! the library is called, and what it answers is printed.
+//! Checks, runs and translates pick routines and judges reports on them from
+//! the command line, over the proved calls of the static library. Nothing is
+//! decided here: files are read, the library is called, and what it answers is
+//! printed.
 
 mod dimacs;
+mod judge;
 
 use dimacs::Translation;
+use judge::judge;
 use std::fmt;
 use std::io::{self, BufWriter, Write};
 use std::process::ExitCode;
@@ -17,12 +20,15 @@ const HELP: &str = "\
 usage: pelletperiod check ROUTINE
        pelletperiod run ROUTINE [WORD]...
        pelletperiod translate ROUTINE ACCESS SIDE DECISIONS
+       pelletperiod judge ROUTINE REPORT...
 
 check      prints a routine's counts
 run        runs it on the input words: one for each parameter, then one for each read
 translate  prints the clauses about one access and side in DIMACS CNF
+judge      judges reports on the routine, a line for each
 
-ROUTINE is a file of the routine's bytes; a WORD is decimal, or hexadecimal after 0x.
+ROUTINE is a file of the routine's bytes, REPORT one of a report's; a WORD is decimal, or
+hexadecimal after 0x.
 ACCESS is the number of the access from 0, SIDE is 0 for below and 1 for above, and
 DECISIONS has a digit for each if: 0 first arm, 1 else, 2 free; `-` where there is none.
 Exit status: 0 done, 1 refused, 2 bad usage or a file that cannot be read.";
@@ -41,32 +47,54 @@ impl fmt::Display for Refused {
 
 /// What a command prints.
 enum Printed {
-    Line(String),
+    /// One or more lines, without the last line's end.
+    Text(String),
     Clauses(Translation),
 }
 
 impl Printed {
     fn write(&self, out: &mut impl Write) -> io::Result<()> {
         match self {
-            Printed::Line(line) => writeln!(out, "{line}"),
+            Printed::Text(text) => writeln!(out, "{text}"),
             Printed::Clauses(translation) => dimacs::write(translation, out),
         }
+    }
+}
+
+/// What a command came to, and whether something was refused.
+struct Done {
+    printed: Printed,
+    is_refused: bool,
+}
+
+impl Done {
+    fn new(result: Result<Printed, Refused>) -> Self {
+        let is_refused = result.is_err();
+        let printed = result.unwrap_or_else(|refused| Printed::Text(refused.to_string()));
+        Done {
+            printed,
+            is_refused,
+        }
+    }
+
+    fn text(result: Result<String, Refused>) -> Self {
+        Done::new(result.map(Printed::Text))
     }
 }
 
 fn main() -> ExitCode {
     let words: Vec<String> = std::env::args().skip(1).collect();
     let words: Vec<&str> = words.iter().map(String::as_str).collect();
-    let (printed, code) = match carry_out(&words) {
-        Ok(Ok(printed)) => (printed, 0),
-        Ok(Err(refused)) => (Printed::Line(refused.to_string()), 1),
+    let done = match carry_out(&words) {
+        Ok(done) => done,
         Err(message) => {
             eprintln!("{message}");
             return ExitCode::from(2);
         }
     };
+    let code = u8::from(done.is_refused);
     let mut out = BufWriter::new(io::stdout().lock());
-    match printed.write(&mut out).and_then(|()| out.flush()) {
+    match done.printed.write(&mut out).and_then(|()| out.flush()) {
         Ok(()) => ExitCode::from(code),
         // Whoever read the output has had enough of it.
         Err(error) if error.kind() == io::ErrorKind::BrokenPipe => ExitCode::from(code),
@@ -77,20 +105,23 @@ fn main() -> ExitCode {
     }
 }
 
-fn carry_out(words: &[&str]) -> Result<Result<Printed, Refused>, String> {
+fn carry_out(words: &[&str]) -> Result<Done, String> {
     match words {
-        ["--help" | "-h"] => Ok(Ok(Printed::Line(HELP.to_string()))),
-        ["check", file] => Ok(check(&read(file)?).map(Printed::Line)),
+        ["--help" | "-h"] => Ok(Done::text(Ok(HELP.to_string()))),
+        ["check", file] => Ok(Done::text(check(&read(file)?))),
         ["run", file, inputs @ ..] => {
             let routine = read(file)?;
-            Ok(run(&routine, &parse(inputs)?).map(Printed::Line))
+            Ok(Done::text(run(&routine, &parse(inputs)?)))
         }
         ["translate", file, access, side, decisions] => {
             let routine = read(file)?;
             let (access, side) = (parse_byte(access)?, parse_byte(side)?);
             let decisions = parse_decisions(decisions)?;
-            Ok(translate(&routine, access, side, &decisions).map(Printed::Clauses))
+            let translation = translate(&routine, access, side, &decisions);
+            Ok(Done::new(translation.map(Printed::Clauses)))
         }
+        ["judge", file, report] => Ok(Done::text(judge(&read(file)?, &read(report)?))),
+        ["judge", file, reports @ ..] if !reports.is_empty() => judge_all(&read(file)?, reports),
         _ => Err(HELP.to_string()),
     }
 }
@@ -123,6 +154,23 @@ fn parse_decisions(word: &str) -> Result<Vec<u8>, String> {
         .chars()
         .map(|c| digit(c).ok_or_else(|| format!("{word}: {c} is not a decision")))
         .collect()
+}
+
+/// Judges several reports: their lines begin with the files' names. No line is
+/// printed where a file cannot be read.
+fn judge_all(routine: &[u8], files: &[&str]) -> Result<Done, String> {
+    let mut lines = Vec::new();
+    let mut is_refused = false;
+    for file in files {
+        let verdict = judge(routine, &read(file)?);
+        is_refused |= verdict.is_err();
+        let line = verdict.unwrap_or_else(|refused| refused.to_string());
+        lines.push(format!("{file}: {line}"));
+    }
+    Ok(Done {
+        printed: Printed::Text(lines.join("\n")),
+        is_refused,
+    })
 }
 
 fn check(routine: &[u8]) -> Result<String, Refused> {
@@ -187,9 +235,15 @@ fn outcome(answer: &[u64; pellet::ANSWER_LEN]) -> String {
     if stopped == 0 {
         return "ended".to_string();
     }
+    let (side, index) = side_and_index(side, negative, magnitude);
+    format!("stopped access {access} side {side} index {index}")
+}
+
+/// The name of a side, and an index in signed decimal.
+fn side_and_index(side: u64, negative: u64, magnitude: u64) -> (&'static str, String) {
     let side = if side == 0 { "below" } else { "above" };
     let sign = if negative == 1 { "-" } else { "" };
-    format!("stopped access {access} side {side} index {sign}{magnitude}")
+    (side, format!("{sign}{magnitude}"))
 }
 
 fn accepted(code: u8, answer: &[u64; pellet::ANSWER_LEN]) -> Result<(), Refused> {

@@ -1,5 +1,6 @@
 //! The commands of README.md, with what they print and their exit status.
 
+use std::path::Path;
 use std::process::{Command, Output};
 
 fn pelletperiod(words: &[&str]) -> Output {
@@ -104,6 +105,87 @@ fn tells_refusals_of_translations() {
     }
 }
 
+/// The routine and the report of document 01's second bench.
+const ROUTINE: &str = "examples/bench/routine.bin";
+const REPORT: &str = "examples/bench/report.bin";
+const ACCEPTED: &str = "accepted access 0 side below array 0 size 1 index -1 steps 1 hints 2";
+
+/// Puts bytes into a file of this name, apart from the tree.
+fn file(name: &str, bytes: &[u8]) -> String {
+    let path = Path::new(env!("CARGO_TARGET_TMPDIR")).join(name);
+    std::fs::write(&path, bytes).expect("the file is written");
+    path.to_str().expect("a name in text").to_string()
+}
+
+#[test]
+fn judges_the_bench_report() {
+    assert_eq!(
+        printed(&["judge", ROUTINE, REPORT]),
+        (format!("{ACCEPTED}\n"), Some(0))
+    );
+    for (name, report, line) in [
+        (
+            "other_hint",
+            &[0, 0, 2, 0, 0, 0, 0, 2, 1, 0, 0, 0, 3, 0][..],
+            "refused 20 place 7\n",
+        ),
+        (
+            "third_hint",
+            &[0, 0, 2, 0, 0, 0, 0, 2, 2, 0, 0, 0, 2, 1, 0, 0, 0, 3, 0],
+            "refused 22 place 12\n",
+        ),
+        (
+            "cut",
+            &[0, 0, 2, 0, 0, 0, 0, 2, 2, 0, 0, 0, 3],
+            "refused 17 place 13\n",
+        ),
+        ("empty", &[], "refused 11 place 0\n"),
+    ] {
+        assert_eq!(
+            printed(&["judge", ROUTINE, &file(name, report)]),
+            (line.to_string(), Some(1))
+        );
+    }
+}
+
+#[test]
+fn judges_several_reports() {
+    let both = format!("{REPORT}: {ACCEPTED}\n{REPORT}: {ACCEPTED}\n");
+    assert_eq!(
+        printed(&["judge", ROUTINE, REPORT, REPORT]),
+        (both, Some(0))
+    );
+    let other = file("other_side", &[0, 1, 0]);
+    let one_refused = format!("{other}: refused 15 place 0\n{REPORT}: {ACCEPTED}\n");
+    assert_eq!(
+        printed(&["judge", ROUTINE, &other, REPORT]),
+        (one_refused, Some(1))
+    );
+    assert_eq!(
+        printed(&["judge", REPORT, REPORT]),
+        ("refused 2 place 0\n".to_string(), Some(1))
+    );
+}
+
+/// Products of 32 bits: the translation needs more than is lent at first.
+#[test]
+fn lends_as_much_as_a_report_needs() {
+    let products = [0x05, 1, 1, 1].repeat(5);
+    let commands = [&products[..], &[0x0A, 0, 0, 0, 0x00]].concat();
+    // Variable 0 is set to 1, which is -1 in one bit.
+    let header = [1, 2, 1, 32, 0, 1, 1, 0, 0x01, 0, 1, 0, 0, 0];
+    let routine = file("products", &[&header[..], &commands].concat());
+    // The last clause says that the index is not below: {3}.
+    let clauses: u32 = 1 + 5 * (528 * 3 + 1024 * 14) + 2;
+    let last = (clauses - 1).to_le_bytes();
+    let hints = [&[2, 0, 0, 0, 0, 2], &last[..], &[3, 0]].concat();
+    let report = file("product_report", &[&[0, 0], &hints[..]].concat());
+    assert_eq!(
+        printed(&["judge", &routine, &report]),
+        (format!("{ACCEPTED}\n"), Some(0))
+    );
+}
+
 #[test]
 fn bad_usage_is_2() {
     for words in [
@@ -114,6 +196,11 @@ fn bad_usage_is_2() {
         &["translate", "examples/bench.bin", "0", "0"],
         &["translate", "examples/bench.bin", "256", "0", "-"],
         &["translate", "examples/bench.bin", "0", "0", "x"],
+        &["judge"],
+        &["judge", ROUTINE],
+        &["judge", "no such file", REPORT],
+        &["judge", ROUTINE, "no such file"],
+        &["judge", ROUTINE, REPORT, "no such file"],
     ] {
         let output = pelletperiod(words);
         assert_eq!(output.status.code(), Some(2));

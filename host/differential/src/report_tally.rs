@@ -1,0 +1,219 @@
+//! What the reports came to: a count for each refusal and shape, and how many
+//! of each there must be.
+
+use crate::compare::Verdict;
+use crate::counter::Counter;
+use crate::report_case::{Kind, ReportCase};
+use crate::truth::{lead_parts, LeadParts};
+use oracle::exhaustive::{input_bits, MAX_INPUT_BITS};
+use oracle::refusal::{BUFFER, INPUT_COUNT, PROOF_COMMAND};
+use oracle::{lead_len, Finding, Refusal, Routine, Side};
+use pellet::ANSWER_LEN;
+use std::fmt;
+
+/// Something a report can come to.
+#[derive(Clone, Copy, Debug, PartialEq, Eq, PartialOrd, Ord)]
+pub enum Event {
+    Accepted,
+    Refused(u8),
+    BufferRefused(usize),
+    AnswerTooShort(usize),
+    Shape(&'static str),
+}
+
+impl fmt::Display for Event {
+    fn fmt(&self, f: &mut fmt::Formatter<'_>) -> fmt::Result {
+        match *self {
+            Event::Accepted => write!(f, "accepted"),
+            Event::Refused(number) => write!(f, "refused {number}"),
+            Event::BufferRefused(buffer) => write!(f, "refused 16, buffer {buffer}"),
+            Event::AnswerTooShort(len) => write!(f, "an answer of {len}"),
+            Event::Shape(name) => write!(f, "{name}"),
+        }
+    }
+}
+
+/// A report that was judged, as the shapes below look at it.
+struct Facts<'a> {
+    case: &'a ReportCase,
+    /// None where it is refused.
+    routine: Option<Routine>,
+    finding: Option<&'a Finding>,
+    refusal: Option<Refusal>,
+}
+
+impl Facts<'_> {
+    fn is_accepted(&self, wanted: impl Fn(&Finding) -> bool) -> bool {
+        self.finding.into_iter().any(wanted)
+    }
+
+    fn is_refused(&self, number: u8, wanted: impl Fn(usize) -> bool) -> bool {
+        let mut refusals = self.refusal.iter();
+        refusals.any(|refusal| refusal.number == number && wanted(refusal.place))
+    }
+
+    /// The steps closed before a refusal in the proof; none for any other.
+    fn steps_before(&self) -> Option<usize> {
+        let refusal = self
+            .refusal
+            .filter(|refusal| refusal.number >= PROOF_COMMAND)?;
+        let report = self.case.report.slice();
+        let mut at = lead_len(self.routine.as_ref()?);
+        let mut steps = 0;
+        while at < refusal.place {
+            steps += usize::from(report[at] == 3);
+            at += if matches!(report[at], 1 | 2) { 5 } else { 1 };
+        }
+        Some(steps)
+    }
+
+    /// The lead, where the routine is accepted and the lead is whole.
+    fn lead(&self) -> Option<LeadParts<'_>> {
+        lead_parts(self.routine.as_ref()?, self.case.report.slice())
+    }
+
+    fn has_decision(&self, wanted: impl Fn(u8) -> bool) -> bool {
+        let decisions = self.lead().map_or(&[][..], |lead| lead.decisions);
+        decisions.iter().any(|&decision| wanted(decision))
+    }
+
+    /// Whether the witness's run, gone on as far as it goes, comes to the named
+    /// access, and whether it takes another arm than a decided one anywhere.
+    fn whole_run(&self) -> Option<(bool, bool)> {
+        let lead = self.lead()?;
+        let run = oracle::run(self.case.routine.slice(), &lead.witness, 32, 32).ok()?;
+        let access = oracle::Event::Access {
+            number: usize::from(lead.access),
+        };
+        let mut arms = run.trail.iter().zip(lead.decisions);
+        let strays = arms.any(|(arm, &decision)| arm.byte() + decision == 1);
+        Some((run.events.contains(&access), strays))
+    }
+}
+
+/// A shape: its name, how many cases must have it, and the test for it.
+type Shape = (&'static str, u64, fn(&Facts) -> bool);
+
+const SHAPES: &[Shape] = &[
+    ("accepted below", 300, |f| {
+        f.is_accepted(|finding| finding.side == Side::Below)
+    }),
+    ("accepted above", 300, |f| {
+        f.is_accepted(|finding| finding.side == Side::Above)
+    }),
+    ("accepted after five steps", 100, |f| {
+        f.is_accepted(|finding| finding.steps >= 5)
+    }),
+    ("accepted at a later access", 300, |f| {
+        f.is_accepted(|finding| finding.access > 0)
+    }),
+    ("accepted with a decided if", 300, |f| {
+        f.is_accepted(|_| f.has_decision(|decision| decision < 2))
+    }),
+    ("accepted with a free if", 300, |f| {
+        f.is_accepted(|_| f.has_decision(|decision| decision == 2))
+    }),
+    ("accepted on a wide routine", 100, |f| {
+        let routine = f.routine.as_ref();
+        let is_wide = |routine: &Routine| input_bits(routine) > MAX_INPUT_BITS;
+        f.is_accepted(|_| routine.into_iter().any(is_wide))
+    }),
+    ("accepted with an index below -4096", 10, |f| {
+        f.is_accepted(|finding| finding.index < -4096)
+    }),
+    ("accepted with an index above 4096", 10, |f| {
+        f.is_accepted(|finding| finding.index > 4096)
+    }),
+    ("accepted though damaged", 100, |f| {
+        f.is_accepted(|_| f.case.kind == Kind::Damaged)
+    }),
+    ("good and accepted", 1000, |f| {
+        f.is_accepted(|_| f.case.kind == Kind::Good)
+    }),
+    ("forged, and refused in the first step", 300, |f| {
+        f.case.kind == Kind::Forged && f.steps_before() == Some(0)
+    }),
+    ("forged, and refused after a step", 100, |f| {
+        f.case.kind == Kind::Forged && f.steps_before() > Some(0)
+    }),
+    ("refused 12, access", 30, |f| f.is_refused(12, |at| at == 0)),
+    ("refused 12, side", 30, |f| f.is_refused(12, |at| at == 1)),
+    ("refused 12, decision", 30, |f| {
+        f.is_refused(12, |at| at >= 2)
+    }),
+    ("refused 13, a later if", 30, |f| {
+        f.is_refused(13, |number| number > 0)
+    }),
+    ("refused 14, a later access", 30, |f| {
+        f.is_refused(14, |access| access > 0)
+    }),
+    ("refused 13, missing the access too", 30, |f| {
+        f.is_refused(13, |_| matches!(f.whole_run(), Some((false, _))))
+    }),
+    ("refused 14, with another arm behind it", 10, |f| {
+        f.is_refused(14, |_| matches!(f.whole_run(), Some((_, true))))
+    }),
+    ("refused 15, a later access", 30, |f| {
+        f.is_refused(15, |access| access > 0)
+    }),
+];
+
+/// Every event that must come up, with the least number of times.
+fn goals() -> Vec<(Event, u64)> {
+    let mut goals = vec![(Event::Accepted, 1000)];
+    goals.extend((1..=8).map(|number| (Event::Refused(number), 30)));
+    goals.extend((10..=25).map(|number| (Event::Refused(number), 100)));
+    goals.extend((0..5).map(|buffer| (Event::BufferRefused(buffer), 100)));
+    goals.extend((0..ANSWER_LEN).map(|len| (Event::AnswerTooShort(len), 10)));
+    for &(name, least, _) in SHAPES {
+        goals.push((Event::Shape(name), least));
+    }
+    goals
+}
+
+pub struct ReportTally(Counter<Event>);
+
+impl Default for ReportTally {
+    fn default() -> Self {
+        ReportTally(Counter::new(goals()))
+    }
+}
+
+impl ReportTally {
+    pub fn counter(&self) -> &Counter<Event> {
+        &self.0
+    }
+
+    pub fn add(&mut self, case: &ReportCase, verdict: &Verdict<Finding>) {
+        self.0.begin_case();
+        let (finding, refusal) = match verdict {
+            Verdict::Done(finding) => (Some(finding), None),
+            Verdict::Refused(refusal) => (None, Some(*refusal)),
+            Verdict::AnswerTooShort => {
+                return self.0.hit(Event::AnswerTooShort(case.answer.len()));
+            }
+        };
+        match refusal {
+            None => self.0.hit(Event::Accepted),
+            Some(refusal) => {
+                assert_ne!(case.kind, Kind::Good, "refused: {refusal:?}\n{case}");
+                assert_ne!(refusal.number, INPUT_COUNT, "never from judging");
+                self.0.hit(Event::Refused(refusal.number));
+                if refusal.number == BUFFER {
+                    self.0.hit(Event::BufferRefused(refusal.place));
+                }
+            }
+        }
+        let facts = Facts {
+            case,
+            routine: oracle::parse(case.routine.slice()).ok(),
+            finding,
+            refusal,
+        };
+        for &(name, _, holds) in SHAPES {
+            if holds(&facts) {
+                self.0.hit(Event::Shape(name));
+            }
+        }
+    }
+}

@@ -1,0 +1,161 @@
+//! The bench's reports, every length of every buffer around the one needed, and
+//! the limits, compared with the oracle entry by entry.
+
+use differential::alike_case::AlikeCase;
+use differential::alike_compare::compare_alike;
+use differential::compare::Verdict;
+use differential::limit::routine_of;
+use differential::proof_draft::encode;
+use differential::report_case::ReportCase;
+use differential::report_compare::compare_report;
+use differential::report_draft::Report;
+use differential::rng::Rng;
+use oracle::{Finding, Refusal, Room, Side, MAX_ENTRIES, MAX_REPORT};
+
+const SEED: u64 = 0x50E1_1E7D_2026_000F;
+
+/// The second routine of the bench section, and its report.
+const ROUTINE: &[u8] = &[1, 1, 1, 0, 1, 1, 0, 0x01, 0, 1, 0, 0, 0, 0x0A, 0, 0, 0, 0];
+const REPORT: &[u8] = &[0, 0, 2, 0, 0, 0, 0, 2, 2, 0, 0, 0, 3, 0];
+
+/// What library and oracle both come to, with so much room lent.
+fn agreed(routine: &[u8], report: &[u8], lent: [usize; 5]) -> Verdict<Finding> {
+    let [words, starts, marks, values, trail] = lent;
+    let room = Room {
+        words,
+        starts,
+        marks,
+        values,
+        trail,
+    };
+    let case = ReportCase::lending(&mut Rng::for_case(SEED, 0), routine, report, room);
+    compare_report(&case).unwrap_or_else(|report| panic!("{report}"))
+}
+
+/// With what the judging program of the bench section lends.
+fn judged(routine: &[u8], report: &[u8]) -> Verdict<Finding> {
+    agreed(routine, report, [16_384, 16_384, 16_384, 32, 32])
+}
+
+fn refused<T>(number: u8, place: usize) -> Verdict<T> {
+    Verdict::Refused(Refusal { number, place })
+}
+
+fn bench_finding() -> Verdict<Finding> {
+    Verdict::Done(Finding {
+        access: 0,
+        side: Side::Below,
+        array: 0,
+        size: 1,
+        index: -1,
+        steps: 1,
+        hints: 2,
+    })
+}
+
+#[test]
+fn bench_reports() {
+    assert_eq!(judged(ROUTINE, REPORT), bench_finding());
+    let other_hint = [0, 0, 2, 0, 0, 0, 0, 2, 1, 0, 0, 0, 3, 0];
+    assert_eq!(judged(ROUTINE, &other_hint), refused(20, 7));
+    let third_hint = [0, 0, 2, 0, 0, 0, 0, 2, 2, 0, 0, 0, 2, 1, 0, 0, 0, 3, 0];
+    assert_eq!(judged(ROUTINE, &third_hint), refused(22, 12));
+    assert_eq!(judged(ROUTINE, &REPORT[..13]), refused(17, 13));
+    // Missing files are empty ones.
+    assert_eq!(judged(&[], REPORT), refused(1, 0));
+    assert_eq!(judged(ROUTINE, &[]), refused(11, 0));
+}
+
+/// A report of at least so many steps, and what judging it needs.
+fn with_steps(least: usize) -> (Report, [usize; 5]) {
+    let report = (0..)
+        .map(|case| Report::draw(&mut Rng::for_case(SEED, case)))
+        .find(|report| report.refutation.steps().len() >= least && report.claim.routine.ifs > 1)
+        .expect("one of them");
+    let (words, starts) = report.refutation.needed();
+    let marks = report.refutation.variables as usize + 1;
+    let routine = &report.claim.routine;
+    let (values, trail) = (routine.header.widths.len(), routine.ifs);
+    (report, [words, starts, marks, values, trail])
+}
+
+/// Each buffer shorter and longer than needed, the others just long enough.
+#[test]
+fn every_length_of_every_buffer() {
+    let (report, needed) = with_steps(4);
+    let bytes = [
+        &report.refutation.lead[..],
+        &encode(&report.refutation.commands),
+    ]
+    .concat();
+    let routine = &report.claim.bytes;
+    let given = [
+        report.refutation.given_words(),
+        report.refutation.clauses.len(),
+    ];
+    for buffer in 0..5 {
+        for len in 0..=needed[buffer] + 2 {
+            let mut lent = needed;
+            lent[buffer] = len;
+            let verdict = agreed(routine, &bytes, lent);
+            let number = match verdict {
+                Verdict::Refused(refusal) => refusal.number,
+                _ => 0,
+            };
+            let expected = match given.get(buffer) {
+                _ if len >= needed[buffer] => 0,
+                Some(&given) if len >= given => 25,
+                _ => 16,
+            };
+            assert_eq!(number, expected, "buffer {buffer} of {len}");
+        }
+    }
+}
+
+/// More entries than are ever used: the first are zeros, those beyond are left
+/// alone, whether the report is accepted or even the routine refused.
+#[test]
+fn buffers_beyond_the_limit() {
+    for buffer in 0..5 {
+        let mut lent = [16, 16, 16, 1, 1];
+        lent[buffer] = MAX_ENTRIES + 5;
+        assert_eq!(agreed(ROUTINE, REPORT, lent), bench_finding());
+    }
+    let all = [MAX_ENTRIES + 3; 5];
+    assert_eq!(agreed(&[], REPORT, all), refused(1, 0));
+}
+
+/// A report of 16,777,216 bytes is looked at, a longer one is not.
+#[test]
+fn reports_at_the_limit() {
+    let mut longest = REPORT.to_vec();
+    longest.resize(MAX_REPORT, 0);
+    let likeness = |first: &[u8], second: &[u8]| {
+        let case = AlikeCase::of(&mut Rng::for_case(SEED, 1), ROUTINE, first, second);
+        compare_alike(&case).unwrap_or_else(|report| panic!("{report}"))
+    };
+    assert_eq!(judged(ROUTINE, &longest), refused(24, 14));
+    assert_eq!(likeness(&longest, REPORT), Verdict::Done(true));
+    longest.push(0);
+    let too_long = MAX_REPORT + 1;
+    assert_eq!(judged(ROUTINE, &longest), refused(11, too_long));
+    assert_eq!(likeness(&longest, REPORT), refused(11, too_long));
+    assert_eq!(likeness(REPORT, &longest), refused(11, too_long));
+}
+
+/// A translation that takes all words that are ever used leaves none for a
+/// step, and one that takes more does not fit, whatever is lent.
+#[test]
+fn translations_at_the_limit() {
+    for (words, number) in [(MAX_ENTRIES, 25), (MAX_ENTRIES + 2, 16)] {
+        let (routine, decisions) = routine_of(words);
+        let mut report = [&[0, 0][..], &decisions].concat();
+        // The index is the third parameter: 1 in one bit is -1.
+        report.extend([0, 0, 1].iter().flat_map(|word: &u32| word.to_le_bytes()));
+        // The step's first literal finds no room.
+        let place = if number == 25 { report.len() } else { 0 };
+        report.extend([1, 2, 0, 0, 0]);
+        let lent = [MAX_ENTRIES + 9, MAX_ENTRIES, MAX_ENTRIES, 32, 32];
+        assert_eq!(agreed(&routine, &report, lent), refused(number, place));
+    }
+}
