@@ -1,14 +1,19 @@
 //! Judging reports with as much room as they need.
 
-use crate::{accepted, side_and_index, Refused, MOST_IFS, MOST_VARIABLES};
+use crate::claim::side_name;
+use crate::refused::{accepted, Refused};
 
 /// The words, starts and marks that are lent at first. Most reports need no
 /// more, and all that is lent is filled with zeros.
 const FIRST_ENTRIES: usize = 16_384;
 
+/// The most variables and the most ifs that a routine can have.
+pub const MOST_VARIABLES: usize = 32;
+pub const MOST_IFS: usize = 32;
+
 /// Judges a report; lends more and judges again where room was short, until no
-/// more would be used.
-pub(crate) fn judge(routine: &[u8], report: &[u8]) -> Result<String, Refused> {
+/// more would be used. Hands back the line of an accepted one.
+pub fn judge(routine: &[u8], report: &[u8]) -> Result<String, Refused> {
     let mut entries = FIRST_ENTRIES;
     loop {
         let verdict = judge_with(routine, report, entries);
@@ -44,9 +49,15 @@ fn judge_with(routine: &[u8], report: &[u8], entries: usize) -> Result<String, R
     );
     accepted(code, &answer)?;
     let [access, side, array, size, negative, magnitude, steps, hints] = answer;
-    let (side, index) = side_and_index(side, negative, magnitude);
+    let (side, index) = (side_name(side), index(negative, magnitude));
     Ok(format!(
         "accepted access {access} side {side} array {array} size {size} \
          index {index} steps {steps} hints {hints}"
     ))
+}
+
+/// An index in signed decimal.
+pub fn index(negative: u64, magnitude: u64) -> String {
+    let sign = if negative == 1 { "-" } else { "" };
+    format!("{sign}{magnitude}")
 }

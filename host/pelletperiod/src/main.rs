@@ -1,84 +1,45 @@
-//! Checks, runs and translates pick routines and judges reports on them from
-//! the command line, over the proved calls of the static library. Nothing is
-//! decided here: files are read, the library is called, and what it answers is
-//! printed.
+//! Checks, runs and translates pick routines, and makes and judges reports on
+//! them from the command line. Files are read, the library is called, and what
+//! it answers is printed.
 
-mod dimacs;
-mod judge;
+mod help;
+mod words;
 
-use dimacs::Translation;
-use judge::judge;
-use std::fmt;
+use help::help;
+use pelletperiod::claim::side_name;
+use pelletperiod::judge::{index, MOST_IFS, MOST_VARIABLES};
+use pelletperiod::progress::during;
+use pelletperiod::propose::{judge_report, report, translate};
+use pelletperiod::refused::accepted;
+use pelletperiod::{dimacs, inputs, judge, model, propose, solver};
+use pelletperiod::{Claim, Proposal, Refused, Solver};
 use std::io::{self, BufWriter, Write};
 use std::process::ExitCode;
+use words::{parse_byte, parse_decisions, parse_inputs, parse_seconds, parse_witness, Words};
 
-/// The most variables and the most ifs that a routine can have.
-const MOST_VARIABLES: usize = 32;
-const MOST_IFS: usize = 32;
+/// Where a report goes that nothing else is said about.
+const REPORT: &str = "report.bin";
 
-const HELP: &str = "\
-usage: pelletperiod check ROUTINE
-       pelletperiod run ROUTINE [WORD]...
-       pelletperiod translate ROUTINE ACCESS SIDE DECISIONS
-       pelletperiod judge ROUTINE REPORT...
-
-check      prints a routine's counts
-run        runs it on the input words: one for each parameter, then one for each read
-translate  prints the clauses about one access and side in DIMACS CNF
-judge      judges reports on the routine, a line for each
-
-ROUTINE is a file of the routine's bytes, REPORT one of a report's; a WORD is decimal, or
-hexadecimal after 0x.
-ACCESS is the number of the access from 0, SIDE is 0 for below and 1 for above, and
-DECISIONS has a digit for each if: 0 first arm, 1 else, 2 free; `-` where there is none.
-Exit status: 0 done, 1 refused, 2 bad usage or a file that cannot be read.";
-
-/// A refusal: the number and the place of document 01's table.
-struct Refused {
-    number: u8,
-    place: u64,
-}
-
-impl fmt::Display for Refused {
-    fn fmt(&self, f: &mut fmt::Formatter) -> fmt::Result {
-        write!(f, "refused {} place {}", self.number, self.place)
-    }
-}
-
-/// What a command prints.
-enum Printed {
-    /// One or more lines, without the last line's end.
-    Text(String),
-    Clauses(Translation),
-}
-
-impl Printed {
-    fn write(&self, out: &mut impl Write) -> io::Result<()> {
-        match self {
-            Printed::Text(text) => writeln!(out, "{text}"),
-            Printed::Clauses(translation) => dimacs::write(translation, out),
-        }
-    }
-}
-
-/// What a command came to, and whether something was refused.
+/// What a command came to: what it prints, and whether something was refused.
 struct Done {
-    printed: Printed,
+    printed: Vec<u8>,
     is_refused: bool,
 }
 
 impl Done {
-    fn new(result: Result<Printed, Refused>) -> Self {
-        let is_refused = result.is_err();
-        let printed = result.unwrap_or_else(|refused| Printed::Text(refused.to_string()));
+    /// One or more lines, without the last line's end.
+    fn text(text: &str, is_refused: bool) -> Self {
         Done {
-            printed,
+            printed: format!("{text}\n").into_bytes(),
             is_refused,
         }
     }
 
-    fn text(result: Result<String, Refused>) -> Self {
-        Done::new(result.map(Printed::Text))
+    fn new(result: Result<String, Refused>) -> Self {
+        match result {
+            Ok(text) => Done::text(&text, false),
+            Err(refused) => Done::text(&refused.to_string(), true),
+        }
     }
 }
 
@@ -94,7 +55,7 @@ fn main() -> ExitCode {
     };
     let code = u8::from(done.is_refused);
     let mut out = BufWriter::new(io::stdout().lock());
-    match done.printed.write(&mut out).and_then(|()| out.flush()) {
+    match out.write_all(&done.printed).and_then(|()| out.flush()) {
         Ok(()) => ExitCode::from(code),
         // Whoever read the output has had enough of it.
         Err(error) if error.kind() == io::ErrorKind::BrokenPipe => ExitCode::from(code),
@@ -106,71 +67,31 @@ fn main() -> ExitCode {
 }
 
 fn carry_out(words: &[&str]) -> Result<Done, String> {
-    match words {
-        ["--help" | "-h"] => Ok(Done::text(Ok(HELP.to_string()))),
-        ["check", file] => Ok(Done::text(check(&read(file)?))),
-        ["run", file, inputs @ ..] => {
-            let routine = read(file)?;
-            Ok(Done::text(run(&routine, &parse(inputs)?)))
+    let (&command, rest) = words.split_first().ok_or_else(|| help("").to_string())?;
+    if ["--help", "-h", "help"].contains(&command) {
+        let of = rest.first().copied().unwrap_or("");
+        return Ok(Done::text(help(of), false));
+    }
+    if rest.iter().any(|word| ["--help", "-h"].contains(word)) {
+        return Ok(Done::text(help(command), false));
+    }
+    match (command, rest) {
+        ("check", [file]) => Ok(Done::new(check(&read(file)?))),
+        ("run", [file, inputs @ ..]) => {
+            let inputs = parse_inputs(inputs)?;
+            Ok(Done::new(run(&read(file)?, &inputs)))
         }
-        ["translate", file, access, side, decisions] => {
-            let routine = read(file)?;
-            let (access, side) = (parse_byte(access)?, parse_byte(side)?);
-            let decisions = parse_decisions(decisions)?;
-            let translation = translate(&routine, access, side, &decisions);
-            Ok(Done::new(translation.map(Printed::Clauses)))
-        }
-        ["judge", file, report] => Ok(Done::text(judge(&read(file)?, &read(report)?))),
-        ["judge", file, reports @ ..] if !reports.is_empty() => judge_all(&read(file)?, reports),
-        _ => Err(HELP.to_string()),
+        ("translate", [claim @ ..]) if claim.len() == 4 => print_clauses(&claim_of(claim)?),
+        ("judge", [file, report]) => judge_one(&read(file)?, &read(report)?),
+        ("judge", [file, reports @ ..]) if !reports.is_empty() => judge_all(&read(file)?, reports),
+        ("propose", words) => propose_report(words),
+        ("from-lrat", words) => report_of_proof(words),
+        _ => Err(help(command).to_string()),
     }
 }
 
 fn read(file: &str) -> Result<Vec<u8>, String> {
     std::fs::read(file).map_err(|e| format!("{file}: {e}"))
-}
-
-fn parse(words: &[&str]) -> Result<Vec<u32>, String> {
-    words.iter().map(|word| parse_word(word)).collect()
-}
-
-fn parse_word(word: &str) -> Result<u32, String> {
-    let parsed = match word.strip_prefix("0x") {
-        Some(digits) => u32::from_str_radix(digits, 16),
-        None => word.parse(),
-    };
-    parsed.map_err(|e| format!("{word}: {e}"))
-}
-
-fn parse_byte(word: &str) -> Result<u8, String> {
-    word.parse().map_err(|e| format!("{word}: {e}"))
-}
-
-/// Any digit is handed on: which of them are decisions is the library's to say.
-fn parse_decisions(word: &str) -> Result<Vec<u8>, String> {
-    let digits = if word == "-" { "" } else { word };
-    let digit = |c: char| c.to_digit(10).map(|digit| digit as u8);
-    digits
-        .chars()
-        .map(|c| digit(c).ok_or_else(|| format!("{word}: {c} is not a decision")))
-        .collect()
-}
-
-/// Judges several reports: their lines begin with the files' names. No line is
-/// printed where a file cannot be read.
-fn judge_all(routine: &[u8], files: &[&str]) -> Result<Done, String> {
-    let mut lines = Vec::new();
-    let mut is_refused = false;
-    for file in files {
-        let verdict = judge(routine, &read(file)?);
-        is_refused |= verdict.is_err();
-        let line = verdict.unwrap_or_else(|refused| refused.to_string());
-        lines.push(format!("{file}: {line}"));
-    }
-    Ok(Done {
-        printed: Printed::Text(lines.join("\n")),
-        is_refused,
-    })
 }
 
 fn check(routine: &[u8]) -> Result<String, Refused> {
@@ -200,58 +121,120 @@ fn run(routine: &[u8], inputs: &[u32]) -> Result<String, Refused> {
     ))
 }
 
-fn translate(
-    routine: &[u8],
-    access: u8,
-    side: u8,
-    decisions: &[u8],
-) -> Result<Translation, Refused> {
-    // Never more are used; the pages that are not touched cost nothing.
-    let mut words = vec![0; pellet::MAX_ENTRIES];
-    let mut starts = vec![0; pellet::MAX_ENTRIES];
-    let mut answer = [0; pellet::ANSWER_LEN];
-    let lent = (&mut words, &mut starts);
-    let code = pellet::translate(
-        routine,
-        access,
-        side,
-        decisions,
-        lent.0,
-        lent.1,
-        &mut answer,
-    );
-    accepted(code, &answer)?;
-    let [clauses, used, variables, ..] = answer;
-    words.truncate(used as usize);
-    Ok(Translation {
-        words,
-        clauses,
-        variables,
-    })
-}
-
 fn outcome(answer: &[u64; pellet::ANSWER_LEN]) -> String {
     let [stopped, access, side, negative, magnitude, ..] = *answer;
     if stopped == 0 {
         return "ended".to_string();
     }
-    let (side, index) = side_and_index(side, negative, magnitude);
+    let (side, index) = (side_name(side), index(negative, magnitude));
     format!("stopped access {access} side {side} index {index}")
 }
 
-/// The name of a side, and an index in signed decimal.
-fn side_and_index(side: u64, negative: u64, magnitude: u64) -> (&'static str, String) {
-    let side = if side == 0 { "below" } else { "above" };
-    let sign = if negative == 1 { "-" } else { "" };
-    (side, format!("{sign}{magnitude}"))
+/// The claim of the four words ROUTINE ACCESS SIDE DECISIONS.
+fn claim_of(words: &[&str]) -> Result<Claim, String> {
+    Ok(Claim {
+        access: parse_byte("access", words[1])?,
+        side: parse_byte("side", words[2])?,
+        decisions: parse_decisions(words[3])?,
+        routine: read(words[0])?,
+    })
 }
 
-fn accepted(code: u8, answer: &[u64; pellet::ANSWER_LEN]) -> Result<(), Refused> {
-    match code {
-        0 => Ok(()),
-        number => Err(Refused {
-            number,
-            place: answer[0],
-        }),
+fn print_clauses(claim: &Claim) -> Result<Done, String> {
+    let (translation, inputs) = match translate(claim) {
+        Ok(translated) => translated,
+        Err(refused) => return Ok(Done::new(Err(refused))),
+    };
+    let mut printed = Vec::new();
+    let written = dimacs::write(claim, &translation, &inputs, &mut printed);
+    written.map_err(|e| e.to_string())?;
+    Ok(Done {
+        printed,
+        is_refused: false,
+    })
+}
+
+fn judge_one(routine: &[u8], report: &[u8]) -> Result<Done, String> {
+    Ok(Done::new(during("judging", |_| judge(routine, report))))
+}
+
+/// Judges several reports: their lines begin with the files' names. No line is
+/// printed where a file cannot be read.
+fn judge_all(routine: &[u8], files: &[&str]) -> Result<Done, String> {
+    let mut lines = Vec::new();
+    let mut is_refused = false;
+    for file in files {
+        let report = read(file)?;
+        let verdict = during(&format!("judging {file}"), |_| judge(routine, &report));
+        is_refused |= verdict.is_err();
+        let line = verdict.unwrap_or_else(|refused| refused.to_string());
+        lines.push(format!("{file}: {line}"));
     }
+    Ok(Done::text(&lines.join("\n"), is_refused))
+}
+
+fn propose_report(words: &[&str]) -> Result<Done, String> {
+    let words = Words::split(words, &["--out", "--solver", "--seconds"])?;
+    if words.plain.len() != 4 {
+        return Err(help("propose").to_string());
+    }
+    let solver = Solver {
+        command: words.option("--solver").unwrap_or(solver::DEFAULT).into(),
+        limit: words.option("--seconds").map(parse_seconds).transpose()?,
+    };
+    let claim = claim_of(&words.plain)?;
+    match propose(&claim, &solver)? {
+        Proposal::Refused(refused) => Ok(Done::new(Err(refused))),
+        Proposal::NoRun => Ok(Done::text("no run goes there", true)),
+        Proposal::NotSo(inputs) => {
+            let inputs: Vec<String> = inputs.iter().map(u32::to_string).collect();
+            let line = format!("not so: inputs {}", inputs.join(" "));
+            Ok(Done::text(line.trim_end(), true))
+        }
+        Proposal::Good { report, line } => {
+            keep(&words, &report)?;
+            Ok(Done::text(&line, false))
+        }
+    }
+}
+
+fn report_of_proof(words: &[&str]) -> Result<Done, String> {
+    let words = Words::split(words, &["--witness", "--model", "--out"])?;
+    if words.plain.len() != 5 {
+        return Err(help("from-lrat").to_string());
+    }
+    let claim = claim_of(&words.plain)?;
+    let (translation, inputs) = match translate(&claim) {
+        Ok(translated) => translated,
+        Err(refused) => return Ok(Done::new(Err(refused))),
+    };
+    let witness = match (words.option("--witness"), words.option("--model")) {
+        (Some(word), None) => parse_witness(word)?,
+        (None, Some(file)) => {
+            let text = String::from_utf8_lossy(&read(file)?).into_owned();
+            let model = model::parse(&text, translation.variables);
+            inputs::list(&inputs, &model.map_err(|e| format!("{file}: {e}"))?)
+        }
+        _ => return Err("give either --witness or --model".to_string()),
+    };
+    if witness.len() != inputs.len() {
+        let (given, wanted) = (witness.len(), inputs.len());
+        return Err(format!(
+            "the witness has {given} words, the routine takes {wanted}"
+        ));
+    }
+    let file = words.plain[4];
+    let report =
+        report(&claim, &translation, &witness, &read(file)?).map_err(|e| format!("{file}: {e}"))?;
+    let verdict = judge_report(&claim, &report);
+    if verdict.is_ok() {
+        keep(&words, &report)?;
+    }
+    Ok(Done::new(verdict))
+}
+
+/// Puts a report that was accepted into its file.
+fn keep(words: &Words, report: &[u8]) -> Result<(), String> {
+    let file = words.option("--out").unwrap_or(REPORT);
+    std::fs::write(file, report).map_err(|e| format!("{file}: {e}"))
 }

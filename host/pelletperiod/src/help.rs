@@ -1,0 +1,90 @@
+//! What the program says about itself.
+
+const WHOLE: &str = "\
+usage: pelletperiod COMMAND ...
+
+check      prints a routine's counts
+run        runs a routine on input words
+translate  prints the clauses of a claim, for a SAT solver
+judge      judges reports on a routine
+propose    has a SAT solver decide a claim and writes the report
+from-lrat  makes a report of a proof that a solver wrote
+
+`pelletperiod COMMAND --help` says more about a command.
+Exit status: 0 done or accepted, 1 refused or not so, 2 bad usage or a file or a solver that
+cannot be used.";
+
+const CHECK: &str = "\
+usage: pelletperiod check ROUTINE
+
+Prints the counts of a routine, or why it is refused. ROUTINE is a file of its bytes.";
+
+const RUN: &str = "\
+usage: pelletperiod run ROUTINE [WORD]...
+
+Runs a routine on input words, decimal or hexadecimal after 0x: one for each parameter, then
+one for each read. Prints where the run ended or stopped, the values of all variables, and the
+trail: for each if 0 (first arm), 1 (else) or 2 (not come to).";
+
+const TRANSLATE: &str = "\
+usage: pelletperiod translate ROUTINE ACCESS SIDE DECISIONS
+
+Prints clauses in DIMACS CNF: a run comes to the access by the decisions, and its index there is
+not on the side. Where nothing satisfies them, every run that comes there by the decisions has
+its index on the side. Comments name the variables of the input bits, the literal that is true
+where a run comes to the access, and the one that is true where its index is on the side.
+
+ACCESS is the number of the access from 0; SIDE is 0 for below and 1 for above; DECISIONS has a
+digit for each if: 0 first arm, 1 else, 2 free; `-` where there is no if.";
+
+const JUDGE: &str = "\
+usage: pelletperiod judge ROUTINE REPORT...
+
+Judges reports on a routine and prints a line for each, after the file's name where there are
+several. Exit status: 0 all accepted, 1 some refused, 2 bad usage or a file that cannot be read.";
+
+const PROPOSE: &str = "\
+usage: pelletperiod propose ROUTINE ACCESS SIDE DECISIONS [OPTION]...
+
+Has a SAT solver decide whether every run that comes to the access by the decisions has its index
+there on the side (see `pelletperiod translate --help` for the four), and prints one of
+
+  accepted ...          the report stands in the file, and the library accepts it
+  not so: inputs ...    these input words go there, and their index is not on the side
+  no run goes there
+
+  --out FILE        where to put the report (report.bin)
+  --solver COMMAND  the solver with its options (cadical --no-block --no-cover --no-condition);
+                    it is called with -q --no-binary and the names of a DIMACS file and of the
+                    proof to write
+  --seconds N       how long the solver may take over each of its two questions (no limit)
+
+Exit status: 0 accepted, 1 not so, no run or a claim that is refused, 2 no answer.";
+
+const FROM_LRAT: &str = "\
+usage: pelletperiod from-lrat ROUTINE ACCESS SIDE DECISIONS PROOF (--witness WORDS | --model FILE)
+                    [--out FILE]
+
+Makes a report of a solver's proof of the clauses that `pelletperiod translate` prints, has the
+library judge it, and prints the judge's line. PROOF is LRAT, or DRAT, for which hints are found;
+both as text. Steps must follow by unit propagation: RAT steps cannot stand in a report.
+
+  --witness WORDS  input words with commas between them, `-` for none
+  --model FILE     what a solver printed about the clauses without the last one: the witness is
+                   taken from its lines that begin with v
+  --out FILE       where to put the report, if it is accepted (report.bin)
+
+Exit status: 0 accepted, 1 refused, 2 bad usage or a proof that cannot be used.";
+
+/// What is said about a command, or about the whole.
+pub fn help(command: &str) -> &'static str {
+    match command {
+        "check" => CHECK,
+        "run" => RUN,
+        "translate" => TRANSLATE,
+        "judge" => JUDGE,
+        "propose" => PROPOSE,
+        "from-lrat" => FROM_LRAT,
+        _ => WHOLE,
+    }
+}

@@ -1,0 +1,111 @@
+//! Which variables of a translation are the bits of the inputs.
+
+use crate::claim::{Claim, Translation};
+use crate::refused::{accepted, Refused};
+use std::fmt;
+
+/// How many bytes of operands a command has, by its byte.
+const OPERANDS: [usize; 14] = [0, 5, 2, 3, 3, 3, 2, 2, 2, 3, 3, 3, 0, 0];
+const READ: u8 = 0x09;
+const WRITE: u8 = 0x0A;
+
+#[derive(Clone, Copy, Debug, PartialEq, Eq)]
+pub enum Name {
+    Parameter(usize),
+    Read(usize),
+}
+
+impl fmt::Display for Name {
+    fn fmt(&self, f: &mut fmt::Formatter) -> fmt::Result {
+        match self {
+            Name::Parameter(number) => write!(f, "parameter {number}"),
+            Name::Read(number) => write!(f, "read {number}"),
+        }
+    }
+}
+
+/// A word of the input list and the variables of its bits, lowest first. A
+/// read behind the named access has none, and so has that access itself.
+#[derive(Clone, Debug)]
+pub struct Input {
+    pub name: Name,
+    pub variables: Vec<u32>,
+}
+
+/// A word of the input list as the routine has it.
+struct Word {
+    name: Name,
+    width: usize,
+    /// The number of a read among the accesses.
+    access: Option<usize>,
+}
+
+/// The inputs of a claim, in the order of the input list.
+pub fn inputs(claim: &Claim, translation: &Translation) -> Result<Vec<Input>, Refused> {
+    let mut free = free_variables(translation).into_iter();
+    let before = |word: &Word| word.access.map_or(true, |k| k < usize::from(claim.access));
+    let inputs = (words(&claim.routine)?.iter())
+        .map(|word| Input {
+            name: word.name,
+            variables: match before(word) {
+                true => free.by_ref().take(word.width).collect(),
+                false => Vec::new(),
+            },
+        })
+        .collect();
+    assert_eq!(free.next(), None, "every other variable is a gate's");
+    Ok(inputs)
+}
+
+/// The input list that an assignment extends; 0 where it has no bits.
+pub fn list(inputs: &[Input], model: &[bool]) -> Vec<u32> {
+    let word = |input: &Input| {
+        let bits = input.variables.iter().enumerate();
+        bits.map(|(k, &variable)| u32::from(model[variable as usize]) << k)
+            .sum()
+    };
+    inputs.iter().map(word).collect()
+}
+
+/// The variables that no gate makes, variable 1 aside. Every clause of a gate
+/// has the gate's variable, which is newer than those that it is made from; the
+/// first clause and the last two are no gate's.
+fn free_variables(translation: &Translation) -> Vec<u32> {
+    let mut is_made = vec![false; translation.variables as usize + 1];
+    for clause in translation.iter().take(translation.clauses - 2).skip(1) {
+        let newest = clause.iter().map(|literal| literal / 2).max();
+        is_made[newest.expect("a gate's clause has literals") as usize] = true;
+    }
+    (2..=translation.variables)
+        .filter(|&variable| !is_made[variable as usize])
+        .collect()
+}
+
+/// Goes through the commands of a routine that the library passes.
+fn words(routine: &[u8]) -> Result<Vec<Word>, Refused> {
+    let mut answer = [0; pellet::ANSWER_LEN];
+    accepted(pellet::check(routine, &mut answer), &answer)?;
+    let (parameters, mut at) = (answer[1] as usize, answer[6] as usize);
+    let width = |variable: usize| usize::from(routine[2 + variable]);
+    let mut words: Vec<Word> = (0..parameters)
+        .map(|k| Word {
+            name: Name::Parameter(k),
+            width: width(k),
+            access: None,
+        })
+        .collect();
+    let mut accesses = 0;
+    while at < routine.len() {
+        let command = routine[at];
+        if command == READ {
+            words.push(Word {
+                name: Name::Read(words.len() - parameters),
+                width: width(usize::from(routine[at + 1])),
+                access: Some(accesses),
+            });
+        }
+        accesses += usize::from(command == READ || command == WRITE);
+        at += 1 + OPERANDS[usize::from(command)];
+    }
+    Ok(words)
+}
