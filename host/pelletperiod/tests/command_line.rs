@@ -72,7 +72,10 @@ fn tells_refusals_by_number_and_place() {
 #[test]
 fn translates_the_bench_routine() {
     // The top bit of the parameter is variable 9: not below.
-    let clauses = "c clauses 3 words 6 variables 9\np cnf 9 3\n1 0\n1 0\n-9 0\n";
+    let clauses = "c clauses 3 words 6 variables 9\n\
+                   c parameter 0, lowest bit first: 2 3 4 5 6 7 8 9\n\
+                   c comes to access 0: 1\nc index below: 9\n\
+                   p cnf 9 3\n1 0\n1 0\n-9 0\n";
     for none in ["-", ""] {
         assert_eq!(
             printed(&["translate", "examples/bench.bin", "0", "0", none]),
@@ -83,11 +86,11 @@ fn translates_the_bench_routine() {
     let lines: Vec<&str> = above.lines().collect();
     assert_eq!(status, Some(0));
     assert_eq!(lines[0], "c clauses 115 words 454 variables 33");
-    assert_eq!(lines[1], "p cnf 33 115");
+    assert_eq!(lines[3..5], ["c index above: 33", "p cnf 33 115"]);
     // The first gate is XOR(bit 0, -bit 0 of 100), which is true.
-    assert_eq!(lines[2..5], ["1 0", "-10 2 1 0", "-10 -2 -1 0"]);
-    assert_eq!(lines[115..], ["1 0", "-33 0"]);
-    assert_eq!(lines.len(), 2 + 115);
+    assert_eq!(lines[5..8], ["1 0", "-10 2 1 0", "-10 -2 -1 0"]);
+    assert_eq!(lines[118..], ["1 0", "-33 0"]);
+    assert_eq!(lines.len(), 5 + 115);
 }
 
 #[test]
@@ -201,9 +204,63 @@ fn bad_usage_is_2() {
         &["judge", "no such file", REPORT],
         &["judge", ROUTINE, "no such file"],
         &["judge", ROUTINE, REPORT, "no such file"],
+        &["propose", ROUTINE, "0", "0"],
+        &[
+            "propose",
+            ROUTINE,
+            "0",
+            "0",
+            "-",
+            "--solver",
+            "no such solver",
+        ],
+        &["propose", ROUTINE, "0", "0", "-", "--seconds", "x"],
+        &["propose", ROUTINE, "0", "0", "-", "--out"],
+        &["propose", ROUTINE, "0", "0", "-", "--other", "x"],
+        &["from-lrat", ROUTINE, "0", "0", "-", REPORT],
+        &[
+            "from-lrat",
+            ROUTINE,
+            "0",
+            "0",
+            "-",
+            "no such file",
+            "--witness",
+            "-",
+        ],
+        &[
+            "from-lrat",
+            ROUTINE,
+            "0",
+            "0",
+            "-",
+            REPORT,
+            "--witness",
+            "-",
+        ],
+        &[
+            "from-lrat",
+            ROUTINE,
+            "0",
+            "0",
+            "-",
+            REPORT,
+            "--witness",
+            "1",
+        ],
     ] {
         let output = pelletperiod(words);
         assert_eq!(output.status.code(), Some(2));
         assert!(output.stdout.is_empty() && !output.stderr.is_empty());
+    }
+}
+
+#[test]
+fn says_how_it_is_used() {
+    for command in ["check", "run", "translate", "judge", "propose", "from-lrat"] {
+        let usage = format!("usage: pelletperiod {command} ");
+        let (text, status) = printed(&[command, "--help"]);
+        assert!(text.starts_with(&usage) && status == Some(0));
+        assert!(printed(&["--help"]).0.contains(&format!("\n{command} ")));
     }
 }
