@@ -1,0 +1,80 @@
+//! The commands of examples/README.md print what stands there, and the routines
+//! are those that are written out.
+
+use examples::routines::{eight_branches, sum_of_squares, two_sensors};
+use std::path::Path;
+use std::process::Command;
+
+const ROOT: &str = concat!(env!("CARGO_MANIFEST_DIR"), "/../..");
+/// Where the text has the long report, and where the test puts it.
+const MADE: &str = "target/long-report";
+const APART: &str = concat!(env!("CARGO_TARGET_TMPDIR"), "/long-report");
+
+fn in_tree(name: &str) -> Vec<u8> {
+    std::fs::read(Path::new(ROOT).join(name)).expect("it is in the tree")
+}
+
+/// What a command line prints.
+fn carry_out(line: &str) -> String {
+    let line = line.replace(MADE, APART);
+    let words: Vec<&str> = line.split_ascii_whitespace().collect();
+    if let ["long-report", directory] = words[..] {
+        let made = examples::write_long_report(Path::new(directory));
+        let (steps, place) = made.expect("the files are written");
+        return format!("steps {steps} bad place {place}\n");
+    }
+    assert_eq!(words[0], "pelletperiod");
+    let output = Command::new(env!("CARGO_BIN_EXE_pelletperiod"))
+        .args(&words[1..])
+        .current_dir(ROOT)
+        .output()
+        .expect("the program starts");
+    String::from_utf8(output.stdout).expect("it prints text")
+}
+
+#[test]
+fn commands_print_what_the_text_says() {
+    let text = String::from_utf8(in_tree("examples/README.md")).expect("text");
+    let mut commands = 0;
+    for block in text.split("\n\n") {
+        let mut lines = block.lines().filter_map(|line| line.strip_prefix("    "));
+        let command = match lines.next().and_then(|line| line.strip_prefix("$ ")) {
+            Some(command) => command,
+            None => continue,
+        };
+        let expected: String = lines.map(|line| format!("{line}\n")).collect();
+        assert_eq!(carry_out(command), expected, "{command}");
+        commands += 1;
+    }
+    assert_eq!(commands, 7);
+}
+
+#[test]
+fn routines_are_those_written_out() {
+    for (name, routine) in [
+        ("two-sensors", two_sensors()),
+        ("sum-of-squares", sum_of_squares()),
+        ("eight-branches", eight_branches()),
+    ] {
+        assert_eq!(in_tree(&format!("examples/{name}/routine.bin")), routine);
+    }
+}
+
+/// The joined report leaves every decision free, and each run goes the way of
+/// exactly one of the nine others.
+#[test]
+fn paths_are_all_of_them() {
+    let routine = eight_branches();
+    let decisions = |name: &str| {
+        let report = in_tree(&format!("examples/eight-branches/{name}.bin"));
+        report[2..10].to_vec()
+    };
+    assert_eq!(decisions("joined"), [2; 8]);
+    let paths: Vec<Vec<u8>> = (0..9).map(|k| decisions(&format!("path-{k}"))).collect();
+    for word in 0..=u32::from(u16::MAX) {
+        let run = oracle::run(&routine, &[word], 32, 32).expect("an accepted list");
+        let trail: Vec<u8> = run.trail.iter().map(|arm| arm.byte()).collect();
+        let goes = |path: &&Vec<u8>| path.iter().zip(&trail).all(|(&d, &t)| d + t != 1);
+        assert_eq!(paths.iter().filter(goes).count(), 1);
+    }
+}
