@@ -13,13 +13,32 @@ use pelletperiod::{judge, propose, Claim, Proposal, Solver};
 const FORGED: usize = 4;
 
 /// What a case came to.
-#[derive(Clone, Copy, Debug, PartialEq, Eq, PartialOrd, Ord)]
+#[derive(Clone, Copy, Debug, PartialEq, Eq)]
 pub enum Came {
-    Accepted,
+    /// A report of so many bytes.
+    Accepted(usize),
     NotSo,
     NoRun,
     /// One of the solvers took too long.
     Open,
+}
+
+impl Came {
+    pub fn kind(self) -> &'static str {
+        match self {
+            Came::Accepted(_) => "accepted",
+            Came::NotSo => "not so",
+            Came::NoRun => "no run",
+            Came::Open => "took too long",
+        }
+    }
+
+    pub fn bytes(self) -> usize {
+        match self {
+            Came::Accepted(bytes) => bytes,
+            _ => 0,
+        }
+    }
 }
 
 /// Decides a claim twice, and compares; the message says what is at odds.
@@ -36,7 +55,7 @@ pub fn check(case: &Case, solver: &Solver, rng: &mut Rng) -> Result<Came, String
     let (came, expected) = match &proposal {
         Proposal::Good { report, .. } => {
             accepted_by_both(claim, report)?;
-            (Came::Accepted, Verdict::Holds)
+            (Came::Accepted(report.len()), Verdict::Holds)
         }
         Proposal::NotSo(inputs) => {
             is_counter_run(claim, &routine, inputs)?;

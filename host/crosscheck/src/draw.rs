@@ -1,6 +1,9 @@
-//! Random claims: narrow ones, ones of any width that some run bears out, and
-//! ones of any kind, to which perhaps no run comes.
+//! Random claims: narrow ones, ones of any width that some run bears out, ones
+//! behind comparisons or by a law of arithmetic, and ones of any kind, to which
+//! perhaps no run comes.
 
+use crate::guarded::draw_guarded;
+use crate::identity::draw_identity;
 use differential::claim::Claim as Drawn;
 use differential::plan::Plan;
 use differential::rng::Rng;
@@ -14,8 +17,10 @@ pub struct Case {
 
 pub fn draw(rng: &mut Rng) -> Case {
     match rng.below(10) {
-        0..=3 => borne_out(Drawn::draw(rng)),
-        4..=7 => borne_out(Drawn::draw_wide(rng)),
+        0..=1 => borne_out(Drawn::draw(rng)),
+        2..=4 => borne_out(Drawn::draw_wide(rng)),
+        5..=6 => unknown(draw_guarded(rng)),
+        7..=8 => unknown(draw_identity(rng)),
         _ => any(rng),
     }
 }
@@ -32,6 +37,11 @@ fn borne_out(drawn: Drawn) -> Case {
     }
 }
 
+fn unknown(claim: Claim) -> Case {
+    let witness = None;
+    Case { claim, witness }
+}
+
 /// Few commands, so that the solvers mostly come to an end.
 fn any(rng: &mut Rng) -> Case {
     loop {
@@ -42,14 +52,12 @@ fn any(rng: &mut Rng) -> Case {
         let routine = plan.build(rng).encode();
         let counts = oracle::check(&routine).expect("a valid routine");
         if counts.accesses > 0 {
-            let claim = Claim {
+            return unknown(Claim {
                 routine,
                 access: rng.below(counts.accesses) as u8,
                 side: rng.below(2) as u8,
                 decisions: (0..counts.ifs).map(|_| rng.below(3) as u8).collect(),
-            };
-            let witness = None;
-            return Case { claim, witness };
+            });
         }
     }
 }

@@ -7,6 +7,8 @@
 mod check;
 mod draw;
 mod forge;
+mod guarded;
+mod identity;
 mod smt;
 mod z3;
 
@@ -52,12 +54,16 @@ fn compare(time: Duration, seed: u64) -> usize {
     };
     let started = Instant::now();
     let mut counts = BTreeMap::new();
+    let mut longest = 0;
     let (mut number, mut at_odds) = (0, 0);
     while started.elapsed() < time {
         let rng = &mut Rng::for_case(seed, number);
         let case = draw::draw(rng);
         match check(&case, &solver, rng) {
-            Ok(came) => *counts.entry(came).or_insert(0) += 1,
+            Ok(came) => {
+                *counts.entry(came.kind()).or_insert(0) += 1;
+                longest = longest.max(came.bytes());
+            }
             Err(message) => {
                 at_odds += 1;
                 println!("seed {seed} case {number}: {message}\n  {:?}", case.claim);
@@ -65,6 +71,7 @@ fn compare(time: Duration, seed: u64) -> usize {
         }
         number += 1;
     }
-    println!("seed {seed}: {number} claims, {counts:?}, at odds {at_odds}");
+    println!("seed {seed}: {number} claims, {counts:?}, longest report {longest} bytes");
+    println!("at odds: {at_odds}");
     at_odds
 }

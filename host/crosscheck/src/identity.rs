@@ -1,0 +1,55 @@
+//! Claims that hold, or nearly hold, by a law of arithmetic: two sums of the
+//! same terms in different order differ by nothing, and what is added to their
+//! difference is the index. Their proofs are long.
+
+use differential::rng::Rng;
+use pelletperiod::Claim;
+
+/// Two parameters come before these.
+const ONE: u8 = 2;
+const OTHER: u8 = 3;
+const ADDED: u8 = 4;
+const ADD: u8 = 0x03;
+const SUBTRACT: u8 = 0x04;
+
+pub fn draw_identity(rng: &mut Rng) -> Claim {
+    let width = rng.within(2, 32) as u8;
+    let size = rng.pick(&[1_u16, 2, 5, 100, 4096]);
+    let mut terms: Vec<(u8, u8)> = (0..rng.within(2, 3))
+        .map(|_| (rng.pick(&[ADD, SUBTRACT]), rng.below(2) as u8))
+        .collect();
+    let mut routine = vec![1, 5, width, width, width, width, width, 2, 1];
+    routine.extend(size.to_le_bytes());
+    routine.extend(sum(ONE, &terms));
+    terms.rotate_left(1);
+    // Now and then they are not the same.
+    if rng.chance(10) {
+        terms[0].1 ^= 1;
+    }
+    routine.extend(sum(OTHER, &terms));
+    routine.extend([SUBTRACT, ONE, ONE, OTHER, 0x01, ADDED]);
+    routine.extend(draw_added(rng, width, size).to_le_bytes());
+    routine.extend([ADD, ONE, ONE, ADDED, 0x0A, 0, ONE, 0, 0x00]);
+    Claim {
+        routine,
+        access: 0,
+        side: rng.below(2) as u8,
+        decisions: Vec::new(),
+    }
+}
+
+/// Commands that add the terms up.
+fn sum(d: u8, terms: &[(u8, u8)]) -> Vec<u8> {
+    let commands = terms.iter();
+    commands.flat_map(|&(sign, s)| [sign, d, d, s]).collect()
+}
+
+/// Something outside, on either side.
+fn draw_added(rng: &mut Rng, width: u8, size: u16) -> u32 {
+    let modulus = 1_u64 << width;
+    let added = match rng.chance(50) {
+        true => modulus - rng.within(1, 3) as u64,
+        false => u64::from(size) + rng.below(3) as u64,
+    };
+    (added % modulus) as u32
+}
