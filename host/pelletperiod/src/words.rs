@@ -1,5 +1,6 @@
 //! The words of the command line.
 
+use pelletperiod::Claim;
 use std::time::Duration;
 
 /// Words that begin with two dashes, each with the word behind it; the rest
@@ -37,6 +38,20 @@ impl<'a> Words<'a> {
     }
 }
 
+pub fn read(file: &str) -> Result<Vec<u8>, String> {
+    std::fs::read(file).map_err(|e| format!("{file}: {e}"))
+}
+
+/// The claim of the four words ROUTINE ACCESS SIDE DECISIONS.
+pub fn claim_of(words: &[&str]) -> Result<Claim, String> {
+    Ok(Claim {
+        access: parse_byte("access", words[1])?,
+        side: parse_byte("side", words[2])?,
+        decisions: parse_decisions(words[3])?,
+        routine: read(words[0])?,
+    })
+}
+
 pub fn parse_inputs(words: &[&str]) -> Result<Vec<u32>, String> {
     words.iter().map(|word| parse_input(word)).collect()
 }
@@ -57,7 +72,7 @@ fn parse_input(word: &str) -> Result<u32, String> {
     parsed.map_err(|e| format!("input word {word}: {e}"))
 }
 
-pub fn parse_byte(what: &str, word: &str) -> Result<u8, String> {
+fn parse_byte(what: &str, word: &str) -> Result<u8, String> {
     word.parse().map_err(|e| format!("{what} {word}: {e}"))
 }
 
@@ -67,7 +82,7 @@ pub fn parse_seconds(word: &str) -> Result<Duration, String> {
 }
 
 /// Any digit is handed on: which of them are decisions is the library's to say.
-pub fn parse_decisions(word: &str) -> Result<Vec<u8>, String> {
+fn parse_decisions(word: &str) -> Result<Vec<u8>, String> {
     let digits = if word == "-" { "" } else { word };
     let digit = |c: char| c.to_digit(10).map(|digit| digit as u8);
     digits

@@ -189,68 +189,38 @@ fn lends_as_much_as_a_report_needs() {
     );
 }
 
+/// Command lines that cannot be carried out.
+const BAD_USAGE: &str = "
+check
+check no-such-file
+run examples/bench.bin x
+translate examples/bench.bin 0 0
+translate examples/bench.bin 256 0 -
+translate examples/bench.bin 0 0 x
+judge
+judge examples/bench.bin
+judge no-such-file examples/bench/report.bin
+judge examples/bench/routine.bin no-such-file
+judge examples/bench/routine.bin examples/bench/report.bin no-such-file
+propose examples/bench/routine.bin 0 0
+propose examples/bench/routine.bin 0 0 - --solver no-such-solver
+propose examples/bench/routine.bin 0 0 - --solver false
+propose examples/bench/routine.bin 0 0 - --seconds x
+propose examples/bench/routine.bin 0 0 - --out
+propose examples/bench/routine.bin 0 0 - --other x
+from-lrat examples/bench/routine.bin 0 0 - host/Cargo.toml
+from-lrat examples/bench/routine.bin 0 0 - no-such-file --witness -
+from-lrat examples/bench/routine.bin 0 0 - host/Cargo.toml --witness -
+from-lrat examples/bench/routine.bin 0 0 - host/Cargo.toml --witness 1
+from-lrat examples/bench/routine.bin 0 0 - host/Cargo.toml --model host/Cargo.toml
+no-such-command";
+
 #[test]
 fn bad_usage_is_2() {
-    for words in [
-        &[][..],
-        &["check"],
-        &["run", "examples/bench.bin", "x"],
-        &["check", "no such file"],
-        &["translate", "examples/bench.bin", "0", "0"],
-        &["translate", "examples/bench.bin", "256", "0", "-"],
-        &["translate", "examples/bench.bin", "0", "0", "x"],
-        &["judge"],
-        &["judge", ROUTINE],
-        &["judge", "no such file", REPORT],
-        &["judge", ROUTINE, "no such file"],
-        &["judge", ROUTINE, REPORT, "no such file"],
-        &["propose", ROUTINE, "0", "0"],
-        &[
-            "propose",
-            ROUTINE,
-            "0",
-            "0",
-            "-",
-            "--solver",
-            "no such solver",
-        ],
-        &["propose", ROUTINE, "0", "0", "-", "--seconds", "x"],
-        &["propose", ROUTINE, "0", "0", "-", "--out"],
-        &["propose", ROUTINE, "0", "0", "-", "--other", "x"],
-        &["from-lrat", ROUTINE, "0", "0", "-", REPORT],
-        &[
-            "from-lrat",
-            ROUTINE,
-            "0",
-            "0",
-            "-",
-            "no such file",
-            "--witness",
-            "-",
-        ],
-        &[
-            "from-lrat",
-            ROUTINE,
-            "0",
-            "0",
-            "-",
-            REPORT,
-            "--witness",
-            "-",
-        ],
-        &[
-            "from-lrat",
-            ROUTINE,
-            "0",
-            "0",
-            "-",
-            REPORT,
-            "--witness",
-            "1",
-        ],
-    ] {
-        let output = pelletperiod(words);
-        assert_eq!(output.status.code(), Some(2));
+    for line in BAD_USAGE.lines() {
+        let words: Vec<&str> = line.split_ascii_whitespace().collect();
+        let output = pelletperiod(&words);
+        assert_eq!(output.status.code(), Some(2), "{line}");
         assert!(output.stdout.is_empty() && !output.stderr.is_empty());
     }
 }

@@ -1,0 +1,58 @@
+//! The commands that look at a routine: its counts, its runs, its clauses.
+
+use crate::done::Done;
+use pelletperiod::claim::side_name;
+use pelletperiod::judge::{index, MOST_IFS, MOST_VARIABLES};
+use pelletperiod::propose::translate;
+use pelletperiod::refused::accepted;
+use pelletperiod::{dimacs, Claim, Refused};
+
+pub fn check(routine: &[u8]) -> Result<String, Refused> {
+    let mut answer = [0; pellet::ANSWER_LEN];
+    accepted(pellet::check(routine, &mut answer), &answer)?;
+    let [variables, parameters, arrays, ifs, accesses, reads, first, _] = answer;
+    Ok(format!(
+        "variables {variables} parameters {parameters} arrays {arrays} \
+         ifs {ifs} accesses {accesses} reads {reads} first command {first}"
+    ))
+}
+
+pub fn run(routine: &[u8], inputs: &[u32]) -> Result<String, Refused> {
+    let mut counts = [0; pellet::ANSWER_LEN];
+    accepted(pellet::check(routine, &mut counts), &counts)?;
+    let (variables, ifs) = (counts[0] as usize, counts[3] as usize);
+    let mut values = [0; MOST_VARIABLES];
+    let mut trail = [0; MOST_IFS];
+    let mut answer = [0; pellet::ANSWER_LEN];
+    let code = pellet::run(routine, inputs, &mut values, &mut trail, &mut answer);
+    accepted(code, &answer)?;
+    Ok(format!(
+        "{}\nvalues {:?}\ntrail {:?}",
+        outcome(&answer),
+        &values[..variables],
+        &trail[..ifs]
+    ))
+}
+
+fn outcome(answer: &[u64; pellet::ANSWER_LEN]) -> String {
+    let [stopped, access, side, negative, magnitude, ..] = *answer;
+    if stopped == 0 {
+        return "ended".to_string();
+    }
+    let (side, index) = (side_name(side), index(negative, magnitude));
+    format!("stopped access {access} side {side} index {index}")
+}
+
+pub fn print_clauses(claim: &Claim) -> Result<Done, String> {
+    let (translation, inputs) = match translate(claim) {
+        Ok(translated) => translated,
+        Err(refused) => return Ok(Done::new(Err(refused))),
+    };
+    let mut printed = Vec::new();
+    let written = dimacs::write(claim, &translation, &inputs, &mut printed);
+    written.map_err(|e| e.to_string())?;
+    Ok(Done {
+        printed,
+        is_refused: false,
+    })
+}
