@@ -14,10 +14,21 @@ fn in_tree(name: &str) -> Vec<u8> {
     std::fs::read(Path::new(ROOT).join(name)).expect("it is in the tree")
 }
 
+/// The files that a word stands for where a shell puts digits for a `?`.
+fn expanded(word: &str) -> Vec<String> {
+    if !word.contains('?') {
+        return vec![word.to_string()];
+    }
+    let names = (0..10).map(|digit| word.replace('?', &digit.to_string()));
+    let is_there = |name: &String| Path::new(ROOT).join(name).exists();
+    names.filter(is_there).collect()
+}
+
 /// What a command line prints.
 fn carry_out(line: &str) -> String {
     let line = line.replace(MADE, APART);
-    let words: Vec<&str> = line.split_ascii_whitespace().collect();
+    let words: Vec<String> = line.split_ascii_whitespace().flat_map(expanded).collect();
+    let words: Vec<&str> = words.iter().map(String::as_str).collect();
     if let ["long-report", directory] = words[..] {
         let made = examples::write_long_report(Path::new(directory));
         let (steps, place) = made.expect("the files are written");
