@@ -41,15 +41,16 @@ impl Came {
     }
 }
 
-/// Decides a claim twice, and compares; the message says what is at odds.
-pub fn check(case: &Case, solver: &Solver, rng: &mut Rng) -> Result<Came, String> {
+/// Decides a claim twice, and compares; the message says what is at odds. Says
+/// too what z3 made of it, which may be nothing.
+pub fn check(case: &Case, solver: &Solver, rng: &mut Rng) -> Result<(Came, Verdict), String> {
     let claim = &case.claim;
     let routine = oracle::parse(&claim.routine).map_err(|e| format!("{e:?}"))?;
     let milliseconds = solver.limit.map_or(u32::MAX, |l| l.as_millis() as u32);
     let verdict = ask(claim, &routine, milliseconds)?;
     let proposal = match propose(claim, solver) {
-        Err(message) if message.ends_with(OUT_OF_TIME) => return Ok(Came::Open),
-        Err(message) if message.contains("claim less at once") => return Ok(Came::Open),
+        Err(message) if message.ends_with(OUT_OF_TIME) => return Ok((Came::Open, verdict)),
+        Err(message) if message.contains("claim less at once") => return Ok((Came::Open, verdict)),
         proposal => proposal?,
     };
     let (came, expected) = match &proposal {
@@ -66,7 +67,7 @@ pub fn check(case: &Case, solver: &Solver, rng: &mut Rng) -> Result<Came, String
         Proposal::Refused(refused) => return Err(refused.to_string()),
     };
     match verdict == expected || verdict == Verdict::Unknown {
-        true => Ok(came),
+        true => Ok((came, verdict)),
         false => Err(format!("z3 says {verdict:?}, the proposal is {came:?}")),
     }
 }

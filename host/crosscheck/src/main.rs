@@ -18,6 +18,7 @@ use pelletperiod::{solver, Solver};
 use std::collections::BTreeMap;
 use std::process::ExitCode;
 use std::time::{Duration, Instant};
+use z3::Verdict;
 
 const HELP: &str = "\
 usage: crosscheck SECONDS [SEED]
@@ -54,14 +55,15 @@ fn compare(time: Duration, seed: u64) -> usize {
     };
     let started = Instant::now();
     let mut counts = BTreeMap::new();
-    let mut longest = 0;
+    let (mut longest, mut unchecked) = (0, 0);
     let (mut number, mut at_odds) = (0, 0);
     while started.elapsed() < time {
         let rng = &mut Rng::for_case(seed, number);
         let case = draw::draw(rng);
         match check(&case, &solver, rng) {
-            Ok(came) => {
+            Ok((came, verdict)) => {
                 *counts.entry(came.kind()).or_insert(0) += 1;
+                unchecked += u32::from(verdict == Verdict::Unknown);
                 longest = longest.max(came.bytes());
             }
             Err(message) => {
@@ -72,6 +74,6 @@ fn compare(time: Duration, seed: u64) -> usize {
         number += 1;
     }
     println!("seed {seed}: {number} claims, {counts:?}, longest report {longest} bytes");
-    println!("at odds: {at_odds}");
+    println!("not decided by z3 in time: {unchecked}, at odds: {at_odds}");
     at_odds
 }
