@@ -3,6 +3,32 @@
 //! then write, so that nothing would be written into buffers that are too
 //! small. `cargo run --release -p bench`.
 
+#[cfg(test)]
+mod agreement;
+#[cfg(test)]
+mod fast_check;
+#[cfg(test)]
+mod fast_circuits;
+#[cfg(test)]
+mod fast_header;
+#[cfg(test)]
+mod fast_judge;
+#[cfg(test)]
+mod fast_proof;
+#[cfg(test)]
+mod fast_prove;
+#[cfg(test)]
+mod fast_refusal;
+#[cfg(test)]
+mod fast_run;
+#[cfg(test)]
+mod fast_sink;
+#[cfg(test)]
+mod fast_translate;
+#[cfg(test)]
+mod fast_word;
+#[cfg(test)]
+mod lent;
 mod proof;
 
 use differential::limit::routine_of;

@@ -1,0 +1,205 @@
+//! The check of a proof, step by step: where a step stands is where the code
+//! stands. What a step's hints decided is kept in a list and undone from it.
+
+use crate::fast_refusal::Refusal;
+
+const COMMAND: u8 = 17;
+const LITERAL: u8 = 18;
+const NO_CLAUSE: u8 = 19;
+const NEITHER: u8 = 20;
+const NO_CONFLICT: u8 = 21;
+const AFTER_CONFLICT: u8 = 22;
+const OUT_OF_PLACE: u8 = 23;
+const TRAILING: u8 = 24;
+const FULL: u8 = 25;
+
+enum Command {
+    Literal(u32),
+    Hint(u32),
+    Close,
+    End,
+}
+
+/// The clauses so far: how many there are, and how many words they take.
+#[derive(Clone, Copy)]
+pub struct Stored {
+    pub clauses: usize,
+    pub words: usize,
+}
+
+/// Checks the proof from an offset on; hands back the steps and the hints.
+/// The marks, one for each variable and one more, begin as 0.
+pub fn check(
+    report: &[u8],
+    from: usize,
+    mut stored: Stored,
+    words: &mut [u32],
+    starts: &mut [u32],
+    marks: &mut [u8],
+) -> Result<(u64, u64), Refusal> {
+    let (mut steps, mut hints) = (0, 0);
+    let mut decided = Vec::new();
+    let mut at = from;
+    loop {
+        let used = stored.words;
+        let literals = read_literals(report, &mut at, used, words, marks)?;
+        let clauses = Clauses {
+            words,
+            starts: &starts[..stored.clauses],
+        };
+        hints += follow_hints(report, &mut at, clauses, marks, &mut decided)?;
+        expect_close(report, at, stored.clauses)?;
+        if words.len() <= used + literals || starts.len() <= stored.clauses {
+            return Err(Refusal(FULL, at));
+        }
+        words[used] = literals as u32;
+        starts[stored.clauses] = used as u32;
+        for &literal in &words[used + 1..=used + literals] {
+            marks[literal as usize / 2] = 0;
+        }
+        for variable in decided.drain(..) {
+            marks[variable as usize] = 0;
+        }
+        stored.words = used + 1 + literals;
+        stored.clauses += 1;
+        steps += 1;
+        at += 1;
+        if literals == 0 {
+            return expect_end(report, at).map(|()| (steps, hints));
+        }
+    }
+}
+
+/// The mark of a variable where this literal is false: 1 where the variable is
+/// true, 2 where it is false.
+#[inline]
+fn false_mark(literal: u32) -> u8 {
+    2 >> (literal & 1)
+}
+
+#[inline]
+fn read(report: &[u8], at: usize) -> Result<Command, Refusal> {
+    let rest = report.get(at..).unwrap_or(&[]);
+    match *rest {
+        [2, a, b, c, d, ..] => Ok(Command::Hint(u32::from_le_bytes([a, b, c, d]))),
+        [1, a, b, c, d, ..] => Ok(Command::Literal(u32::from_le_bytes([a, b, c, d]))),
+        [3, ..] => Ok(Command::Close),
+        [0, ..] => Ok(Command::End),
+        _ => Err(Refusal(COMMAND, at)),
+    }
+}
+
+/// Takes a step's literals as false and stores them behind the word for their
+/// count, up to the first hint.
+#[inline]
+fn read_literals(
+    report: &[u8],
+    at: &mut usize,
+    used: usize,
+    words: &mut [u32],
+    marks: &mut [u8],
+) -> Result<usize, Refusal> {
+    let mut literals = 0;
+    loop {
+        let literal = match read(report, *at)? {
+            Command::Literal(literal) => literal,
+            Command::Hint(_) => return Ok(literals),
+            Command::Close => return Err(Refusal(NO_CONFLICT, *at)),
+            Command::End => return Err(Refusal(OUT_OF_PLACE, *at)),
+        };
+        let mark = match marks.get_mut(literal as usize / 2) {
+            Some(mark) if literal >= 2 && *mark == 0 => mark,
+            _ => return Err(Refusal(LITERAL, *at)),
+        };
+        literals += 1;
+        match words.get_mut(used + literals) {
+            Some(word) => *word = literal,
+            None => return Err(Refusal(FULL, *at)),
+        }
+        *mark = false_mark(literal);
+        *at = at.wrapping_add(5);
+    }
+}
+
+#[derive(Clone, Copy)]
+struct Clauses<'a> {
+    words: &'a [u32],
+    starts: &'a [u32],
+}
+
+/// Follows hints as far as the conflict; hands back how many there were.
+#[inline]
+fn follow_hints(
+    report: &[u8],
+    at: &mut usize,
+    clauses: Clauses,
+    marks: &mut [u8],
+    decided: &mut Vec<u32>,
+) -> Result<u64, Refusal> {
+    let mut hints = 0;
+    loop {
+        let number = match read(report, *at)? {
+            Command::Hint(number) => number,
+            Command::Literal(_) => return Err(Refusal(LITERAL, *at)),
+            Command::Close => return Err(Refusal(NO_CONFLICT, *at)),
+            Command::End => return Err(Refusal(OUT_OF_PLACE, *at)),
+        };
+        let start = match clauses.starts.get(number as usize) {
+            Some(&start) => start as usize,
+            None => return Err(Refusal(NO_CLAUSE, *at)),
+        };
+        let count = clauses.words[start] as usize;
+        let literal = match scan(&clauses.words[start..][1..=count], marks) {
+            Some(literal) => literal,
+            None => return Err(Refusal(NEITHER, *at)),
+        };
+        hints += 1;
+        *at = at.wrapping_add(5);
+        if literal == 0 {
+            return Ok(hints);
+        }
+        let mark = &mut marks[literal as usize / 2];
+        if *mark != 0 {
+            return Err(Refusal(NEITHER, at.wrapping_sub(5)));
+        }
+        *mark = false_mark(literal ^ 1);
+        decided.push(literal / 2);
+    }
+}
+
+/// The one distinct literal that is not false, or 0 where all are; none where
+/// there are several.
+#[inline]
+fn scan(clause: &[u32], marks: &[u8]) -> Option<u32> {
+    let mut found = 0;
+    for &literal in clause {
+        if marks[literal as usize / 2] != false_mark(literal) {
+            if found != 0 && found != literal {
+                return None;
+            }
+            found = literal;
+        }
+    }
+    Some(found)
+}
+
+/// After the conflict there is only the close.
+#[inline]
+fn expect_close(report: &[u8], at: usize, clauses: usize) -> Result<(), Refusal> {
+    match read(report, at)? {
+        Command::Close => Ok(()),
+        Command::Literal(_) => Err(Refusal(LITERAL, at)),
+        Command::Hint(number) if number as usize >= clauses => Err(Refusal(NO_CLAUSE, at)),
+        Command::Hint(_) => Err(Refusal(AFTER_CONFLICT, at)),
+        Command::End => Err(Refusal(OUT_OF_PLACE, at)),
+    }
+}
+
+/// After the empty clause there is only the end, and nothing behind it.
+fn expect_end(report: &[u8], at: usize) -> Result<(), Refusal> {
+    match read(report, at)? {
+        Command::End if at + 1 < report.len() => Err(Refusal(TRAILING, at + 1)),
+        Command::End => Ok(()),
+        _ => Err(Refusal(OUT_OF_PLACE, at)),
+    }
+}

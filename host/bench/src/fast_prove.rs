@@ -1,0 +1,60 @@
+//! The check of a proof over clauses that stand in the buffers.
+
+use crate::fast_proof::{self, Stored};
+use crate::fast_refusal::Refusal;
+use crate::lent::Buffers;
+use pellet::{MAX_ENTRIES, NOT_STANDING};
+
+pub fn prove(
+    report: &[u8],
+    from: usize,
+    clauses: u32,
+    variables: u32,
+    lent: &mut Buffers,
+    answer: &mut [u64],
+) -> u8 {
+    if answer.len() < 8 {
+        return 255;
+    }
+    let words_len = lent.words.len().min(MAX_ENTRIES);
+    let starts_len = lent.starts.len().min(MAX_ENTRIES);
+    let (words, starts) = (&mut lent.words[..words_len], &mut lent.starts[..starts_len]);
+    let marks_len = lent.marks.len().min(MAX_ENTRIES);
+    let (clauses, variables) = (clauses as usize, variables as usize);
+    if report.len() > MAX_ENTRIES || report.len() < from || marks_len <= variables {
+        return NOT_STANDING;
+    }
+    let used = match stand(words, starts, clauses, variables) {
+        Some(used) => used,
+        None => return NOT_STANDING,
+    };
+    let marks = &mut lent.marks[..=variables];
+    marks.fill(0);
+    let stored = Stored {
+        clauses,
+        words: used,
+    };
+    match fast_proof::check(report, from, stored, words, starts, marks) {
+        Ok((steps, hints)) => {
+            answer[0] = steps;
+            answer[1] = hints;
+            0
+        }
+        Err(refusal) => Refusal::give(refusal, answer),
+    }
+}
+
+/// Where so many clauses end that stand one after another from the beginning.
+fn stand(words: &[u32], starts: &[u32], clauses: usize, variables: usize) -> Option<usize> {
+    let mut at = 0;
+    for &start in starts.get(..clauses)? {
+        let count = *words.get(at)? as usize;
+        let literals = words.get(at + 1..at + 1 + count)?;
+        let is_literal = |&literal: &u32| literal >= 2 && literal as usize / 2 <= variables;
+        if start as usize != at || !literals.iter().all(is_literal) {
+            return None;
+        }
+        at += 1 + count;
+    }
+    Some(at)
+}
