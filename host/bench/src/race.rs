@@ -1,0 +1,48 @@
+//! The library and plain Rust in turn.
+
+use std::time::{Duration, Instant};
+
+/// The same work for both.
+pub trait Job {
+    /// What a turn needs before it; it is not timed.
+    fn prepare(&mut self) {}
+    fn library(&mut self);
+    fn plain(&mut self);
+    /// Panics where the two gave different answers or left different buffers.
+    fn compare(&self);
+}
+
+#[derive(Clone, Copy)]
+pub struct Times {
+    pub library: Duration,
+    pub plain: Duration,
+}
+
+impl Times {
+    pub fn ratio(&self) -> f64 {
+        self.library.as_secs_f64() / self.plain.as_secs_f64()
+    }
+}
+
+/// The best time of each out of so many rounds. The two take turns, so that
+/// what else the machine does meets both.
+pub fn race(job: &mut impl Job, rounds: usize) -> Times {
+    let mut best = Times {
+        library: Duration::MAX,
+        plain: Duration::MAX,
+    };
+    for _ in 0..rounds {
+        job.prepare();
+        best.library = best.library.min(timed(|| job.library()));
+        job.prepare();
+        best.plain = best.plain.min(timed(|| job.plain()));
+        job.compare();
+    }
+    best
+}
+
+fn timed(turn: impl FnOnce()) -> Duration {
+    let start = Instant::now();
+    turn();
+    start.elapsed()
+}

@@ -1,0 +1,58 @@
+//! A routine of 4,096 bytes, run again and again.
+
+use crate::fast_run::run;
+use crate::long_routine::draw;
+use crate::race::{race, Job};
+use crate::table::{rate, row};
+use pellet::ANSWER_LEN;
+
+const CALLS: usize = 200;
+
+struct Running {
+    routine: Vec<u8>,
+    inputs: Vec<u32>,
+    values: [[u32; 32]; 2],
+    trails: [[u8; 32]; 2],
+    answers: [[u64; ANSWER_LEN]; 2],
+}
+
+impl Job for Running {
+    fn library(&mut self) {
+        for _ in 0..CALLS {
+            let (values, trail) = (&mut self.values[0], &mut self.trails[0]);
+            let answer = &mut self.answers[0];
+            let status = pellet::run(&self.routine, &self.inputs, values, trail, answer);
+            assert_eq!(status, 0);
+        }
+    }
+
+    fn plain(&mut self) {
+        for _ in 0..CALLS {
+            let (values, trail) = (&mut self.values[1], &mut self.trails[1]);
+            let answer = &mut self.answers[1];
+            let status = run(&self.routine, &self.inputs, values, trail, answer);
+            assert_eq!(status, 0);
+        }
+    }
+
+    fn compare(&self) {
+        assert_eq!(self.values[0], self.values[1]);
+        assert_eq!(self.trails[0], self.trails[1]);
+        assert_eq!(self.answers[0], self.answers[1]);
+    }
+}
+
+pub fn measure() {
+    let (routine, inputs) = draw(1);
+    let mut job = Running {
+        routine,
+        inputs,
+        values: [[7; 32]; 2],
+        trails: [[7; 32]; 2],
+        answers: [[7; ANSWER_LEN]; 2],
+    };
+    let times = race(&mut job, 15);
+    assert_eq!(job.answers[0][0], 0, "the run goes to the end");
+    row("run a routine of 4,096 bytes", CALLS, times);
+    rate("routine bytes", CALLS * job.routine.len(), times);
+}
