@@ -14,12 +14,14 @@ use differential::translation_case::TranslationCase;
 
 const CASES: u64 = 2000;
 
+type Run = fn(&[u8], &[u32], &mut [u32], &mut [u8], &mut [u64]) -> u8;
+
 #[test]
 fn runs() {
     for number in 0..CASES {
         let case = Case::draw(&mut Rng::for_case(11, number));
         let (routine, inputs) = (case.routine.slice(), case.inputs.slice());
-        let made = |call: fn(&[u8], &[u32], &mut [u32], &mut [u8], &mut [u64]) -> u8| {
+        let made = |call: Run| {
             let mut values = case.values.slice().to_vec();
             let mut trail = case.trail.slice().to_vec();
             let mut answer = case.run_answer.slice().to_vec();

@@ -54,12 +54,7 @@ pub fn check(
         }
         words[used] = literals as u32;
         starts[stored.clauses] = used as u32;
-        for &literal in &words[used + 1..=used + literals] {
-            marks[literal as usize / 2] = 0;
-        }
-        for variable in decided.drain(..) {
-            marks[variable as usize] = 0;
-        }
+        undo(&words[used + 1..=used + literals], &mut decided, marks);
         stored.words = used + 1 + literals;
         stored.clauses += 1;
         steps += 1;
@@ -181,6 +176,17 @@ fn scan(clause: &[u32], marks: &[u8]) -> Option<u32> {
         }
     }
     Some(found)
+}
+
+/// Every variable that the step decided is undecided again.
+#[inline]
+fn undo(literals: &[u32], decided: &mut Vec<u32>, marks: &mut [u8]) {
+    for &literal in literals {
+        marks[literal as usize / 2] = 0;
+    }
+    for variable in decided.drain(..) {
+        marks[variable as usize] = 0;
+    }
 }
 
 /// After the conflict there is only the close.

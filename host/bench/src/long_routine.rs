@@ -29,7 +29,7 @@ pub fn draw(seed: u64) -> (Vec<u8>, Vec<u32>) {
             rng.below(4) as u8,
         ]);
         let end = bytes.len() + (BYTES - bytes.len()) / (IFS - part) / 2;
-        fill(&mut rng, &mut bytes, (end - 16).min(end));
+        fill(&mut rng, &mut bytes, end - 16);
         bytes.push(0x0C);
         fill(&mut rng, &mut bytes, end);
         bytes.push(0x0D);
