@@ -19,6 +19,19 @@ pub struct Times {
 }
 
 impl Times {
+    pub const LONGEST: Times = Times {
+        library: Duration::MAX,
+        plain: Duration::MAX,
+    };
+
+    /// The best of both, each for itself.
+    pub fn min(self, other: Times) -> Times {
+        Times {
+            library: self.library.min(other.library),
+            plain: self.plain.min(other.plain),
+        }
+    }
+
     pub fn ratio(&self) -> f64 {
         self.library.as_secs_f64() / self.plain.as_secs_f64()
     }
@@ -27,16 +40,14 @@ impl Times {
 /// The best time of each out of so many rounds. The two take turns, so that
 /// what else the machine does meets both.
 pub fn race(job: &mut impl Job, rounds: usize) -> Times {
-    let mut best = Times {
-        library: Duration::MAX,
-        plain: Duration::MAX,
-    };
+    let mut best = Times::LONGEST;
     for _ in 0..rounds {
         job.prepare();
-        best.library = best.library.min(timed(|| job.library()));
+        let library = timed(|| job.library());
         job.prepare();
-        best.plain = best.plain.min(timed(|| job.plain()));
+        let plain = timed(|| job.plain());
         job.compare();
+        best = best.min(Times { library, plain });
     }
     best
 }

@@ -93,9 +93,9 @@ impl Job for Judging {
 pub fn measure() {
     let routine = examples::routines::generator(examples::SEED);
     let report = long_report(&routine);
-    Judging::new(routine, &report).measure("judge the long report", 15);
+    Judging::new(routine, &report).measure("judge the long report", 80);
     let (routine, report) = solver_like::report(1);
-    Judging::new(routine, &report).measure("judge a solver-like report", 15);
+    Judging::new(routine, &report).measure("judge a solver-like report", 80);
 }
 
 /// Reports of so many short steps, for the cost of a step.

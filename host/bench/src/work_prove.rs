@@ -74,7 +74,7 @@ impl Job for Proving {
 
 pub fn measure() {
     let mut job = Proving::new(&long_proof(VARIABLES));
-    let times = race(&mut job, 9);
+    let times = race(&mut job, 40);
     let [steps, hints, ..] = job.answers[0];
     row("check a proof over a million variables", 1, times);
     println!(

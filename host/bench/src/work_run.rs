@@ -51,7 +51,7 @@ pub fn measure() {
         trails: [[7; 32]; 2],
         answers: [[7; ANSWER_LEN]; 2],
     };
-    let times = race(&mut job, 15);
+    let times = race(&mut job, 100);
     assert_eq!(job.answers[0][0], 0, "the run goes to the end");
     row("run a routine of 4,096 bytes", CALLS, times);
     rate("routine bytes", CALLS * job.routine.len(), times);

@@ -77,7 +77,7 @@ impl Job for Translating {
 pub fn measure() {
     let (routine, decisions) = routine_of(MAX_ENTRIES);
     let name = "translate the largest (16,777,216 words)";
-    Translating::new(routine, decisions, 1).measure(name, 9);
+    Translating::new(routine, decisions, 1).measure(name, 40);
     for (name, routine) in [
         (
             "translate a small one (two-sensors)",
@@ -89,6 +89,6 @@ pub fn measure() {
         ),
     ] {
         let ifs = oracle::check(&routine).expect("a valid routine").ifs;
-        Translating::new(routine, vec![2; ifs], 500).measure(name, 15);
+        Translating::new(routine, vec![2; ifs], 500).measure(name, 60);
     }
 }

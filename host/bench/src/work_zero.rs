@@ -80,7 +80,7 @@ pub fn measure() {
     job.prepare();
     job.plain();
     job.expect_zeros();
-    let times = race(&mut job, 7);
+    let times = race(&mut job, 20);
     row("zero five full buffers", 1, times);
     rate("bytes", (3 * 4 + 2) * MAX_ENTRIES, times);
 }
