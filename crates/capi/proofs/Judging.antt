@@ -15,11 +15,11 @@ use Rattle.witness.specs.Refusal as witness
 use Rattle.witness.specs.declared.Refusal as unwitnessed
 use Rattle.step.specs.Refusal as step
 use Rattle.step.specs.declared.Refusal as unproved
-use Rattle.report.specs.Refusal.{numberOf}
+use Rattle.proving.specs.Refusal.{numberOf}
 use Rattle.report.specs.Zeroed.{Judges}
 use Rattle.report.specs.Demand.{Demand3}
 use Rattle.report.specs.declared.Judged.{Judged}
-use Rattle.report.specs.declared.Refusal.{Refusal}
+use Rattle.proving.specs.declared.Refusal.{Refusal}
 use Rattle.replies.specs.Reply.{Reply, Fills, judgeFills}
 use Rattle.capi.specs.Reply.{JudgeReply, judgeGives, judgeReply, JudgesReply, Finds}
 

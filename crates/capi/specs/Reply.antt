@@ -14,7 +14,7 @@ use Rattle.checker.specs.Checking.{Checking, checking}
 use Rattle.report.specs.Judging.{judgement}
 use Rattle.report.specs.Zeroed.{zeroed, roomIn}
 use Rattle.report.specs.Demand.{Demand3}
-use Rattle.report.specs.Alike.{alike}
+use Rattle.comparing.specs.Alike.{alike}
 use Rattle.report.specs.declared.Judged.{Judged}
 use Rattle.replies.specs.Reply.{Reply, filled, judgedOf, checkFills, runFills, translateFills, proveFills, judgeFills, alikeFills}
 

@@ -117,5 +117,5 @@ pub extern "C" fn pellet_alike(
     if answer.len() < 8 {
         return 255;
     }
-    fill_alike(report::comparing::alike(routine, first, second), answer)
+    fill_alike(comparing::alike(routine, first, second), answer)
 }

@@ -4,7 +4,8 @@ use mathlib.Core.List.{List}
 use mathlib.Core.Bool.{cond}
 use lib.ListN.{length}
 use lib.Dec.{ltb}
-use Rattle.report.specs.Judging.{Room, judgement}
+use Rattle.proving.specs.Proving.{Room}
+use Rattle.report.specs.Judging.{judgement}
 use Rattle.line.specs.Text.{bytes}
 use Rattle.line.specs.Line.{lineOf}
 use Rattle.line.specs.Puts.{Puts}

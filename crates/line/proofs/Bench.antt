@@ -1,9 +1,9 @@
 -- The line that document 01 has of its bench, and lines and numbers at the ends of their ranges.
 use mathlib.Core.Path.{_≡_, refl}
 use Rattle.bitvec.specs.declared.Whole.{Whole}
-use Rattle.report.specs.declared.Buffer.{Buffer}
+use Rattle.proving.specs.declared.Buffer.{Buffer}
+use Rattle.proving.specs.declared.Refusal.{Refusal}
 use Rattle.report.specs.declared.Judged.{Judged}
-use Rattle.report.specs.declared.Refusal.{Refusal}
 use Rattle.line.specs.Text.{bytes, decimalBy, decimal}
 use Rattle.line.specs.Line.{sideWord, signed, claimed, shown, refused, lineOf}
 

@@ -3,9 +3,9 @@ use Prim.Native.Nat.{ℕ, zero, suc}
 use Prim.Native.String.{String}
 use mathlib.Core.List.{List, _++_}
 use Rattle.bitvec.specs.declared.Whole.{Whole}
-use Rattle.report.specs.Refusal.{numberOf, placeOf}
+use Rattle.proving.specs.Refusal.{numberOf, placeOf}
+use Rattle.proving.specs.declared.Refusal.{Refusal}
 use Rattle.report.specs.declared.Judged.{Judged}
-use Rattle.report.specs.declared.Refusal.{Refusal}
 use Rattle.line.specs.Text.{bytes, decimal}
 
 -- a word and a number

@@ -4,10 +4,10 @@ mod numbers;
 mod texts;
 
 use numbers::put_named;
+use proving::Refusal;
+use proving::refusals::number_of;
+use proving::refusals::place_of;
 use report::Judged;
-use report::Refusal;
-use report::refusals::number_of;
-use report::refusals::place_of;
 pub use texts::put_text;
 ghost use mathlib.Core.Path.{_≡_};
 ghost use Prim.Native.Nat.{_+_, _≤_};

@@ -22,9 +22,9 @@ use Rattle.step.specs.Refusal as proof
 use Rattle.checker.specs.declared.Checked as proved
 use Rattle.checker.specs.declared.Checked.the-variants.{Accepted, Refused, Unfit}
 use Rattle.witness.specs.Refusal as witness
-use Rattle.report.specs.Refusal as report
+use Rattle.proving.specs.Refusal as proving
 use Rattle.report.specs.declared.Judged.{Judged}
-use Rattle.report.specs.declared.Compared.{Compared}
+use Rattle.comparing.specs.declared.Compared.{Compared}
 
 -- 1 if a whole number is negative
 abbrev pub isNegative : Whole → ℕ
@@ -92,7 +92,7 @@ proveFills Unfit ans = record { code = 254; answer = ans }
 abbrev pub judgeFills : Judged → List ℕ → Reply
 judgeFills (Judged.Accepted access side array size index steps hints) ans =
     record { code = 0; answer = filled ans 0 (judgedOf access side array size index steps hints) }
-judgeFills (Judged.Refused refusal) ans = record { code = report.numberOf refusal; answer = set ans 0 (report.placeOf refusal) }
+judgeFills (Judged.Refused refusal) ans = record { code = proving.numberOf refusal; answer = set ans 0 (proving.placeOf refusal) }
 
 -- what comparing two reports gives: 1 for alike
 abbrev pub alikeFills : Compared → List ℕ → Reply

@@ -2,10 +2,10 @@
 use bitvec::Whole;
 use command::Counts;
 use command::steps::accesses_of;
+use comparing::Compared;
 use header::Header;
 use header::first_command;
 use machine::Side;
-use report::Compared;
 use report::Judged;
 use routine::Checked;
 use run::Ran;
@@ -243,8 +243,8 @@ pub fn fill_judge(judged: Judged, answer: &mut [u64]) -> u8
             0
         }
         Judged::Refused(refusal) => {
-            fill_place(report::refusals::place_of(refusal), answer);
-            report::refusals::number_of(refusal)
+            fill_place(proving::refusals::place_of(refusal), answer);
+            proving::refusals::number_of(refusal)
         }
     }
 }

@@ -18,13 +18,13 @@ use Rattle.witness.specs.declared.Refusal as witness
 use Rattle.witness.specs.declared.Witness.{Witness}
 use Rattle.witness.proofs.Opening.{Lets, lets}
 use Rattle.witness.proofs.Standing.{stood}
-use Rattle.report.specs.Alike as alike
-use Rattle.report.specs.Judging.{Room, byProof, byWitness, judgement}
-use Rattle.report.specs.Parts.{Proves, Claims}
-use Rattle.report.specs.declared.Compared.{Compared}
+use Rattle.proving.specs.Proving.{Room}
+use Rattle.proving.specs.Parts.{Proves}
+use Rattle.proving.specs.declared.Proved.{Proved}
+use Rattle.proving.specs.declared.Refusal.{Refusal}
+use Rattle.report.specs.Judging.{byProof, byWitness, judgement}
+use Rattle.report.specs.Parts.{Claims}
 use Rattle.report.specs.declared.Judged.{Judged}
-use Rattle.report.specs.declared.Proved.{Proved}
-use Rattle.report.specs.declared.Refusal.{Refusal}
 
 -- ---- what `check` of routine answered
 
@@ -67,13 +67,3 @@ module _ (bs : List ℕ) (x : Checked) (is : x ≡ checked bs) where
   pub decided : (r : List ℕ) (m : Room) (h : Header) (k : Counts) → x ≡ Checked.Accepted h k → (j : Judged) → Claims bs r h k m j → j ≡ judgement bs r m
   unfolding judgement
   decided r m h k e j c = let y = accepted bs h k x is e in rw (y .decodes) (c .tells (y .arm) (y .decodes))
-
-  pub no-pair : (first second : List ℕ) (refusal : declared.Refusal) → x ≡ Checked.Refused refusal
-      → Compared.Refused (witness.Refusal.Lead (lead.Refusal.Routine refusal)) ≡ alike.alike bs first second
-  unfolding alike.alike
-  no-pair first second refusal e = rw (refused-by bs refusal x is e) refl
-
-  pub paired : (first second : List ℕ) (h : Header) (k : Counts) → x ≡ Checked.Accepted h k → (c : Compared) → c ≡ alike.compared first second h k
-      → c ≡ alike.alike bs first second
-  unfolding alike.alike
-  paired first second h k e c by = let y = accepted bs h k x is e in rw (y .decodes) by

@@ -1,6 +1,4 @@
 -- What the proofs of several functions use.
 mod Demanded
-mod Proper
-mod Fitting
 mod Decided
 mod Zeroes

@@ -1,39 +1,17 @@
 -- What the functions of judging tell each other, over the parts of the buffers that are used.
-use Prim.Native.Nat.{ℕ}
 use mathlib.Core.Path.{_≡_}
+use Prim.Native.Nat.{ℕ}
 use mathlib.Core.List.{List}
 use lib.ListN.{length, replicate}
 use Rattle.header.specs.declared.Header.{Header}
 use Rattle.command.specs.declared.Counts.{Counts}
 use Rattle.routine.specs.Routine.{Arm}
 use Rattle.routine.specs.Decode.{routine, decode}
-use Rattle.lead.specs.declared.Target.{Target}
-use Rattle.translation.specs.Translation.{whole}
-use Rattle.translation.specs.declared.Buffer as translation
-use Rattle.translation.specs.declared.Refusal as translating
-use Rattle.witness.specs.Lead.{decisionsIn, proofAt}
 use Rattle.witness.specs.Witness.{witnessOf}
-use Rattle.witness.specs.declared.Refusal as witness
-use Rattle.report.specs.Judging.{Room, provedBy, byWitness, judgement}
-use Rattle.report.specs.declared.Buffer.{Buffer}
-use Rattle.report.specs.declared.Refusal.{Refusal}
-use Rattle.report.specs.declared.Proved.{Proved}
+use Rattle.proving.specs.Proving.{Room}
+use Rattle.proving.specs.Parts.{roomOf}
+use Rattle.report.specs.Judging.{byWitness, judgement}
 use Rattle.report.specs.declared.Judged.{Judged}
-
--- what is lent
-abbrev pub roomOf : (words starts marks : List ℕ) → (values trail : ℕ) → Room
-roomOf words starts marks values trail =
-    record { words = length words; starts = length starts; marks = length marks; values = values; trail = trail }
-
--- why there is no translation
-abbrev pub byTranslation : translating.Refusal → Refusal
-byTranslation (translating.Refusal.Lead refusal) = Refusal.Witness (witness.Refusal.Lead refusal)
-byTranslation (translating.Refusal.TooSmall translation.Buffer.Words) = Refusal.TooSmall Buffer.Words
-byTranslation (translating.Refusal.TooSmall translation.Buffer.Starts) = Refusal.TooSmall Buffer.Starts
-
--- 16 and the proof of a report on whatever was decoded
-pub record Proves (bs r : List ℕ) (h : Header) (k : Counts) (t : Target) (m : Room) (p : Proved) : Type 0 where
-  pub tells : (a : Arm) → decode bs ≡ routine h a k → p ≡ provedBy r (proofAt h k) m h k (whole bs t (decisionsIn r k) h a)
 
 -- what is said of a report on whatever was decoded
 pub record Claims (bs r : List ℕ) (h : Header) (k : Counts) (m : Room) (j : Judged) : Type 0 where

@@ -4,7 +4,8 @@ use mathlib.Core.Path.{_≡_}
 use mathlib.Core.List.{List, _++_}
 use lib.ListN.{drop, replicate}
 use Rattle.slices.specs.Lent.{usable}
-use Rattle.report.specs.Judging.{Room, judgement}
+use Rattle.proving.specs.Proving.{Room}
+use Rattle.report.specs.Judging.{judgement}
 use Rattle.report.specs.declared.Judged.{Judged}
 
 -- a buffer, zeroed

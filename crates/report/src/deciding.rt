@@ -1,13 +1,13 @@
 // What is said of a report: the routine, the witness, then the proof.
 use crate::Judged;
-use crate::Proved;
-use crate::Refusal;
-use crate::proving::prove;
 use bitvec::Whole;
 use command::Counts;
 use header::Header;
 use header::size_of_array;
 use lead::Target;
+use proving::Proved;
+use proving::Refusal;
+use proving::prove;
 use routine::Checked;
 use witness::Witness;
 use witness::run_witness;
@@ -15,8 +15,9 @@ ghost use mathlib.Core.Path.{_≡_};
 ghost use Prim.Native.Nat.{_≤_};
 ghost use lib.ListN.{length};
 ghost use Rattle.routine.specs.Decode.{Counted};
+ghost use Rattle.proving.specs.Parts.{roomOf};
 ghost use Rattle.report.specs.Judging.{byProof, judgement};
-ghost use Rattle.report.specs.Parts.{roomOf, Claims};
+ghost use Rattle.report.specs.Parts.{Claims};
 
 // The answer, from what is said of the proof.
 fn by_proof(routine: &[u8], h: Header, t: Target, array: u8, index: Whole, proved: Proved) -> Judged

@@ -1,37 +1,12 @@
 // The judging of a whole report: the lead, the witness, the translation of its claim, and the proof.
-pub mod comparing;
 mod deciding;
 mod parts;
-mod proving;
-pub mod refusals;
 
 use bitvec::Whole;
+use proving::Refusal;
 use slices::usable;
 ghost use Rattle.report.specs.Demand.{Demand3};
 ghost use Rattle.report.specs.Zeroed.{Judges};
-
-// A lent buffer.
-pub enum Buffer {
-    Words,
-    Starts,
-    Marks,
-    Values,
-    Trail,
-}
-
-// Why a report is turned down.
-pub enum Refusal {
-    // 1 to 8, the lead or the witness
-    Witness(witness::Refusal),
-    TooSmall(Buffer),
-    Proof(step::Refusal),
-}
-
-// What is said of the proof: the steps that it closes and the hints that it has, or why it is turned down.
-pub enum Proved {
-    Refused(Refusal),
-    Closed { steps: usize, hints: usize },
-}
 
 // What is said of a report.
 pub enum Judged {
@@ -47,12 +22,6 @@ pub enum Judged {
         hints: usize,
     },
     Refused(Refusal),
-}
-
-// Whether two reports are alike.
-pub enum Compared {
-    Alike(bool),
-    Refused(witness::Refusal),
 }
 
 // Judges a report on a routine. If it is accepted, every run that goes the report's way and comes to the named access stops there, its index outside the array, on

@@ -1,0 +1,25 @@
+-- What is said of two reports, from what the routine's check answered. Assumes nothing.
+use mathlib.Core.Path.{_≡_, refl}
+use mathlib.Core.List.{List}
+use Prim.Native.Nat.{ℕ}
+use Rattle.header.specs.declared.Header.{Header}
+use Rattle.command.specs.declared.Counts.{Counts}
+use Rattle.routine.specs.Decode.{checked}
+use Rattle.routine.specs.declared.Checked.{Checked}
+use Rattle.routine.specs.declared.Refusal as declared
+use Rattle.routine.proofs.Accepted.{accepted, refused-by}
+use Rattle.lead.specs.declared.Refusal as lead
+use Rattle.witness.specs.declared.Refusal as witness
+use Rattle.comparing.specs.Alike.{alike, compared}
+use Rattle.comparing.specs.declared.Compared.{Compared}
+
+module _ (bs : List ℕ) (x : Checked) (is : x ≡ checked bs) where
+  pub no-pair : (first second : List ℕ) (refusal : declared.Refusal) → x ≡ Checked.Refused refusal
+      → Compared.Refused (witness.Refusal.Lead (lead.Refusal.Routine refusal)) ≡ alike bs first second
+  unfolding alike
+  no-pair first second refusal e = rw (refused-by bs refusal x is e) refl
+
+  pub paired : (first second : List ℕ) (h : Header) (k : Counts) → x ≡ Checked.Accepted h k → (c : Compared) → c ≡ compared first second h k
+      → c ≡ alike bs first second
+  unfolding alike
+  paired first second h k e c by = let y = accepted bs h k x is e in rw (y .decodes) by

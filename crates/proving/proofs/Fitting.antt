@@ -1,0 +1,225 @@
+-- 16 and the proof, from what the translation and the check answered. Assumes nothing.
+use mathlib.Core.Path.{_≡_, refl, sym, ap, subst, _∙_}
+use mathlib.Core.List.{List}
+use mathlib.Core.Bool.{Bool, true, false, cond}
+use Prim.Native.Nat.{ℕ, _+_, _-_, _<_, _≤_}
+use native.Mathlib.Nat.{min-eq-left}
+use native.Mathlib.Omega.{arith}
+use lib.ListN.{length, take, replicate, length-replicate}
+use lib.Seq.{sets, length-sets, length-take-le}
+use lib.Dec.{leb}
+use borrow.Author.Tests.{le-leb, lt-leb, leb-true}
+use Rattle.slices.specs.Lent.{usable}
+use Rattle.header.specs.declared.Header.{Header}
+use Rattle.command.specs.declared.Counts.{Counts}
+use Rattle.routine.specs.Routine.{Arm}
+use Rattle.routine.specs.Decode.{routine, decode, Counted}
+use Rattle.clauses.specs.Clause.{Clause, flatten, offsets}
+use Rattle.wiring.specs.Command.{Stretch}
+use Rattle.lead.specs.declared.Target.{Target}
+use Rattle.translation.specs.Answer as answer
+use Rattle.translation.specs.Answer.{Fitted}
+use Rattle.translation.specs.Translation.{whole, clausesOfAll, sizeOf}
+use Rattle.translation.specs.declared.Buffer as translation
+use Rattle.translation.specs.declared.Refusal as translating
+use Rattle.translation.specs.declared.Size.{Size}
+use Rattle.translation.specs.declared.Translated.{Translated}
+use Rattle.propagation.specs.Stored.{clausesOf}
+use Rattle.proof.specs.Answer as proof
+use Rattle.proof.specs.Answer.{Begins, limitsOf, Answers}
+use Rattle.proof.specs.Check.{checkProof}
+use Rattle.proof.proofs.Laying.{Proper, begins-laid, clauses-laid}
+use Rattle.step.specs.declared.Verdict.{Verdict}
+use Rattle.witness.specs.Lead.{decisionsIn, proofAt}
+use Rattle.proving.specs.Proving.{Room, byVerdict, provedBy}
+use Rattle.proving.specs.Parts.{roomOf, byTranslation, Proves}
+use Rattle.proving.specs.declared.Buffer.{Buffer}
+use Rattle.proving.specs.declared.Refusal.{Refusal}
+use Rattle.proving.specs.declared.Proved.{Proved}
+use Rattle.proving.proofs.Proper.{whole-proper}
+
+-- a buffer that is not too long is used whole
+used-whole : (xs : List ℕ) → length xs ≤ 16777216 → usable xs ≡ length xs
+used-whole xs l = min-eq-left l
+
+-- ---- the check
+
+module _ (w s m m₁ r : List ℕ) (from count used : ℕ) (zeros : m₁ ≡ replicate (length m) 0) where
+  pub begins-zeroed : Begins w s (replicate (length m) 0) r from count used → Begins w s m₁ r from count used
+  begins-zeroed b = subst (λ (z : List ℕ). Begins w s z r from count used) (sym zeros) b
+
+  pub verdict-is : (w₁ s₁ m₂ : List ℕ) (v : Verdict) → Answers w s m₁ r from count w₁ s₁ m₂ v
+      → v ≡ checkProof (clausesOf w s count) (limitsOf w s m) r from .verdict
+  unfolding proof.answer
+  verdict-is w₁ s₁ m₂ v a =
+      let l : length m₁ ≡ length m = ap length zeros ∙ length-replicate (length m) 0 in
+      ap (λ (x : proof.Answer). x .verdict) (a .equal)
+      ∙ ap (λ (n : ℕ). checkProof (clausesOf w s count) (record { variables = n - 1; words = length w; starts = length s }) r from .verdict) l
+
+-- ---- the translation
+
+-- what was made: of this size, in buffers that have room for it
+pub record Made (words starts words₁ starts₁ : List ℕ) (size : Size) (x : Stretch) : Type 0 where
+  pub sized : size ≡ sizeOf x
+  pub words-room : sizeOf x .words ≤ length words
+  pub starts-room : sizeOf x .clauses ≤ length starts
+  pub words-are : words₁ ≡ sets words 0 (flatten (clausesOfAll x))
+  pub starts-are : starts₁ ≡ sets starts 0 (offsets 0 (clausesOfAll x))
+
+module _ (words starts words₁ starts₁ : List ℕ) (short : length words ≤ 16777216) (few : length starts ≤ 16777216) (z : Translated) (x : Stretch)
+    (e : _≡_ {A = answer.Answer} (record { translated = z; words = words₁; starts = starts₁ }) (answer.fitted words starts x)) where
+  abbrev by : (b c : Bool) → answer.Answer
+  by b c =
+      cond b
+      (cond c
+      (record { translated = Translated.Made (sizeOf x); words = sets words 0 (flatten (clausesOfAll x)); starts = sets starts 0 (offsets 0 (clausesOfAll x)) })
+      (record { translated = Translated.Refused (translating.Refusal.TooSmall translation.Buffer.Starts); words = words; starts = starts }))
+      (record { translated = Translated.Refused (translating.Refusal.TooSmall translation.Buffer.Words); words = words; starts = starts })
+
+  made-by : (size : Size) → z ≡ Translated.Made size → (b c : Bool) → leb (sizeOf x .words) (usable words) ≡ b → leb (sizeOf x .clauses) (usable starts) ≡ c
+      → _≡_ {A = answer.Answer} (record { translated = z; words = words₁; starts = starts₁ }) (by b c) → Made words starts words₁ starts₁ size x
+  made-by size is true true p q f =
+      let y : Translated.Made size ≡ Translated.Made (sizeOf x) = sym is ∙ ap (λ (v : answer.Answer). v .translated) f in
+      record {
+        sized = cc;
+        words-room = rw (used-whole words short) at (leb-true (sizeOf x .words) (usable words) p);
+        starts-room = rw (used-whole starts few) at (leb-true (sizeOf x .clauses) (usable starts) q);
+        words-are = ap (λ (v : answer.Answer). v .words) f;
+        starts-are = ap (λ (v : answer.Answer). v .starts) f;
+      }
+  made-by size is true false p q f =
+      let y : Translated.Made size ≡ Translated.Refused (translating.Refusal.TooSmall translation.Buffer.Starts) = sym is ∙ ap (λ (v : answer.Answer). v .translated) f in
+      let n : _≡_ {A = ℕ} 0 1 = cc in
+      absurd (omega arith)
+  made-by size is false c p q f =
+      let y : Translated.Made size ≡ Translated.Refused (translating.Refusal.TooSmall translation.Buffer.Words) = sym is ∙ ap (λ (v : answer.Answer). v .translated) f in
+      let n : _≡_ {A = ℕ} 0 1 = cc in
+      absurd (omega arith)
+
+  made : (size : Size) → z ≡ Translated.Made size → Made words starts words₁ starts₁ size x
+  made size is = made-by size is (leb (sizeOf x .words) (usable words)) (leb (sizeOf x .clauses) (usable starts)) refl refl e
+
+  -- what was not made has no room in words, or in starts
+  refused-by : (r : List ℕ) (from : ℕ) (m : Room) (h : Header) (k : Counts) → m .words ≡ length words → m .starts ≡ length starts
+      → (refusal : translating.Refusal) → z ≡ Translated.Refused refusal → (b c : Bool) → leb (sizeOf x .words) (usable words) ≡ b → leb (sizeOf x .clauses) (usable starts) ≡ c
+      → _≡_ {A = answer.Answer} (record { translated = z; words = words₁; starts = starts₁ }) (by b c) → Proved.Refused (byTranslation refusal) ≡ provedBy r from m h k x
+  unfolding provedBy
+  refused-by r from m h k mw ms refusal is true true p q f =
+      let y : Translated.Refused refusal ≡ Translated.Made (sizeOf x) = sym is ∙ ap (λ (v : answer.Answer). v .translated) f in
+      let n : _≡_ {A = ℕ} 0 1 = cc in
+      absurd (omega arith)
+  refused-by r from m h k mw ms refusal is true false p q f =
+      let y : Translated.Refused refusal ≡ Translated.Refused (translating.Refusal.TooSmall translation.Buffer.Starts) = sym is ∙ ap (λ (v : answer.Answer). v .translated) f in
+      let n : refusal ≡ translating.Refusal.TooSmall translation.Buffer.Starts = cc in
+      rw (n, mw, ms, ← used-whole words short, ← used-whole starts few, p, q) refl
+  refused-by r from m h k mw ms refusal is false c p q f =
+      let y : Translated.Refused refusal ≡ Translated.Refused (translating.Refusal.TooSmall translation.Buffer.Words) = sym is ∙ ap (λ (v : answer.Answer). v .translated) f in
+      let n : refusal ≡ translating.Refusal.TooSmall translation.Buffer.Words = cc in
+      rw (n, mw, ← used-whole words short, p) refl
+
+  not-made : (r : List ℕ) (from : ℕ) (m : Room) (h : Header) (k : Counts) → m .words ≡ length words → m .starts ≡ length starts
+      → (refusal : translating.Refusal) → z ≡ Translated.Refused refusal → Proved.Refused (byTranslation refusal) ≡ provedBy r from m h k x
+  not-made r from m h k mw ms refusal is =
+      refused-by r from m h k mw ms refusal is (leb (sizeOf x .words) (usable words)) (leb (sizeOf x .clauses) (usable starts)) refl refl e
+
+-- ---- what `prove` answers
+
+begins-same : (w w₁ s s₁ m r : List ℕ) (from from₁ count count₁ used used₁ : ℕ) → w₁ ≡ w → s₁ ≡ s → from₁ ≡ from → count₁ ≡ count → used₁ ≡ used
+    → Begins w s m r from count used → Begins w₁ s₁ m r from₁ count₁ used₁
+begins-same w w₁ s s₁ m r from from₁ count count₁ used used₁ p q x y z b = rw (p, q, x, y, z) b
+
+clauses-same : (w w₁ s s₁ : List ℕ) (n n₁ : ℕ) → w₁ ≡ w → s₁ ≡ s → n₁ ≡ n → clausesOf w₁ s₁ n₁ ≡ clausesOf w s n
+clauses-same w w₁ s s₁ n n₁ p q x = rw (p, q, x) refl
+
+verdict-same : (r : List ℕ) (cs cs₁ : List Clause) (v v₁ w w₁ s s₁ from from₁ : ℕ) → cs ≡ cs₁ → v ≡ v₁ → w ≡ w₁ → s ≡ s₁ → from ≡ from₁
+    → byVerdict (checkProof cs (record { variables = v; words = w; starts = s }) r from .verdict)
+    ≡ byVerdict (checkProof cs₁ (record { variables = v₁; words = w₁; starts = s₁ }) r from₁ .verdict)
+verdict-same r cs cs₁ v v₁ w w₁ s s₁ from from₁ p q x y z = rw (p, q, x, y, z) refl
+
+module _ (bs r : List ℕ) (h : Header) (k : Counts) (t : Target) (words starts marks : List ℕ) (values trail : ℕ)
+    (short : length words ≤ 16777216) (few : length starts ≤ 16777216)
+    (ds : List ℕ) (same : ds ≡ decisionsIn r k) (words₁ starts₁ : List ℕ) (z : Translated) (fit : Fitted bs h t ds words starts words₁ starts₁ z) where
+  abbrev room : Room
+  room = roomOf words starts marks values trail
+
+  abbrev Of : Arm → Stretch
+  Of a = whole bs t (decisionsIn r k) h a
+
+  fitted-of : (a : Arm) → decode bs ≡ routine h a k
+      → _≡_ {A = answer.Answer} (record { translated = z; words = words₁; starts = starts₁ }) (answer.fitted words starts (Of a))
+  fitted-of a d = fit .tells a k d ∙ ap (λ (y : List ℕ). answer.fitted words starts (whole bs t y h a)) same
+
+  pub prove-refused : (refusal : translating.Refusal) → z ≡ Translated.Refused refusal → (x : Refusal) → x ≡ byTranslation refusal
+      → Proves bs r h k t room (Proved.Refused x)
+  prove-refused refusal is x by = record {
+    tells = λ a d.
+        ap Proved.Refused by ∙ not-made words starts words₁ starts₁ short few z (Of a) (fitted-of a d) r (proofAt h k) room h k refl refl refusal is;
+  }
+
+  module _ (size : Size) (is : z ≡ Translated.Made size) where
+    of-made : (a : Arm) → decode bs ≡ routine h a k → Made words starts words₁ starts₁ size (Of a)
+    of-made a d = made words starts words₁ starts₁ short few z (Of a) (fitted-of a d) size is
+
+    variables-are : (a : Arm) → decode bs ≡ routine h a k → size .variables ≡ sizeOf (Of a) .variables
+    variables-are a d = ap (λ (y : Size). y .variables) (of-made a d .sized)
+
+    -- the clauses that stand in the buffers
+    clauses-are : (a : Arm) → decode bs ≡ routine h a k → clausesOf words₁ starts₁ (size .clauses) ≡ clausesOfAll (Of a)
+    clauses-are a d =
+        let y = of-made a d in
+        clauses-same _ words₁ _ starts₁ _ (size .clauses) (y .words-are) (y .starts-are) (ap (λ (v : Size). v .clauses) (y .sized))
+        ∙ clauses-laid words starts (clausesOfAll (Of a)) (y .words-room) (y .starts-room)
+
+    pub prove-marks : length marks < size .variables + 1 → Proves bs r h k t room (Proved.Refused (Refusal.TooSmall Buffer.Marks))
+    unfolding provedBy
+    prove-marks l = record {
+      tells = λ a d.
+          let y = of-made a d in
+          rw (le-leb _ _ (y .words-room), le-leb _ _ (y .starts-room), lt-leb _ _ (rw (variables-are a d) at l)) refl;
+    }
+
+    module _ (enough : size .variables + 1 ≤ length marks) where
+      pub prove-values : values < h .variables → Proves bs r h k t room (Proved.Refused (Refusal.TooSmall Buffer.Values))
+      unfolding provedBy
+      prove-values l = record {
+        tells = λ a d.
+            let y = of-made a d in
+            rw (le-leb _ _ (y .words-room), le-leb _ _ (y .starts-room), le-leb _ _ (rw (variables-are a d) at enough), lt-leb _ _ l) refl;
+      }
+
+      module _ (valued : h .variables ≤ values) where
+        pub prove-trail : trail < k .ifs → Proves bs r h k t room (Proved.Refused (Refusal.TooSmall Buffer.Trail))
+        unfolding provedBy
+        prove-trail l = record {
+          tells = λ a d.
+              let y = of-made a d in
+              rw (le-leb _ _ (y .words-room), le-leb _ _ (y .starts-room), le-leb _ _ (rw (variables-are a d) at enough), le-leb _ _ valued, lt-leb _ _ l) refl;
+        }
+
+        -- the clauses are laid out as the check asks
+        pub prove-begins : Counted bs h k → proofAt h k ≤ length r → length r ≤ 16777216 → (from : ℕ) → from ≡ proofAt h k
+            → Begins words₁ starts₁ (replicate (length (take (size .variables + 1) marks)) 0) r from (size .clauses) (size .words)
+        prove-begins i within limit from at =
+            let a = i .commands in
+            let d = i .decodes in
+            let y = of-made a d in
+            let n : ℕ = length (take (size .variables + 1) marks) in
+            let l : n ≡ 1 + length (Of a .nodes) = length-take-le (size .variables + 1) marks enough ∙ omega (arith, variables-are a d) in
+            begins-same _ words₁ _ starts₁ (replicate n 0) r (proofAt h k) from _ (size .clauses) _ (size .words) (y .words-are) (y .starts-are) at
+            (ap (λ (v : Size). v .clauses) (y .sized)) (ap (λ (v : Size). v .words) (y .sized))
+            (begins-laid words starts (clausesOfAll (Of a)) (y .words-room) (y .starts-room) (replicate n 0) r (proofAt h k)
+            (subst (λ (v : ℕ). Proper v (clausesOfAll (Of a))) (sym (length-replicate n 0 ∙ l)) (whole-proper bs t (decisionsIn r k) h a k d))
+            (omega (arith, length-replicate {A = ℕ} n 0)) short (ap (λ (v : ℕ). replicate v 0) (sym (length-replicate n 0))) within limit)
+
+        pub proved : k .ifs ≤ trail → (from : ℕ) → from ≡ proofAt h k → (p : Proved)
+            → p ≡ byVerdict (checkProof (clausesOf words₁ starts₁ (size .clauses)) (limitsOf words₁ starts₁ (take (size .variables + 1) marks)) r from .verdict)
+            → Proves bs r h k t room p
+        unfolding provedBy
+        proved trailed from at p by = record {
+          tells = λ a d.
+              let y = of-made a d in
+              let l : length (take (size .variables + 1) marks) ≡ size .variables + 1 = length-take-le (size .variables + 1) marks enough in
+              rw (le-leb _ _ (y .words-room), le-leb _ _ (y .starts-room), le-leb _ _ (rw (variables-are a d) at enough), le-leb _ _ valued, le-leb _ _ trailed)
+              (by ∙ verdict-same r _ _ _ _ _ _ _ _ from (proofAt h k) (clauses-are a d) (omega (arith, variables-are a d)) (ap length (y .words-are) ∙ length-sets words 0 (flatten (clausesOfAll (Of a))))
+              (ap length (y .starts-are) ∙ length-sets starts 0 (offsets 0 (clausesOfAll (Of a)))) at);
+        }

@@ -1,0 +1,47 @@
+-- The claim of a report, proved: 16, then the proof.
+use Prim.Native.Nat.{ℕ, _+_}
+use mathlib.Core.List.{List}
+use mathlib.Core.Bool.{cond}
+use lib.Dec.{leb}
+use Rattle.header.specs.declared.Header.{Header}
+use Rattle.command.specs.declared.Counts.{Counts}
+use Rattle.wiring.specs.Command.{Stretch}
+use Rattle.translation.specs.Translation.{clausesOfAll, sizeOf}
+use Rattle.proof.specs.State.{Limits}
+use Rattle.proof.specs.Check.{checkProof}
+use Rattle.step.specs.declared.Verdict.{Verdict}
+use Rattle.proving.specs.declared.Buffer.{Buffer}
+use Rattle.proving.specs.declared.Refusal.{Refusal}
+use Rattle.proving.specs.declared.Proved.{Proved}
+
+-- how many entries of each buffer are lent and used
+pub record Room : Type 0 where
+  pub words : ℕ
+  pub starts : ℕ
+  pub marks : ℕ
+  pub values : ℕ
+  pub trail : ℕ
+
+-- a verdict on the proof
+abbrev pub byVerdict : Verdict → Proved
+byVerdict (Verdict.Accepted steps hints) = Proved.Closed steps hints
+byVerdict (Verdict.Refused refusal) = Proved.Refused (Refusal.Proof refusal)
+
+-- what the proof has room for
+abbrev pub limitsIn : Room → Stretch → Limits
+limitsIn m x = record { variables = sizeOf x .variables; words = m .words; starts = m .starts }
+
+-- 16, then the proof from an offset of the report on, over the clauses of the translation x
+unfoldable pub provedBy : (r : List ℕ) → (from : ℕ) → Room → Header → Counts → Stretch → Proved
+provedBy r from m h k x =
+    cond (leb (sizeOf x .words) (m .words))
+    (cond (leb (sizeOf x .clauses) (m .starts))
+    (cond (leb (sizeOf x .variables + 1) (m .marks))
+    (cond (leb (h .variables) (m .values))
+    (cond (leb (k .ifs) (m .trail))
+    (byVerdict (checkProof (clausesOfAll x) (limitsIn m x) r from .verdict))
+    (Proved.Refused (Refusal.TooSmall Buffer.Trail)))
+    (Proved.Refused (Refusal.TooSmall Buffer.Values)))
+    (Proved.Refused (Refusal.TooSmall Buffer.Marks)))
+    (Proved.Refused (Refusal.TooSmall Buffer.Starts)))
+    (Proved.Refused (Refusal.TooSmall Buffer.Words))

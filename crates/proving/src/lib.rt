@@ -1,0 +1,127 @@
+// The claim of a report, proved: 16, then the proof.
+pub mod refusals;
+
+use command::Counts;
+use header::Header;
+use lead::Target;
+use proof::check_proof;
+use slices::zero_bytes;
+use step::Verdict;
+use translation::Size;
+use translation::Translated;
+use translation::wholes::fit;
+use witness::leads::proof_at;
+ghost use mathlib.Core.Path.{_≡_};
+ghost use Prim.Native.Nat.{_≤_};
+ghost use lib.ListN.{length, replicate};
+ghost use Rattle.routine.specs.Decode.{Counted};
+ghost use Rattle.proof.specs.Answer.{Begins, limitsOf};
+ghost use Rattle.proof.specs.Check.{checkProof};
+ghost use Rattle.propagation.specs.Stored.{clausesOf};
+ghost use Rattle.witness.specs.Lead.{decisionsIn, proofAt};
+ghost use Rattle.proving.specs.Proving.{byVerdict};
+ghost use Rattle.proving.specs.Parts.{roomOf, Proves, byTranslation};
+
+// A lent buffer.
+pub enum Buffer {
+    Words,
+    Starts,
+    Marks,
+    Values,
+    Trail,
+}
+
+// Why a report is turned down.
+pub enum Refusal {
+    // 1 to 8, the lead or the witness
+    Witness(witness::Refusal),
+    TooSmall(Buffer),
+    Proof(step::Refusal),
+}
+
+// What is said of the proof: the steps that it closes and the hints that it has, or why it is turned down.
+pub enum Proved {
+    Refused(Refusal),
+    Closed { steps: usize, hints: usize },
+}
+
+fn by_verdict(verdict: Verdict) -> Proved
+    ensures { λ r. ⌜ r ≡ byVerdict verdict ⌝ }
+{
+    match verdict {
+        Verdict::Accepted { steps, hints } => Proved::Closed { steps, hints },
+        Verdict::Refused(refusal) => Proved::Refused(Refusal::Proof(refusal)),
+    }
+}
+
+// Why there is no translation.
+fn by_translation(refusal: translation::Refusal) -> Refusal
+    ensures { λ r. ⌜ r ≡ byTranslation refusal ⌝ }
+{
+    match refusal {
+        translation::Refusal::Lead(inner) => Refusal::Witness(witness::Refusal::Lead(inner)),
+        translation::Refusal::TooSmall(buffer) => match buffer {
+            translation::Buffer::Words => Refusal::TooSmall(Buffer::Words),
+            translation::Buffer::Starts => Refusal::TooSmall(Buffer::Starts),
+        },
+    }
+}
+
+// Checks the proof from an offset on, over the clauses of a translation of this size; every variable begins undecided.
+fn check(
+    report: &[u8],
+    from: usize,
+    size: Size,
+    words: &mut [u32],
+    starts: &mut [u32],
+    marks: &mut [u8],
+) -> Proved
+    requires { ⌜ Begins (now words) (now starts) (replicate (length (now marks)) 0) (now report) from (size .clauses) (size .words) ⌝ }
+    ensures { λ r. ⌜ r ≡ byVerdict (checkProof (clausesOf (now (words .entry)) (now (starts .entry)) (size .clauses)) (limitsOf (now (words .entry)) (now (starts .entry)) (now (marks .entry))) (now (report .entry)) from .verdict) ⌝ }
+{
+    zero_bytes(marks);
+    by_verdict(check_proof(
+        report,
+        from,
+        size.clauses as usize,
+        size.words as usize,
+        words,
+        starts,
+        marks,
+    ))
+}
+
+// The translation, the room for marks, values and trail, and the proof.
+pub fn prove(
+    routine: &[u8],
+    report: &[u8],
+    h: Header,
+    k: Counts,
+    t: Target,
+    words: &mut [u32],
+    starts: &mut [u32],
+    marks: &mut [u8],
+    values: usize,
+    trail: usize,
+) -> Proved
+    requires { ⌜ Counted (now routine) h k × (proofAt h k ≤ length (now report)) × (length (now report) ≤ 16777216) × (length (now words) ≤ 16777216) × (length (now starts) ≤ 16777216) ⌝ }
+    ensures { λ r. ⌜ Proves (now (routine .entry)) (now (report .entry)) h k t (roomOf (now (words .entry)) (now (starts .entry)) (now (marks .entry)) values trail) r ⌝ }
+{
+    let end = 2 + k.ifs as usize;
+    match fit(routine, h, t, &report[2..end], words, starts) {
+        Translated::Refused(refusal) => Proved::Refused(by_translation(refusal)),
+        Translated::Made(size) => {
+            let m = size.variables as usize + 1;
+            if marks.len() < m {
+                return Proved::Refused(Refusal::TooSmall(Buffer::Marks));
+            }
+            if values < h.variables as usize {
+                return Proved::Refused(Refusal::TooSmall(Buffer::Values));
+            }
+            if trail < k.ifs as usize {
+                return Proved::Refused(Refusal::TooSmall(Buffer::Trail));
+            }
+            check(report, proof_at(h, k), size, words, starts, &mut marks[..m])
+        }
+    }
+}
