@@ -65,16 +65,19 @@ fn command_by(op: u8, a: u8, b: u8, c: u8, constant: u32) -> Command
     }
 }
 
-// The command that begins at `at`, with 0 for the bytes past the end.
+// The command that begins at `at`, with 0 for the bytes past the end. Only a set has a constant, of four bytes, so for no other are they read.
 fn command_of(bytes: &[u8], at: usize) -> Command
     requires { ⌜ at < length (now bytes) ⌝ }
     ensures { λ r. ⌜ r ≡ commandOf (now (bytes .entry)) at ⌝ }
 {
     let op = byte_at(bytes, at);
     let a = byte_at(bytes, at + 1);
+    if op == 0x01 {
+        return command_by(op, a, 0, 0, word_at(bytes, at + 2));
+    }
     let b = byte_at(bytes, at + 2);
     let c = byte_at(bytes, at + 3);
-    command_by(op, a, b, c, word_at(bytes, at + 2))
+    command_by(op, a, b, c, 0)
 }
 
 // The whole command at `at`.
