@@ -4,6 +4,7 @@ use mathlib.Core.Path.{_≡_}
 use mathlib.Core.List.{List}
 use mathlib.Core.Bool.{cond}
 use lib.ListN.{length}
+use lib.Seq.{sets}
 use lib.Dec.{ltb}
 use Rattle.bitvec.specs.declared.Whole.{Whole}
 use Rattle.routine.specs.Decode.{checked}
@@ -16,7 +17,8 @@ use Rattle.report.specs.Zeroed.{zeroed, roomIn}
 use Rattle.report.specs.Demand.{Demand3}
 use Rattle.comparing.specs.Alike.{alike}
 use Rattle.report.specs.declared.Judged.{Judged}
-use Rattle.replies.specs.Reply.{Reply, filled, judgedOf, checkFills, runFills, translateFills, proveFills, judgeFills, alikeFills}
+use Rattle.entries.specs.Entry.{judgedOf}
+use Rattle.replies.specs.Reply.{Reply, checkFills, runFills, translateFills, proveFills, judgeFills, alikeFills}
 
 -- what `pellet_check` replies
 unfoldable pub checkReply : (bs ans : List ℕ) → Reply
@@ -145,7 +147,7 @@ pub record Found (bs r ans ans₁ : List ℕ) : Type 0 where
   pub index : Whole
   pub steps : ℕ
   pub hints : ℕ
-  pub told : ans₁ ≡ filled ans 0 (judgedOf access side array size index steps hints)
+  pub told : ans₁ ≡ sets ans 0 (judgedOf access side array size index steps hints)
   pub demand : Demand3 bs r (Judged.Accepted access side array size index steps hints)
 
 -- demand 3: what a return of 0 says

@@ -1,10 +1,10 @@
 // The C interface, and nothing else: each call hands its arguments to the layer that does the work and writes what it answered into `answer`.
-use replies::filling::fill_alike;
-use replies::filling::fill_check;
-use replies::filling::fill_judge;
-use replies::filling::fill_prove;
-use replies::filling::fill_run;
-use replies::filling::fill_translate;
+use replies::fill_alike;
+use replies::fill_check;
+use replies::fill_judge;
+use replies::fill_prove;
+use replies::fill_run;
+use replies::fill_translate;
 ghost use Rattle.capi.specs.Reply.{ChecksReply, RunsReply, TranslatesReply, ProvesReply, JudgesReply, Finds, AlikesReply};
 
 // Checks a routine.

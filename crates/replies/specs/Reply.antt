@@ -1,22 +1,15 @@
 -- What is returned, and what is written into `answer`: 0 and the answer's entries, or a refusal's number and its place.
-use Prim.Native.Nat.{ℕ, _+_}
+use Prim.Native.Nat.{ℕ}
 use mathlib.Core.Path.{_≡_}
 use mathlib.Core.List.{List, [], _∷_}
-use mathlib.Core.Bool.{Bool, cond}
 use lib.ListN.{set}
-use Rattle.bitvec.specs.declared.Whole.{Whole}
-use Rattle.header.specs.Header.{firstCommand}
-use Rattle.header.specs.declared.Header.{Header}
-use Rattle.command.specs.Step.{accesses}
-use Rattle.command.specs.declared.Counts.{Counts}
+use lib.Seq.{sets}
+use Rattle.entries.specs.Entry.{countsOf, stoppedOf, sizesOf, judgedOf, answerNumber}
 use Rattle.routine.specs.Refusal as routine
 use Rattle.routine.specs.declared.Checked.{Checked}
-use Rattle.machine.specs.Side.{sideNumber}
-use Rattle.machine.specs.declared.Side.{Side}
 use Rattle.run.specs.Refusal as run
 use Rattle.run.specs.declared.Ran.{Ran}
 use Rattle.translation.specs.Refusal as translation
-use Rattle.translation.specs.declared.Size.{Size}
 use Rattle.translation.specs.declared.Translated.{Translated}
 use Rattle.step.specs.Refusal as proof
 use Rattle.checker.specs.declared.Checked as proved
@@ -26,72 +19,37 @@ use Rattle.proving.specs.Refusal as proving
 use Rattle.report.specs.declared.Judged.{Judged}
 use Rattle.comparing.specs.declared.Compared.{Compared}
 
--- 1 if a whole number is negative
-abbrev pub isNegative : Whole → ℕ
-isNegative (Whole.Natural n) = 0
-isNegative (Whole.Negative n) = 1
-
--- its magnitude
-abbrev pub magnitude : Whole → ℕ
-magnitude (Whole.Natural n) = n
-magnitude (Whole.Negative n) = n
-
--- the entries from number i on become xs
-unfoldable pub filled : List ℕ → (i : ℕ) → List ℕ → List ℕ
-filled ans i [] = ans
-filled ans i (x ∷ xs) = filled (set ans i x) (i + 1) xs
-
 -- the number returned, and the answer
 pub record Reply : Type 0 where
   pub code : ℕ
   pub answer : List ℕ
 
--- variables, parameters, arrays, ifs, accesses, reads, offset of the first command
-abbrev pub countsOf : Header → Counts → List ℕ
-countsOf h k = h .variables ∷ h .parameters ∷ h .arrays ∷ k .ifs ∷ accesses k ∷ k .reads ∷ firstCommand h ∷ []
-
--- stopped: 1, access, side, 1 if the index is negative, its magnitude
-abbrev pub stoppedOf : (access : ℕ) → Whole → Side → List ℕ
-stoppedOf access index side = 1 ∷ access ∷ sideNumber side ∷ isNegative index ∷ magnitude index ∷ []
-
--- clauses, words, variables
-abbrev pub sizesOf : Size → List ℕ
-sizesOf size = size .clauses ∷ size .words ∷ size .variables ∷ []
-
--- access, side, array, size, 1 if the index is negative, its magnitude, steps, hints
-abbrev pub judgedOf : (access side array size : ℕ) → Whole → (steps hints : ℕ) → List ℕ
-judgedOf access side array size index steps hints = access ∷ side ∷ array ∷ size ∷ isNegative index ∷ magnitude index ∷ steps ∷ hints ∷ []
-
--- 1 for yes
-abbrev pub answerNumber : Bool → ℕ
-answerNumber b = cond b 1 0
-
 -- what checking a routine gives
 abbrev pub checkFills : Checked → List ℕ → Reply
-checkFills (Checked.Accepted h k) ans = record { code = 0; answer = filled ans 0 (countsOf h k) }
+checkFills (Checked.Accepted h k) ans = record { code = 0; answer = sets ans 0 (countsOf h k) }
 checkFills (Checked.Refused refusal) ans = record { code = routine.numberOf refusal; answer = set ans 0 (routine.placeOf refusal) }
 
 -- what a run gives: 0 for an end, and nothing more
 abbrev pub runFills : Ran → List ℕ → Reply
 runFills Ran.Ended ans = record { code = 0; answer = set ans 0 0 }
-runFills (Ran.Stopped access index side) ans = record { code = 0; answer = filled ans 0 (stoppedOf access index side) }
+runFills (Ran.Stopped access index side) ans = record { code = 0; answer = sets ans 0 (stoppedOf access index side) }
 runFills (Ran.Refused refusal) ans = record { code = run.numberOf refusal; answer = set ans 0 (run.placeOf refusal) }
 
 -- what a translation gives
 abbrev pub translateFills : Translated → List ℕ → Reply
-translateFills (Translated.Made size) ans = record { code = 0; answer = filled ans 0 (sizesOf size) }
+translateFills (Translated.Made size) ans = record { code = 0; answer = sets ans 0 (sizesOf size) }
 translateFills (Translated.Refused refusal) ans = record { code = translation.numberOf refusal; answer = set ans 0 (translation.placeOf refusal) }
 
 -- what checking a proof gives: steps closed and hints read; 254, no number of document 01, where the buffers do not hold what is asked
 abbrev pub proveFills : proved.Checked → List ℕ → Reply
-proveFills (Accepted steps hints) ans = record { code = 0; answer = filled ans 0 (steps ∷ hints ∷ []) }
+proveFills (Accepted steps hints) ans = record { code = 0; answer = sets ans 0 (steps ∷ hints ∷ []) }
 proveFills (Refused refusal) ans = record { code = proof.numberOf refusal; answer = set ans 0 (proof.placeOf refusal) }
 proveFills Unfit ans = record { code = 254; answer = ans }
 
 -- what judging a report gives
 abbrev pub judgeFills : Judged → List ℕ → Reply
 judgeFills (Judged.Accepted access side array size index steps hints) ans =
-    record { code = 0; answer = filled ans 0 (judgedOf access side array size index steps hints) }
+    record { code = 0; answer = sets ans 0 (judgedOf access side array size index steps hints) }
 judgeFills (Judged.Refused refusal) ans = record { code = proving.numberOf refusal; answer = set ans 0 (proving.placeOf refusal) }
 
 -- what comparing two reports gives: 1 for alike

@@ -1,0 +1,42 @@
+-- Answers as entries of the lent `answer`, in their order.
+use Prim.Native.Nat.{ℕ}
+use mathlib.Core.List.{List, [], _∷_}
+use mathlib.Core.Bool.{Bool, cond}
+use Rattle.bitvec.specs.declared.Whole.{Whole}
+use Rattle.header.specs.Header.{firstCommand}
+use Rattle.header.specs.declared.Header.{Header}
+use Rattle.command.specs.Step.{accesses}
+use Rattle.command.specs.declared.Counts.{Counts}
+use Rattle.machine.specs.Side.{sideNumber}
+use Rattle.machine.specs.declared.Side.{Side}
+use Rattle.translation.specs.declared.Size.{Size}
+
+-- 1 if a whole number is negative
+abbrev pub isNegative : Whole → ℕ
+isNegative (Whole.Natural n) = 0
+isNegative (Whole.Negative n) = 1
+
+-- its magnitude
+abbrev pub magnitude : Whole → ℕ
+magnitude (Whole.Natural n) = n
+magnitude (Whole.Negative n) = n
+
+-- variables, parameters, arrays, ifs, accesses, reads, offset of the first command
+abbrev pub countsOf : Header → Counts → List ℕ
+countsOf h k = h .variables ∷ h .parameters ∷ h .arrays ∷ k .ifs ∷ accesses k ∷ k .reads ∷ firstCommand h ∷ []
+
+-- stopped: 1, access, side, 1 if the index is negative, its magnitude
+abbrev pub stoppedOf : (access : ℕ) → Whole → Side → List ℕ
+stoppedOf access index side = 1 ∷ access ∷ sideNumber side ∷ isNegative index ∷ magnitude index ∷ []
+
+-- clauses, words, variables
+abbrev pub sizesOf : Size → List ℕ
+sizesOf size = size .clauses ∷ size .words ∷ size .variables ∷ []
+
+-- access, side, array, size, 1 if the index is negative, its magnitude, steps, hints
+abbrev pub judgedOf : (access side array size : ℕ) → Whole → (steps hints : ℕ) → List ℕ
+judgedOf access side array size index steps hints = access ∷ side ∷ array ∷ size ∷ isNegative index ∷ magnitude index ∷ steps ∷ hints ∷ []
+
+-- 1 for yes
+abbrev pub answerNumber : Bool → ℕ
+answerNumber b = cond b 1 0
