@@ -1,7 +1,7 @@
 // The commands of a proof in the report.
 use crate::Command;
 use slices::byte_at;
-use slices::word_at;
+use slices::whole_word_at;
 ghost use mathlib.Core.Path.{_≡_};
 ghost use Rattle.step.specs.Command.{commandAt};
 
@@ -23,8 +23,8 @@ pub fn read_command(report: &[u8], at: usize) -> Command
         return Command::Unreadable;
     }
     match kind {
-        1 => Command::Literal(word_at(report, at + 1)),
-        2 => Command::Hint(word_at(report, at + 1)),
+        1 => Command::Literal(whole_word_at(report, at + 1)),
+        2 => Command::Hint(whole_word_at(report, at + 1)),
         _ => Command::Unreadable,
     }
 }

@@ -28,27 +28,27 @@ returns-4 c =
     let a = c .before .before .before .before .before .before .args in
     read-cut (a .report .now) (a .at) (c .before .before .before .before .if1 .left) (c .before .before .before .byte-at .result) (c .before .before .before .byte-at .ensures) (c .before .before .if2 .left) (c .before .if3 .left) (omega arith)
 
-add-word-at : tie.Need-add-word-at
-add-word-at c = search needs
+add-whole-word-at : tie.Need-add-whole-word-at
+add-whole-word-at c = search needs
 
-word-at-requires : tie.Need-word-at-requires
-word-at-requires c κs = search needs
+whole-word-at-requires : tie.Need-whole-word-at-requires
+whole-word-at-requires c κs = search needs
 
-add-word-at-2 : tie.Need-add-word-at-2
-add-word-at-2 c = search needs
+add-whole-word-at-2 : tie.Need-add-whole-word-at-2
+add-whole-word-at-2 c = search needs
 
-word-at-requires-2 : tie.Need-word-at-requires-2
-word-at-requires-2 c κs = search needs
+whole-word-at-requires-2 : tie.Need-whole-word-at-requires-2
+whole-word-at-requires-2 c κs = search needs
 
 returns-5 : tie.Need-returns-5
 returns-5 c =
     let a = c .before .before .before .before .before .before .before .before .args in
-    read-literal (a .report .now) (a .at) (c .before .before .before .before .before .before .if1 .left) (c .before .before .before .before .before .byte-at .result) (c .before .before .before .before .before .byte-at .ensures) (omega arith) (c .before .match .keys1) (c .word-at .result) (c .word-at .ensures)
+    read-literal (a .report .now) (a .at) (c .before .before .before .before .before .before .if1 .left) (c .before .before .before .before .before .byte-at .result) (c .before .before .before .before .before .byte-at .ensures) (omega arith) (c .before .match .keys1) (c .whole-word-at .result) (c .whole-word-at .ensures)
 
 returns-6 : tie.Need-returns-6
 returns-6 c =
     let a = c .before .before .before .before .before .before .before .before .args in
-    read-hint (a .report .now) (a .at) (c .before .before .before .before .before .before .if1 .left) (c .before .before .before .before .before .byte-at .result) (c .before .before .before .before .before .byte-at .ensures) (omega arith) (c .before .match .keys2) (c .word-at2 .result) (c .word-at2 .ensures)
+    read-hint (a .report .now) (a .at) (c .before .before .before .before .before .before .if1 .left) (c .before .before .before .before .before .byte-at .result) (c .before .before .before .before .before .byte-at .ensures) (omega arith) (c .before .match .keys2) (c .whole-word-at2 .result) (c .whole-word-at2 .ensures)
 
 returns-7 : tie.Need-returns-7
 returns-7 c =
@@ -65,10 +65,10 @@ read-command-spec =
     returns-3
     sub-if4
     returns-4
-    add-word-at
-    word-at-requires
-    add-word-at-2
-    word-at-requires-2
+    add-whole-word-at
+    whole-word-at-requires
+    add-whole-word-at-2
+    whole-word-at-requires-2
     returns-5
     returns-6
     returns-7)
