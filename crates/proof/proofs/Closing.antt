@@ -6,9 +6,8 @@ use mathlib.Core.Bool.{true, false}
 use mathlib.Core.Logic.{inl, inr}
 use native.Mathlib.Omega.{arith}
 use native.Mathlib.Numerals.{add-one}
-use native.Mathlib.Nat.{add-zero}
 use lib.ListN.{length, getD, set, replicate, length-set, length-append, length-replicate}
-use lib.Seq.{slice, slice-empty, getD-set-same, getD-set-other}
+use lib.Seq.{slice, getD-set-same, getD-set-other}
 use lib.Dec.{leb, ltb}
 use borrow.Author.Tests.{lt-ltb, le-ltb, le-leb, lt-leb}
 use Rattle.clauses.specs.Clause.{Clause, flatten}
@@ -26,7 +25,7 @@ use Rattle.step.specs.declared.Phase.{Phase}
 use Rattle.step.specs.declared.Progress.{Progress}
 use Rattle.step.specs.declared.Refusal.{Refusal}
 use Rattle.step.specs.declared.Turn.{Turn}
-use Rattle.proof.proofs.Storing.{slice-after, clause-kept, word-at-kept, own-length, taken, zeros-undecided}
+use Rattle.proof.proofs.Storing.{slice-after, clause-kept, word-at-kept, own-length, taken, no-literals, zeros-undecided}
 use Rattle.proof.proofs.Stopping.{stopped, conflict-goes}
 use Rattle.proof.proofs.Writing.{words-close, starts-close}
 
@@ -118,7 +117,7 @@ module _ (w s m : List ℕ) (p : Progress) (h : Held w s m p) (room : p .used + 
 
   -- no literal of the next step stands yet
   none : slice (p .used + 1 + p .literals + 1) (p .used + 1 + p .literals + 1 + 0) w′ ≡ []
-  none = rw (add-zero, slice-empty (p .used + 1 + p .literals + 1) w′) refl
+  none = no-literals (p .used + 1 + p .literals + 1) w′
 
   written-close : (m′ : List ℕ) (phase : Phase) (w₀ s₀ : List ℕ) → Written w₀ s₀ w s (stateOf w s m p) → Written w₀ s₀ w′ s′ (stateOf w′ s′ m′ (withClose p phase))
   written-close m′ phase w₀ s₀ x =
@@ -141,6 +140,7 @@ module _ (w s m : List ℕ) (p : Progress) (h : Held w s m p) (room : p .used + 
         stepped = omega (arith, h .stepped);
         hinted = omega (arith, h .hinted);
         walked = omega arith;
+        noted = omega arith;
       }
 
   pub did-close : (m′ : List ℕ) (phase : Phase) (t : Turn) → t ≡ Turn.More (withClose p phase) → conflicted (p .phase) ≡ true → m′ ≡ replicate (length m) 0 → phase ≡ phaseAfter (p .literals)

@@ -47,8 +47,8 @@ module _ (w s m : List ℕ) (p : Progress) (i : ℕ) (h : Held w s m p) (goes : 
       takes-hint (stateOf w s m p) i goes (rw clauses-length k) before
       ∙ ap (λ (c : Clause). afterHint (stateOf w s m p) (hintOf m c)) (clauses-at w s (p .count) i k)
 
-  held-hint : (m′ : List ℕ) (phase : Phase) → inLiterals phase ≡ false → length m′ ≡ length m → Held w s m′ (withHint p phase)
-  held-hint m′ phase o e =
+  held-hint : (m′ : List ℕ) (phase : Phase) (d : ℕ) → inLiterals phase ≡ false → length m′ ≡ length m → d ≤ p .decided + 1 → Held w s m′ (withHint p phase d)
+  held-hint m′ phase d o e few =
       record {
         store = rw e (h .store);
         marked = rw e (h .marked);
@@ -60,27 +60,28 @@ module _ (w s m : List ℕ) (p : Progress) (i : ℕ) (h : Held w s m p) (goes : 
         stepped = omega (arith, h .stepped);
         hinted = omega (arith, h .hinted);
         walked = omega (arith, h .walked);
+        noted = omega (arith, h .noted);
       }
 
   -- a hint writes no word
-  written-hint : (m′ : List ℕ) (phase : Phase) (w₀ s₀ : List ℕ) → Written w₀ s₀ w s (stateOf w s m p) → Written w₀ s₀ w s (stateOf w s m′ (withHint p phase))
-  written-hint m′ phase w₀ s₀ x = record { words = x .words; starts = x .starts }
+  written-hint : (m′ : List ℕ) (phase : Phase) (d : ℕ) (w₀ s₀ : List ℕ) → Written w₀ s₀ w s (stateOf w s m p) → Written w₀ s₀ w s (stateOf w s m′ (withHint p phase d))
+  written-hint m′ phase d w₀ s₀ x = record { words = x .words; starts = x .starts }
 
-  pub did-conflict : t ≡ Turn.More (withHint p Phase.Conflict) → hintOf m (clauseAt w s i) ≡ Hint.Conflict → Did w s m p w s m (p .commands + 1) t (onHint (stateOf w s m p) i)
+  pub did-conflict : t ≡ Turn.More (withHint p Phase.Conflict (p .decided)) → hintOf m (clauseAt w s i) ≡ Hint.Conflict → Did w s m p w s m (p .commands + 1) t (onHint (stateOf w s m p) i)
   unfolding afterHint
   did-conflict q e =
       rw q (record {
         same = sym (hint-is ∙ ap (afterHint (stateOf w s m p)) e);
-        kept = (held-hint m Phase.Conflict refl refl, refl, written-hint m Phase.Conflict);
+        kept = (held-hint m Phase.Conflict (p .decided) refl refl (omega arith), refl, written-hint m Phase.Conflict (p .decided));
       })
 
-  pub did-unit : (l : ℕ) → t ≡ Turn.More (withHint p Phase.Hints) → hintOf m (clauseAt w s i) ≡ Hint.Unit l
+  pub did-unit : (l : ℕ) → t ≡ Turn.More (withHint p Phase.Hints (p .decided + 1)) → hintOf m (clauseAt w s i) ≡ Hint.Unit l
       → Did w s m p w s (set m (l / 2) (trueMark l)) (p .commands + 1) t (onHint (stateOf w s m p) i)
   unfolding afterHint
   did-unit l q e =
       rw q (record {
         same = sym (hint-is ∙ ap (afterHint (stateOf w s m p)) e);
-        kept = (held-hint (set m (l / 2) (trueMark l)) Phase.Hints refl (length-set m (l / 2) (trueMark l)), refl, written-hint (set m (l / 2) (trueMark l)) Phase.Hints);
+        kept = (held-hint (set m (l / 2) (trueMark l)) Phase.Hints (p .decided + 1) refl (length-set m (l / 2) (trueMark l)) (omega arith), refl, written-hint (set m (l / 2) (trueMark l)) Phase.Hints (p .decided + 1));
       })
 
   pub did-neither : t ≡ refusedBy (Refusal.Neither (p .at)) → hintOf m (clauseAt w s i) ≡ Hint.Neither → Did w s m p w s m (p .commands + 1) t (onHint (stateOf w s m p) i)

@@ -7,6 +7,7 @@ mod Bench
 mod Storing
 mod Stopping
 mod Writing
+mod Trailing
 mod Taking
 mod Ending
 mod Hinting

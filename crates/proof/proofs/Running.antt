@@ -4,9 +4,8 @@ use mathlib.Core.Path.{_≡_, refl, sym, ap, subst, _∙_}
 use mathlib.Core.List.{List, []}
 use mathlib.Core.Logic.{inl}
 use native.Mathlib.Omega.{arith}
-use native.Mathlib.Nat.{add-zero}
 use lib.ListN.{length, replicate}
-use lib.Seq.{slice, slice-empty}
+use lib.Seq.{slice}
 use Rattle.propagation.specs.Marks.{undecided}
 use Rattle.propagation.specs.Stored.{clausesOf}
 use Rattle.propagation.specs.Clear.{clear}
@@ -20,12 +19,13 @@ use Rattle.step.specs.declared.Phase.{Phase}
 use Rattle.step.specs.declared.Progress.{Progress}
 use Rattle.step.specs.declared.Turn.{Turn}
 use Rattle.step.specs.declared.Verdict.{Verdict}
-use Rattle.proof.proofs.Storing.{zeros-undecided}
+use Rattle.proof.proofs.Storing.{no-literals, zeros-undecided}
+use Rattle.proof.proofs.Trailing.{trailed-start}
 use Rattle.proof.proofs.Soundness.{sound}
 
 -- from where the check stands, the rest of the run gives the outcome; w₀ and s₀ are the buffers at the beginning
-pub record Going (L : Limits) (o : Outcome) (w₀ s₀ w s m r : List ℕ) (p : Progress) : Type 0 where
-  pub ready : Ready w s m r p
+pub record Going (L : Limits) (o : Outcome) (w₀ s₀ w s m t r : List ℕ) (p : Progress) : Type 0 where
+  pub ready : Ready w s m t r p
   pub written : Written w₀ s₀ w s (stateOf w s m p)
   pub limits : limitsOf w s m ≡ L
   pub fuel : ℕ
@@ -44,10 +44,10 @@ unfolding run
 stop-turn zero L o r s v n h e q = absurd (omega arith)
 stop-turn (suc f) L o r s v n h e q = ap (follow (λ u. run f L r u) s) q ∙ e
 
-module _ (L : Limits) (o : Outcome) (w₀ s₀ w s m r : List ℕ) (p : Progress) (g : Going L o w₀ s₀ w s m r p) (w′ s′ m′ : List ℕ) (x : Turn)
-    (d : Done w s m p w′ s′ m′ r x (step (limitsOf w s m) r (stateOf w s m p))) where
-  after : (y : Turn) → x ≡ y → ReadyAfter w s m p w′ s′ m′ r y
-  after y e = subst (ReadyAfter w s m p w′ s′ m′ r) e (d .ready)
+module _ (L : Limits) (o : Outcome) (w₀ s₀ w s m t r : List ℕ) (p : Progress) (g : Going L o w₀ s₀ w s m t r p) (w′ s′ m′ t′ : List ℕ) (x : Turn)
+    (d : Done w s m p w′ s′ m′ t′ r x (step (limitsOf w s m) r (stateOf w s m p))) where
+  after : (y : Turn) → x ≡ y → ReadyAfter w s m p w′ s′ m′ t′ r y
+  after y e = subst (ReadyAfter w s m p w′ s′ m′ t′ r) e (d .ready)
 
   turn-is : (y : Turn) → x ≡ y → nextIs w′ s′ m′ y ≡ step L r (stateOf w s m p)
   turn-is y e = ap (nextIs w′ s′ m′) (sym e) ∙ d .same ∙ ap (λ (l : Limits). step l r (stateOf w s m p)) (g .limits)
@@ -55,17 +55,17 @@ module _ (L : Limits) (o : Outcome) (w₀ s₀ w s m r : List ℕ) (p : Progress
   pub going-less : (q : Progress) → x ≡ Turn.More q → length r - q .at < length r - p .at
   going-less q e = let y = after (Turn.More q) e in omega (arith, y .1, y .0 .within)
 
-  pub going-more : (q : Progress) → x ≡ Turn.More q → length w′ ≡ length w → length s′ ≡ length s → length m′ ≡ length m → Going L o w₀ s₀ w′ s′ m′ r q
+  pub going-more : (q : Progress) → x ≡ Turn.More q → length w′ ≡ length w → length s′ ≡ length s → length m′ ≡ length m → Going L o w₀ s₀ w′ s′ m′ t′ r q
   going-more q e lw ls lm =
       let y = after (Turn.More q) e in
-      let t = more-turn (g .fuel) L o r (stateOf w s m p) (stateOf w′ s′ m′ q) (length r - p .at) (g .enough) (g .rest) (turn-is (Turn.More q) e) in
+      let z = more-turn (g .fuel) L o r (stateOf w s m p) (stateOf w′ s′ m′ q) (length r - p .at) (g .enough) (g .rest) (turn-is (Turn.More q) e) in
       record {
         ready = y .0;
         written = y .2 w₀ s₀ (g .written);
         limits = (λ i. record { variables = lm i - 1; words = lw i; starts = ls i }) ∙ g .limits;
-        fuel = t .0;
-        enough = omega (arith, t .1, g .enough, y .1, y .0 .within);
-        rest = t .2;
+        fuel = z .0;
+        enough = omega (arith, z .1, g .enough, y .1, y .0 .within);
+        rest = z .2;
       }
 
   -- the verdict, and the buffers
@@ -78,13 +78,13 @@ module _ (L : Limits) (o : Outcome) (w₀ s₀ w s m r : List ℕ) (p : Progress
 -- ---- the beginning
 
 abbrev pub starting : ℕ → ℕ → ℕ → Progress
-starting from count used = record { at = from; used = used; count = count; literals = 0; commands = 0; phase = Phase.Literals; steps = 0; hints = 0 }
+starting from count used = record { at = from; used = used; count = count; literals = 0; commands = 0; decided = 0; phase = Phase.Literals; steps = 0; hints = 0 }
 
-module _ (w s m r : List ℕ) (from count used : ℕ) (b : Begins w s m r from count used) where
+module _ (w s m t r : List ℕ) (from count used : ℕ) (b : Begins w s m r from count used) where
   none : slice (used + 1) (used + 1 + 0) w ≡ []
-  none = rw (add-zero, slice-empty (used + 1) w) refl
+  none = no-literals (used + 1) w
 
-  ready-start : Ready w s m r (starting from count used)
+  ready-start : Ready w s m t r (starting from count used)
   unfolding Clean touched clear
   ready-start =
       record {
@@ -99,13 +99,15 @@ module _ (w s m r : List ℕ) (from count used : ℕ) (b : Begins w s m r from c
           stepped = omega arith;
           hinted = omega arith;
           walked = omega arith;
+          noted = omega arith;
         };
         clean = b .unset;
+        trailed = trailed-start w m t (starting from count used) refl refl (b .unset);
         within = b .within;
         limit = b .limit;
       }
 
-  pub going-start : Going (limitsOf w s m) (checkProof (clausesOf w s count) (limitsOf w s m) r from) w s w s m r (starting from count used)
+  pub going-start : Going (limitsOf w s m) (checkProof (clausesOf w s count) (limitsOf w s m) r from) w s w s m t r (starting from count used)
   unfolding checkProof
   going-start =
       let mk : length m - 1 + 1 ≡ length m = omega (arith, b .marked) in

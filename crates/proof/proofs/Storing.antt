@@ -1,6 +1,6 @@
 -- The store: what a word stored past the clauses leaves as it was. Assumes nothing.
 use Prim.Native.Nat.{ℕ, _+_, _/_, _<_, _≤_}
-use mathlib.Core.Path.{_≡_, refl, ap, _∙_}
+use mathlib.Core.Path.{_≡_, refl, ap, subst, _∙_}
 use mathlib.Core.List.{List, [], _∷_, _++_}
 use mathlib.Core.Logic.{inl, inr}
 use native.Mathlib.Omega.{arith}
@@ -71,10 +71,20 @@ module _ (w s : List ℕ) (n count used : ℕ) (t : Store w s n count used) wher
 
 -- ---- the step's literals
 
+-- before the first
+pub no-literals : (f : ℕ) (w : List ℕ) → slice f (f + 0) w ≡ []
+no-literals f w = rw (add-zero, slice-empty f w) refl
+
+-- with one more
+pub one-literal-more : (w : List ℕ) (f n l : ℕ) → f + n < length w → slice f (f + (n + 1)) (set w (f + n) l) ≡ slice f (f + n) w ++ (l ∷ [])
+one-literal-more w f n l room =
+    let next : f + n + 1 ≡ f + (n + 1) = omega arith in
+    subst (λ (k : ℕ). slice f k (set w (f + n) l) ≡ slice f (f + n) w ++ (l ∷ [])) next (slice-snoc w f (f + n) l (omega arith) room)
+
 pub own-length : (w s m : List ℕ) (p : Progress) → Held w s m p → length (literalsOf w p) ≡ p .literals
 own-length w s m p h =
     elim (h .own) [
-      | inl e ↦ rw (e, add-zero, slice-empty (p .used + 1) w) refl
+      | inl e ↦ rw (e, no-literals (p .used + 1) w) refl
       | inr k ↦ length-slice (p .used + 1) (p .used + 1 + p .literals) w k ∙ omega arith
     ]
 

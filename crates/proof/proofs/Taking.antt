@@ -23,7 +23,7 @@ use Rattle.step.specs.declared.Phase.{Phase}
 use Rattle.step.specs.declared.Progress.{Progress}
 use Rattle.step.specs.declared.Refusal.{Refusal}
 use Rattle.step.specs.declared.Turn.{Turn}
-use Rattle.proof.proofs.Storing.{slice-snoc, clauses-kept, store-kept, taken, literals-more}
+use Rattle.proof.proofs.Storing.{one-literal-more, clauses-kept, store-kept, taken, literals-more}
 use Rattle.proof.proofs.Stopping.{stopped, literals-go}
 use Rattle.proof.proofs.Writing.{words-literal}
 
@@ -94,9 +94,7 @@ module _ (w s m : List ℕ) (p : Progress) (l : ℕ) (h : Held w s m p) where
     next = omega arith
 
     literals-are : slice (p .used + 1) (p .used + 1 + (p .literals + 1)) (set w (p .used + 1 + p .literals) l) ≡ literalsOf w p ++ (l ∷ [])
-    literals-are =
-        subst (λ (k : ℕ). slice (p .used + 1) k (set w (p .used + 1 + p .literals) l) ≡ literalsOf w p ++ (l ∷ [])) next
-        (slice-snoc w (p .used + 1) (p .used + 1 + p .literals) l (omega arith) room)
+    literals-are = one-literal-more w (p .used + 1) (p .literals) l room
 
     held-literal : Held (set w (p .used + 1 + p .literals) l) s (set m (l / 2) (falseMark l)) (withLiteral p)
     held-literal =
@@ -111,6 +109,7 @@ module _ (w s m : List ℕ) (p : Progress) (l : ℕ) (h : Held w s m p) where
           stepped = omega (arith, h .stepped);
           hinted = omega (arith, h .hinted);
           walked = omega (arith, h .walked);
+          noted = omega (arith, h .noted);
         }
 
     written-literal : (w₀ s₀ : List ℕ) → Written w₀ s₀ w s (stateOf w s m p) → Written w₀ s₀ (set w (p .used + 1 + p .literals) l) s (stateOf (set w (p .used + 1 + p .literals) l) s (set m (l / 2) (falseMark l)) (withLiteral p))

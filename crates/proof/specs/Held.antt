@@ -4,8 +4,9 @@ use mathlib.Core.Path.{_≡_}
 use mathlib.Core.List.{List}
 use mathlib.Core.Bool.{true}
 use mathlib.Core.Logic.{_⊎_}
-use lib.ListN.{length}
+use lib.ListN.{length, replicate}
 use lib.Seq.{slice}
+use Rattle.propagation.specs.Clear.{clear}
 use Rattle.propagation.specs.Marks.{undecided}
 use Rattle.propagation.specs.Stored.{LiteralsIn, clausesOf}
 use Rattle.step.specs.Phase.{inLiterals}
@@ -46,6 +47,16 @@ pub record Held (words starts marks : List ℕ) (p : Progress) : Type 0 where
   pub stepped : p .steps ≤ p .at
   pub hinted : p .hints ≤ p .at
   pub walked : p .commands * 5 ≤ p .at
+  pub noted : p .decided ≤ p .at
+
+-- where the trail had room for every literal that the step's hints made true, clearing these and the step's own leaves every variable undecided
+unfoldable pub Trailed : (words marks trail : List ℕ) → Progress → Type 0
+Trailed words marks trail p = p .decided ≤ length trail → clear (clear marks (slice 0 (p .decided) trail)) (literalsOf words p) ≡ replicate (length marks) 0
+
+-- so it is after a command that is gone on from
+abbrev pub TrailedAfter : (words marks trail : List ℕ) → Turn → Type 0
+TrailedAfter words marks trail (Turn.More q) = Trailed words marks trail q
+TrailedAfter words marks trail (Turn.Stop v) = Prim.Unit {0}
 
 -- words₀ and starts₀ became words₁ and starts₁ by what a state has, and by nothing else
 pub record Written (words₀ starts₀ words₁ starts₁ : List ℕ) (s : State) : Type 0 where
@@ -86,20 +97,22 @@ withLiteral p =
       count = p .count;
       literals = p .literals + 1;
       commands = p .commands + 1;
+      decided = p .decided;
       phase = Phase.Literals;
       steps = p .steps;
       hints = p .hints;
     }
 
 -- after a hint
-abbrev pub withHint : Progress → Phase → Progress
-withHint p phase =
+abbrev pub withHint : Progress → Phase → (decided : ℕ) → Progress
+withHint p phase decided =
     record {
       at = p .at + 5;
       used = p .used;
       count = p .count;
       literals = p .literals;
       commands = p .commands + 1;
+      decided = decided;
       phase = phase;
       steps = p .steps;
       hints = p .hints + 1;
@@ -114,25 +127,27 @@ withClose p phase =
       count = p .count + 1;
       literals = 0;
       commands = 0;
+      decided = 0;
       phase = phase;
       steps = p .steps + 1;
       hints = p .hints;
     }
 
 -- what the check has between two commands
-pub record Ready (words starts marks r : List ℕ) (p : Progress) : Type 0 where
+pub record Ready (words starts marks trail r : List ℕ) (p : Progress) : Type 0 where
   pub held : Held words starts marks p
   pub clean : Clean r (p .commands) (clausesOf words starts (p .count)) marks (p .at)
+  pub trailed : Trailed words marks trail p
   pub within : p .at ≤ length r
   pub limit : length r ≤ 16777216
 
 -- a command that is gone on from leaves this, further on in the report
-abbrev pub ReadyAfter : (words starts marks : List ℕ) → Progress → (words₁ starts₁ marks₁ r : List ℕ) → Turn → Type 0
-ReadyAfter words starts marks p words₁ starts₁ marks₁ r (Turn.More q) =
-    Ready words₁ starts₁ marks₁ r q × (p .at < q .at) × WrittenOn words starts marks p words₁ starts₁ marks₁ q
-ReadyAfter words starts marks p words₁ starts₁ marks₁ r (Turn.Stop v) = Unchanged words starts marks words₁ starts₁ marks₁
+abbrev pub ReadyAfter : (words starts marks : List ℕ) → Progress → (words₁ starts₁ marks₁ trail₁ r : List ℕ) → Turn → Type 0
+ReadyAfter words starts marks p words₁ starts₁ marks₁ trail₁ r (Turn.More q) =
+    Ready words₁ starts₁ marks₁ trail₁ r q × (p .at < q .at) × WrittenOn words starts marks p words₁ starts₁ marks₁ q
+ReadyAfter words starts marks p words₁ starts₁ marks₁ trail₁ r (Turn.Stop v) = Unchanged words starts marks words₁ starts₁ marks₁
 
 -- what one command did
-pub record Done (words starts marks : List ℕ) (p : Progress) (words₁ starts₁ marks₁ r : List ℕ) (t : Turn) (n : Next) : Type 0 where
+pub record Done (words starts marks : List ℕ) (p : Progress) (words₁ starts₁ marks₁ trail₁ r : List ℕ) (t : Turn) (n : Next) : Type 0 where
   pub same : nextIs words₁ starts₁ marks₁ t ≡ n
-  pub ready : ReadyAfter words starts marks p words₁ starts₁ marks₁ r t
+  pub ready : ReadyAfter words starts marks p words₁ starts₁ marks₁ trail₁ r t

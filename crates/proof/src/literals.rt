@@ -13,7 +13,7 @@ ghost use Prim.Native.Nat.{ℕ, _+_, _^_, _≤_, _<_};
 ghost use lib.ListN.{length};
 ghost use Rattle.proof.specs.Answer.{limitsOf};
 ghost use Rattle.proof.specs.Check.{onLiteral};
-ghost use Rattle.proof.specs.Held.{stateOf, Held, Did, withLiteral};
+ghost use Rattle.proof.specs.Held.{stateOf, Held, Did, Trailed, TrailedAfter, withLiteral};
 
 fn with_literal(p: Progress) -> Progress
     requires { ⌜ (p .at < 2 ^ 62) × (p .literals < 2 ^ 62) × (p .commands ≤ p .at) ⌝ }
@@ -25,6 +25,7 @@ fn with_literal(p: Progress) -> Progress
         count: p.count,
         literals: p.literals + 1,
         commands: p.commands + 1,
+        decided: p.decided,
         phase: Phase::Literals,
         steps: p.steps,
         hints: p.hints,
@@ -37,6 +38,7 @@ pub fn on_literal(words: &mut [u32], marks: &mut [u8], p: Progress, l: u32) -> T
     ensures { λ r. ⌜ ((s : List ℕ) → Held (now (words .entry)) s (now (marks .entry)) p →
         Did (now (words .entry)) s (now (marks .entry)) p (now (words .exit)) s (now (marks .exit)) (p .commands + 1) r
         (onLiteral (limitsOf (now (words .entry)) s (now (marks .entry))) (stateOf (now (words .entry)) s (now (marks .entry)) p) l)) ⌝ }
+    ensures { λ r. ⌜ ((t : List ℕ) → Trailed (now (words .entry)) (now (marks .entry)) t p → TrailedAfter (now (words .exit)) (now (marks .exit)) t r) ⌝ }
 {
     let at = p.at;
     let phase = p.phase;

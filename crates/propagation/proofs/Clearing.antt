@@ -66,3 +66,20 @@ pub clear-zeros : (n : ℕ) (c : List ℕ) → clear (replicate n 0) c ≡ repli
 unfolding clear
 clear-zeros n [] = refl
 clear-zeros n (l ∷ c) = ap (λ (x : List ℕ). clear x c) (set-zeros n (l / 2)) ∙ clear-zeros n c
+
+-- ---- one mark more: it is undone where its literal is cleared with the others, in the first part or in the second
+
+module _ (m : List ℕ) (l x : ℕ) (a b : List ℕ) (n : ℕ) (e : clear (clear m a) b ≡ replicate n 0) where
+  mark-undone : clear (clear (clear (set m (l / 2) x) a) (l ∷ [])) b ≡ replicate n 0
+  unfolding In
+  mark-undone =
+      ap (λ (z : List ℕ). clear z b) (clear-swap (set m (l / 2) x) a (l ∷ []) ∙ ap (λ (z : List ℕ). clear z a) (clear-marked m l x (l ∷ []) (inl refl)) ∙ clear-swap m (l ∷ []) a)
+      ∙ clear-swap (clear m a) (l ∷ []) b
+      ∙ ap (λ (z : List ℕ). clear z (l ∷ [])) e
+      ∙ clear-zeros n (l ∷ [])
+
+  pub mark-undone-first : clear (clear (set m (l / 2) x) (a ++ (l ∷ []))) b ≡ replicate n 0
+  mark-undone-first = ap (λ (z : List ℕ). clear z b) (clear-append (set m (l / 2) x) a (l ∷ [])) ∙ mark-undone
+
+  pub mark-undone-second : clear (clear (set m (l / 2) x) a) (b ++ (l ∷ [])) ≡ replicate n 0
+  mark-undone-second = clear-append (clear (set m (l / 2) x) a) b (l ∷ []) ∙ clear-swap (clear (set m (l / 2) x) a) b (l ∷ []) ∙ mark-undone

@@ -17,7 +17,7 @@ pub fn clear_literal(marks: &mut [u8], literal: u32)
 }
 
 // The literals from one offset up to another.
-fn clear_clause(words: &[u32], marks: &mut [u8], from: usize, to: usize)
+pub fn clear_clause(words: &[u32], marks: &mut [u8], from: usize, to: usize)
     requires { ⌜ (from ≤ to) × (to ≤ length (now words)) ⌝ }
     ensures { λ _. ⌜ now (marks .exit) ≡ clear (now (marks .entry)) (slice from to (now (words .entry))) ⌝ }
 {

@@ -29,13 +29,14 @@ pub enum Phase {
 }
 
 // Where the check stands: the offset of the next command; the words and the clauses of the store; the literals and the commands of the
-// step so far; its phase; the steps closed and the hints read.
+// step so far, and the literals that its hints made true; its phase; the steps closed and the hints read.
 pub struct Progress {
     pub at: usize,
     pub used: usize,
     pub count: usize,
     pub literals: usize,
     pub commands: usize,
+    pub decided: usize,
     pub phase: Phase,
     pub steps: usize,
     pub hints: usize,

@@ -18,15 +18,17 @@ enum-known-found-2 : tie.Need-enum-known-found-2
 enum-known-found-2 c = search needs
 
 on-hint-requires : tie.Need-on-hint-requires
-on-hint-requires c κs = search needs
+on-hint-requires c κs =
+    let z = c .before .before .before .before .before .before .before .before .before .before .before .before .before .pre in
+    (z .held, (z .trailed, omega (arith, z .within, z .limit)))
 
 enum-told : tie.Need-enum-told
 enum-told c = search needs
 
 on-close-requires : tie.Need-on-close-requires
 on-close-requires c κs =
-    let z = c .before .before .before .before .before .before .before .before .before .before .pre in
-    (z .held, (z .clean, omega (arith, z .within, z .limit)))
+    let z = c .before .before .before .before .before .before .before .before .before .before .before .before .pre in
+    (z .held, (z .clean, (z .trailed, omega (arith, z .within, z .limit))))
 
 enum-told-2 : tie.Need-enum-told-2
 enum-told-2 c = search needs
@@ -48,10 +50,11 @@ same-length-2 c = search needs
 
 returns : tie.Need-returns
 returns c =
-    let z = c .before .before .before .before .before .before .before .before .before .before .before .before .before .before .before in
+    let z = c .before .before .before .before .before .before .before .before .before .before .before .before .before .before .before .before in
     let a = z .args in
-    done-literal (a .words .now) (a .starts .now) (a .marks .now) (a .report .now) (a .p) (z .pre) (c .before .before .before .before .before .before .before .before .found .given .0 .0) (sym (c .before .before .before .before .before .before .before .before .before .before .read-command .ensures) ∙ c .before .before .before .before .before .before .before .before .found .given .1)
-    (c .before .before .before .before .on-literal .last .0) (c .before .before .before .before .on-literal .last .1 .0) (c .before .before .before .before .on-literal .result) (c .before .before .before .before .on-literal .ensures (a .starts .now) (z .pre .held))
+    let k = c .before .before .before .before .on-literal in
+    done-literal (a .words .now) (a .starts .now) (a .marks .now) (a .trail .now) (a .report .now) (a .p) (z .pre) (c .before .before .before .before .before .before .before .before .found .given .0 .0) (sym (c .before .before .before .before .before .before .before .before .before .before .read-command .ensures) ∙ c .before .before .before .before .before .before .before .before .found .given .1)
+    (k .last .0) (k .last .1 .0) (k .result) (k .ensures .0 (a .starts .now) (z .pre .held)) (k .ensures .1 (a .trail .now) (z .pre .trailed))
 
 same-length-3 : tie.Need-same-length-3
 same-length-3 c = search needs
@@ -62,15 +65,16 @@ same-length-4 c = search needs
 same-length-5 : tie.Need-same-length-5
 same-length-5 c = search needs
 
-returns-2 : tie.Need-returns-2
-returns-2 c =
-    let z = c .before .before .before .before .before .before .before .before .before .before .before .before .before .before in
-    let a = z .args in
-    done-hint (a .words .now) (a .starts .now) (a .marks .now) (a .report .now) (a .p) (z .pre) (c .before .before .before .before .before .before .before .found2 .given .0 .0) (sym (c .before .before .before .before .before .before .before .before .before .read-command .ensures) ∙ c .before .before .before .before .before .before .before .found2 .given .1)
-    (c .before .before .on-hint .last .1 .1 .0) (c .before .before .on-hint .result) (c .before .before .on-hint .ensures)
-
 same-length-6 : tie.Need-same-length-6
 same-length-6 c = search needs
+
+returns-2 : tie.Need-returns-2
+returns-2 c =
+    let z = c .before .before .before .before .before .before .before .before .before .before .before .before .before .before .before .before .before .before in
+    let a = z .args in
+    let k = c .before .before .before .before .on-hint in
+    done-hint (a .words .now) (a .starts .now) (a .marks .now) (a .trail .now) (a .report .now) (a .p) (z .pre) (c .before .before .before .before .before .before .before .before .before .before .found2 .given .0 .0) (sym (c .before .before .before .before .before .before .before .before .before .before .before .before .read-command .ensures) ∙ c .before .before .before .before .before .before .before .before .before .before .found2 .given .1)
+    (k .last .1 .1 .0) (k .last .1 .1 .1 .0) (k .result) (k .ensures .0) (k .ensures .1)
 
 same-length-7 : tie.Need-same-length-7
 same-length-7 c = search needs
@@ -78,24 +82,31 @@ same-length-7 c = search needs
 same-length-8 : tie.Need-same-length-8
 same-length-8 c = search needs
 
+same-length-9 : tie.Need-same-length-9
+same-length-9 c = search needs
+
+same-length-10 : tie.Need-same-length-10
+same-length-10 c = search needs
+
 returns-3 : tie.Need-returns-3
 returns-3 c =
-    let z = c .before .before .before .before .before .before .before .before .before .before .before .before .before .before .before .before .before in
+    let z = c .before .before .before .before .before .before .before .before .before .before .before .before .before .before .before .before .before .before .before in
     let a = z .args in
-    done-close (a .words .now) (a .starts .now) (a .marks .now) (a .report .now) (a .p) (z .pre) (sym (c .before .before .before .before .before .before .before .before .before .before .before .before .read-command .ensures) ∙ c .before .before .before .before .before .before .before .before .before .before .enum-told .given .1)
-    (c .before .before .before .before .before .before .on-close .last .0) (c .before .before .before .before .before .before .on-close .last .1 .0) (c .before .before .before .before .before .before .on-close .last .1 .1 .0) (c .before .before .before .before .before .before .on-close .result) (c .before .before .before .before .before .before .on-close .ensures)
+    let k = c .before .before .before .before .before .before .on-close in
+    done-close (a .words .now) (a .starts .now) (a .marks .now) (a .trail .now) (a .report .now) (a .p) (z .pre) (sym (c .before .before .before .before .before .before .before .before .before .before .before .before .before .read-command .ensures) ∙ c .before .before .before .before .before .before .before .before .before .before .before .enum-told .given .1)
+    (k .last .0) (k .last .1 .0) (k .last .1 .1 .0) (k .result) (k .ensures .0) (k .ensures .1)
 
 returns-4 : tie.Need-returns-4
 returns-4 c =
-    let z = c .before .before .before .before .before .before .before .before in
+    let z = c .before .before .before .before .before .before .before .before .before in
     let a = z .args in
-    done-end (a .words .now) (a .starts .now) (a .marks .now) (a .report .now) (a .p) (z .pre) (sym (c .before .before .before .read-command .ensures) ∙ c .before .enum-told2 .given .1) (c .on-end .result) (c .on-end .ensures (a .words .now) (a .starts .now) (a .marks .now))
+    done-end (a .words .now) (a .starts .now) (a .marks .now) (a .trail .now) (a .report .now) (a .p) (z .pre) (sym (c .before .before .before .read-command .ensures) ∙ c .before .enum-told2 .given .1) (c .on-end .result) (c .on-end .ensures (a .words .now) (a .starts .now) (a .marks .now))
 
 returns-5 : tie.Need-returns-5
 returns-5 c =
-    let z = c .before .before .before .before .before .before .before .before in
+    let z = c .before .before .before .before .before .before .before .before .before in
     let a = z .args in
-    done-unreadable (a .words .now) (a .starts .now) (a .marks .now) (a .report .now) (a .p) (z .pre) (sym (c .before .before .before .read-command .ensures) ∙ c .before .enum-told3 .given .1) (c .refused .result) (c .refused .ensures)
+    done-unreadable (a .words .now) (a .starts .now) (a .marks .now) (a .trail .now) (a .report .now) (a .p) (z .pre) (sym (c .before .before .before .read-command .ensures) ∙ c .before .enum-told3 .given .1) (c .refused .result) (c .refused .ensures)
 
 pub turn-spec : {M : Type 1} → statement M
 turn-spec =
@@ -118,10 +129,12 @@ turn-spec =
     same-length-3
     same-length-4
     same-length-5
-    returns-2
     same-length-6
+    returns-2
     same-length-7
     same-length-8
+    same-length-9
+    same-length-10
     returns-3
     returns-4
     returns-5)
