@@ -20,6 +20,7 @@ use Rattle.netlist.proofs.Emitting.{emitted-then}
 use Rattle.netlist.proofs.Formed.{before-later, before-opp, before-pos, formed-append}
 use Rattle.netlist.proofs.Literals.{lit-false, lit-opp, lit-pos, lit-true}
 use Rattle.netlist.proofs.Model.{Before, WellFormed}
+use Rattle.netlist.proofs.Nodes.{Sized, maj-sized, none-sized, sized-then, xor-sized}
 use Rattle.netlist.proofs.Truth.{Models, models-append}
 use Rattle.netlist.specs.Emit.{Emitted}
 use Rattle.netlist.specs.Literal.{opp}
@@ -32,6 +33,16 @@ pub length-adder : (g : ℕ) (a b : Bits) (c w : ℕ) → length (adder g a b c 
 unfolding adder
 length-adder g a b c zero = refl
 length-adder g a b c (suc j) = simp length-append (omega (arith, length-adder g a b c j))
+
+-- a place takes 3 nodes, 14 clauses and 56 words
+place-sized : (g a b c : ℕ) → Sized (fullAdder g a b c) 3 14 56
+place-sized g a b c = sized-then (xor-sized a b) (sized-then (xor-sized (2 * g) c) (maj-sized a b c) refl refl refl) refl refl refl
+
+pub adder-sized : (g : ℕ) (a b : Bits) (c w : ℕ) → Sized (adder g a b c w) (3 * w) (14 * w) (56 * w)
+unfolding adder
+adder-sized g a b c zero = none-sized
+adder-sized g a b c (suc j) =
+    sized-then (adder-sized g a b c j) (place-sized (g + 3 * j) (a j) (b j) (carryAt g c j)) (omega arith) (omega arith) (omega arith)
 
 pub adder-cong : (g : ℕ) (a b a′ b′ : Bits) (c w : ℕ) → ((j : ℕ) → j < w → a j ≡ a′ j) → ((j : ℕ) → j < w → b j ≡ b′ j)
     → adder g a b c w ≡ adder g a′ b′ c w

@@ -1,15 +1,32 @@
 // Addition and subtraction.
+use clauses::counts;
+use clauses::fits;
 use netlist::Net;
+use netlist::counted;
+use netlist::roomy;
 ghost use mathlib.Core.Path.{_≡_};
 ghost use Prim.Native.Nat.{_*_, _^_, _≤_};
 ghost use lib.ListN.{length};
 ghost use Rattle.adders.specs.Adder.{adder, fullAdder, oppBits, subtractor, sumBit};
 ghost use Rattle.bits.specs.Bits.{litAt, tabulate};
 ghost use Rattle.bits.specs.Extend.{extend};
-ghost use Rattle.netlist.specs.Emit.{Emitted, Ready};
+ghost use Rattle.clauses.specs.Clause.{Lent};
+ghost use Rattle.netlist.specs.Emit.{Counted, Emitted, Ready};
 
-// One place of a sum: the half sum, the sum, the carry.
-fn full_adder(words: &mut [u32], starts: &mut [u32], n: Net, a: u32, b: u32, c: u32) -> Net
+// One place of a sum, for whose clauses the buffers have room: the half sum, the sum, the carry.
+fn full_adder_roomy(words: &mut [u32], starts: &mut [u32], n: Net, a: u32, b: u32, c: u32) -> Net
+    requires { ⌜ Ready n 3 ⌝ }
+    requires { ⌜ Lent (length (now words)) (length (now starts)) (n .store) 14 ⌝ }
+    ensures { λ r. ⌜ Emitted (now (words .entry)) (now (starts .entry)) n (fullAdder (n .next) a b c) (now (words .exit)) (now (starts .exit)) r ⌝ }
+{
+    let h = 2 * n.next;
+    let n1 = roomy::xor_gate(words, starts, n, a, b);
+    let n2 = roomy::xor_gate(words, starts, n1, h, c);
+    roomy::maj_gate(words, starts, n2, a, b, c)
+}
+
+// The same where the buffers may end within its clauses.
+fn full_adder_tight(words: &mut [u32], starts: &mut [u32], n: Net, a: u32, b: u32, c: u32) -> Net
     requires { ⌜ Ready n 3 ⌝ }
     ensures { λ r. ⌜ Emitted (now (words .entry)) (now (starts .entry)) n (fullAdder (n .next) a b c) (now (words .exit)) (now (starts .exit)) r ⌝ }
 {
@@ -19,12 +36,36 @@ fn full_adder(words: &mut [u32], starts: &mut [u32], n: Net, a: u32, b: u32, c: 
     netlist::maj_gate(words, starts, n2, a, b, c)
 }
 
+// One place of a sum.
+fn full_adder(words: &mut [u32], starts: &mut [u32], n: Net, a: u32, b: u32, c: u32) -> Net
+    requires { ⌜ Ready n 3 ⌝ }
+    ensures { λ r. ⌜ Emitted (now (words .entry)) (now (starts .entry)) n (fullAdder (n .next) a b c) (now (words .exit)) (now (starts .exit)) r ⌝ }
+{
+    let s = n.store;
+    if fits(words.len(), starts.len(), s, 14) {
+        return full_adder_roomy(words, starts, n, a, b, c);
+    }
+    full_adder_tight(words, starts, n, a, b, c)
+}
+
+// The state after a sum of w places that is only counted.
+pub fn count_sum(n: Net, w: usize) -> Net
+    requires { ⌜ Ready n (3 * w) ⌝ }
+    ensures { λ r. ⌜ Counted n (3 * w) (14 * w) (56 * w) r ⌝ }
+{
+    let places = w as u32;
+    counted(n, 3 * places, 14 * places, 56 * places)
+}
+
 // The sum of two numbers of one width and a carry.
 pub fn add(words: &mut [u32], starts: &mut [u32], n: Net, a: &[u32], b: &[u32], c: u32) -> Net
     requires { ⌜ Ready n (3 * length (now a)) ⌝ }
     requires { ⌜ length (now b) ≡ length (now a) ⌝ }
     ensures { λ r. ⌜ Emitted (now (words .entry)) (now (starts .entry)) n (adder (n .next) (litAt (now (a .entry))) (litAt (now (b .entry))) c (length (now (a .entry)))) (now (words .exit)) (now (starts .exit)) r ⌝ }
 {
+    if counts(words.len(), starts.len()) {
+        return count_sum(n, a.len());
+    }
     let mut net = n;
     let mut carry = c;
     let mut j = 0;
@@ -57,6 +98,9 @@ pub fn subtract(words: &mut [u32], starts: &mut [u32], n: Net, a: &[u32], b: &[u
     requires { ⌜ length (now a) ≤ 32 ⌝ }
     ensures { λ r. ⌜ Emitted (now (words .entry)) (now (starts .entry)) n (subtractor (n .next) (litAt (now (a .entry))) (litAt (now (b .entry))) (length (now (a .entry)))) (now (words .exit)) (now (starts .exit)) r ⌝ }
 {
+    if counts(words.len(), starts.len()) {
+        return count_sum(n, a.len());
+    }
     let nb = opposites(b);
     let w = b.len();
     add(words, starts, n, a, &nb[..w], 2)

@@ -2,8 +2,8 @@
 use mathlib.Core.Bool.{Bool, _&&_, cond, false, true}
 use mathlib.Core.List.{List, [], _++_, _∷_}
 use mathlib.Core.Path.{_∙_, _≡_, ap, ap₂, refl, subst, sym}
-use Prim.Native.Nat.{_%_, _*_, _+_, _-_, _<_, _^_, _≤_, suc, zero, ℕ}
-use native.Mathlib.Nat.{add-assoc, add-mul, add-mul-mod-self-right, add-suc, add-zero, mod-add-mod, mod-eq-of-lt, le-refl, mod-mod, mul-add, mul-assoc, mul-comm, mul-suc, mul-zero, one-mul, zero-mul}
+use Prim.Native.Nat.{_%_, _*_, _+_, _-_, _/_, _<_, _^_, _≤_, suc, zero, ℕ}
+use native.Mathlib.Nat.{add-assoc, add-mul, add-mul-mod-self-right, add-suc, add-zero, mod-add-mod, mod-eq-of-lt, le-refl, mod-mod, mul-add, mul-assoc, mul-comm, mul-suc, mul-zero, one-mul, suc-mul, zero-mul}
 use native.Mathlib.Numerals.{add-one}
 use native.Mathlib.Omega.{arith}
 use lib.Dec.{ltb}
@@ -11,15 +11,16 @@ use lib.ListN.{length, length-append}
 use lib.Pow.{pow-add, pow-pos}
 use borrow.Author.Tests.{le-ltb, lt-ltb, ltb-false}
 use Rattle.bitvec.specs.Word.{multiply}
-use Rattle.adders.proofs.Adder.{adder-cong, adder-formed, adder-sum, length-adder}
+use Rattle.adders.proofs.Adder.{adder-cong, adder-formed, adder-sized, adder-sum, length-adder}
 use Rattle.bits.proofs.Values.{AllBefore, bit, high-part, scaled, value, value-zero}
-use Rattle.adders.specs.Adder.{adder}
-use Rattle.bits.specs.Bits.{Bits}
+use Rattle.adders.specs.Adder.{adder, sumBit}
+use Rattle.bits.specs.Bits.{Bits, tabulate}
 use Rattle.circuits.specs.Product.{accBit, addRow, product, row, rowBit, rowStart}
 use Rattle.netlist.proofs.Emitting.{emitted-then}
 use Rattle.netlist.proofs.Formed.{before-later, before-neg, before-pos, formed-append}
 use Rattle.netlist.proofs.Literals.{lit-false, lit-pos}
 use Rattle.netlist.proofs.Model.{Before, WellFormed}
+use Rattle.netlist.proofs.Nodes.{Sized, and-sized, none-sized, sized-then}
 use Rattle.netlist.proofs.Truth.{Models, models-append}
 use Rattle.netlist.specs.Emit.{Emitted}
 use Rattle.netlist.specs.Literal.{pos}
@@ -49,6 +50,47 @@ unfolding product
 length-product g s t w zero = add-zero g
 length-product g s t w (suc k) =
     simp (length-append, length-row, length-adder) (omega (arith, length-product g s t w k))
+
+pub row-sized : (s : Bits) (t n : ℕ) → Sized (row s t n) n (3 * n) (10 * n)
+unfolding row
+row-sized s t zero = none-sized
+row-sized s t (suc n) = sized-then (row-sized s t n) (and-sized (s n) t) (omega arith) (omega arith) (omega arith)
+
+-- the ANDs of the rows below k
+abbrev ands : ℕ → ℕ → ℕ
+ands w zero = 0
+ands w (suc k) = ands w k + (w - k)
+
+ands-sum : (w k : ℕ) → k ≤ w → 2 * ands w k + k * k ≡ 2 * (w * k) + k
+ands-sum w zero h = omega (arith, mul-zero w)
+ands-sum w (suc k) h = omega (arith, ands-sum w k (omega arith), mul-suc w k, mul-suc (suc k) k, suc-mul k k)
+
+ands-all : (w : ℕ) → ands w w ≡ (w * w + w) / 2
+ands-all w = omega (arith, ands-sum w w (le-refl w))
+
+rows-sized : (g : ℕ) (s t : Bits) (w k : ℕ)
+    → Sized (product g s t w k) (ands w k + 3 * (w * k)) (3 * ands w k + 14 * (w * k)) (10 * ands w k + 56 * (w * k))
+unfolding product
+rows-sized g s t w zero = simp mul-zero none-sized
+rows-sized g s t w (suc k) =
+    let m : ℕ = w - k in
+    let r : ℕ = rowStart g w k in
+    sized-then (rows-sized g s t w k)
+    (sized-then (row-sized s (t k) m) (adder-sized (r + m) (accBit g w k) (rowBit r k) 3 w) refl refl refl)
+    (omega (arith, mul-suc w k)) (omega (arith, mul-suc w k)) (omega (arith, mul-suc w k))
+
+-- w (w + 1) / 2 ANDs, and w sums of w places
+pub product-sized : (g : ℕ) (s t : Bits) (w : ℕ)
+    → Sized (product g s t w w) ((w * w + w) / 2 + 3 * (w * w)) (3 * ((w * w + w) / 2) + 14 * (w * w)) (10 * ((w * w + w) / 2) + 56 * (w * w))
+product-sized g s t w = rw (ands-all w) at (rows-sized g s t w w)
+
+-- the last sum ends where the product does
+pub last-row : (g w next : ℕ) → (w ≡ 0 → ⊥) → next ≡ g + ((w * w + w) / 2 + 3 * (w * w)) → tabulate (sumBit (next - 3 * w)) 32 ≡ tabulate (accBit g w w) 32
+last-row g w next h e = go w h (e ∙ ap (λ (k : ℕ). g + k) (sym (product-sized g (λ j. 0) (λ j. 0) w .nodes)) ∙ length-product g (λ j. 0) (λ j. 0) w w)
+  where
+    go : (v : ℕ) → (v ≡ 0 → ⊥) → next ≡ rowStart g v v → tabulate (sumBit (next - 3 * v)) 32 ≡ tabulate (accBit g v v) 32
+    go zero h q = absurd (h refl)
+    go (suc v) h q = ap (λ (k : ℕ). tabulate (sumBit k) 32) (omega (arith, q))
 
 -- at most four variables for each pair of bits
 pub product-short : (g : ℕ) (s t : Bits) (w k : ℕ) → k ≤ w → length (product g s t w k) ≤ 4 * w * k

@@ -2,13 +2,15 @@
 use crate::Bundle;
 use adders::add;
 use adders::sum_bits;
+use clauses::counts;
 use netlist::Net;
+use netlist::counted;
 ghost use mathlib.Core.Path.{_≡_};
-ghost use Prim.Native.Nat.{_^_, _≤_};
+ghost use Prim.Native.Nat.{_*_, _+_, _/_, _^_, _≤_};
 ghost use lib.ListN.{length};
 ghost use Rattle.bits.specs.Bits.{litAt, tabulate};
 ghost use Rattle.circuits.specs.Product.{accBit, addRow, product, row, rowBit};
-ghost use Rattle.netlist.specs.Emit.{Emitted, Ready};
+ghost use Rattle.netlist.specs.Emit.{Counted, Emitted, Ready};
 
 // The AND of the first m bits of s with t.
 fn and_row(words: &mut [u32], starts: &mut [u32], n: Net, s: &[u32], t: u32, m: usize) -> Net
@@ -63,6 +65,31 @@ fn add_row(
     add(words, starts, n1, acc, &bits[..w], 3)
 }
 
+// The product of two numbers of w places, where it is only counted: w (w + 1) / 2 ANDs, and w times the sum of w places.
+fn count_product(n: Net, w: usize) -> Bundle
+    requires { ⌜ Ready n 4096 ⌝ }
+    requires { ⌜ w ≤ 32 ⌝ }
+    ensures { λ r. ⌜ Counted n ((w * w + w) / 2 + 3 * (w * w)) (3 * ((w * w + w) / 2) + 14 * (w * w)) (10 * ((w * w + w) / 2) + 56 * (w * w)) (r .net) ⌝ }
+    ensures { λ r. ⌜ r .bits ≡ tabulate (accBit (n .next) w w) 32 ⌝ }
+{
+    let places = (w * w) as u32;
+    let ands = (places + w as u32) / 2;
+    let net = counted(
+        n,
+        ands + 3 * places,
+        3 * ands + 14 * places,
+        10 * ands + 56 * places,
+    );
+    if w == 0 {
+        return Bundle {
+            net,
+            bits: [3u32; 32],
+        };
+    }
+    let bits = sum_bits(net.next - 3 * w as u32);
+    Bundle { net, bits }
+}
+
 // The product of two numbers of one width.
 pub fn multiply(words: &mut [u32], starts: &mut [u32], n: Net, s: &[u32], t: &[u32]) -> Bundle
     requires { ⌜ Ready n 4096 ⌝ }
@@ -72,6 +99,9 @@ pub fn multiply(words: &mut [u32], starts: &mut [u32], n: Net, s: &[u32], t: &[u
     ensures { λ r. ⌜ r .bits ≡ tabulate (accBit (n .next) (length (now (s .entry))) (length (now (s .entry)))) 32 ⌝ }
 {
     let w = s.len();
+    if counts(words.len(), starts.len()) {
+        return count_product(n, w);
+    }
     let mut net = n;
     let mut acc = [3u32; 32];
     let mut k = 0;

@@ -1,15 +1,15 @@
 -- Runs of stores, and appending clauses, one list after another.
 use mathlib.Core.List.{List, [], _++_, _∷_, append-assoc, append-nil}
 use mathlib.Core.Path.{_∙_, _≡_, ap, ap₂, refl, sym}
-use mathlib.Core.Bool.{Bool, true, false}
-use Prim.Native.Nat.{_+_, _<_, _≤_, suc, zero, ℕ}
+use mathlib.Core.Bool.{Bool, _&&_, false, true}
+use Prim.Native.Nat.{_*_, _+_, _<_, _≤_, suc, zero, ℕ}
 use native.Mathlib.Nat.{add-suc, add-zero, suc-add, zero-add}
 use native.Mathlib.Omega.{arith}
 use lib.ListN.{drop, length, length-append, length-take, set, take}
 use lib.Seq.{drop-at, length-sets, set-comm, set-getD, set-out, sets, sets-eq, slice, slice-cons, slice-empty, take-set-le, take-set-lt}
-use lib.Dec.{ltb}
-use borrow.Author.Tests.{ltb-false, ltb-true}
-use Rattle.clauses.specs.Clause.{Appended, Clause, Room, flatten, offsets}
+use lib.Dec.{eqb, leb, ltb}
+use borrow.Author.Tests.{eqb-true, leb-true, ltb-false, ltb-true}
+use Rattle.clauses.specs.Clause.{Appended, Clause, Lent, Room, flatten, offsets}
 use Rattle.clauses.specs.declared.Store.{Store}
 
 -- ---- runs of stores
@@ -110,3 +110,45 @@ room-after {s = s} {c} k p h r = record {
 
 pub room-weaken : {s : Store} {j k : ℕ} → j ≤ k → Room s k → Room s j
 room-weaken h r = record { words = omega (arith, r .words); clauses = omega (arith, r .clauses) }
+
+-- ---- buffers that suffice, and empty ones
+
+both : (a b : Bool) → (a && b) ≡ true → (a ≡ true) × (b ≡ true)
+both true b h = (refl, h)
+both false b h = (h, absurd (let y : _≡_ {A = ℕ} 0 1 = cc in omega arith))
+
+-- what the test of the room says
+pub lent-of : (w t : ℕ) {s : Store} (n : ℕ) → Room s n → (leb (s .words + 4 * n) w && leb (s .clauses + n) t) ≡ true → Lent w t s n
+lent-of w t n r h = let p = both _ _ h in record { room = r; words = leb-true _ _ (p .0); starts = leb-true _ _ (p .1) }
+
+-- after some clauses there is room for the others
+pub lent-after : {w t : List ℕ} {s : Store} {a : List Clause} {w₁ t₁ : List ℕ} {s₁ : Store} (k : ℕ) {j : ℕ}
+    → Appended w t s a w₁ t₁ s₁ → Lent (length w) (length t) s j → length (flatten a) ≤ 4 * length a → length a + k ≤ j
+    → Lent (length w₁) (length t₁) s₁ k
+lent-after k p l h e = record {
+  room = record { words = omega (arith, p .used, l .room .words); clauses = omega (arith, p .count, l .room .clauses) };
+  words = rw (appended-words-length p) (omega (arith, p .used, l .words));
+  starts = rw (appended-starts-length p) (omega (arith, p .count, l .starts));
+}
+
+empty : (l : List ℕ) → eqb (length l) 0 ≡ true → l ≡ []
+empty [] h = refl
+empty (x ∷ l) h = absurd (let z : suc (length l) ≡ 0 = eqb-true _ _ h in omega arith)
+
+sets-empty : (i : ℕ) (vs : List ℕ) → sets [] i vs ≡ []
+sets-empty i [] = refl
+sets-empty i (v ∷ vs) = sets-empty (suc i) vs
+
+-- in empty buffers clauses are counted only
+pub appended-counted : (w t : List ℕ) {s : Store} (a : List Clause) {s₁ : Store} → (eqb (length w) 0 && eqb (length t) 0) ≡ true
+    → s₁ .words ≡ s .words + length (flatten a) → s₁ .clauses ≡ s .clauses + length a → Appended w t s a w t s₁
+appended-counted w t {s} a h u k =
+    let p = both _ _ h in
+    let e = empty w (p .0) in
+    let f = empty t (p .1) in
+    record {
+      words = e ∙ sym (sets-empty (s .words) (flatten a)) ∙ ap (λ (l : List ℕ). sets l (s .words) (flatten a)) (sym e);
+      starts = f ∙ sym (sets-empty (s .clauses) (offsets (s .words) a)) ∙ ap (λ (l : List ℕ). sets l (s .clauses) (offsets (s .words) a)) (sym f);
+      used = u;
+      count = k;
+    }

@@ -4,7 +4,7 @@
 -- and also that nothing is written where no room is lent.
 use mathlib.Core.List.{List, [], _++_, _∷_}
 use mathlib.Core.Path.{_≡_}
-use Prim.Native.Nat.{_*_, _+_, _<_, _^_, suc, ℕ}
+use Prim.Native.Nat.{_*_, _+_, _<_, _^_, _≤_, suc, ℕ}
 use lib.ListN.{length}
 use lib.Seq.{sets}
 use Rattle.clauses.specs.declared.Store.{Store}
@@ -34,3 +34,9 @@ pub record Appended (w t : List ℕ) (s : Store) (cs : List Clause) (w′ t′ :
 pub record Room (s : Store) (n : ℕ) : Type 0 where
   pub words : s .words + 4 * n < 2 ^ 32
   pub clauses : s .clauses + n < 2 ^ 32
+
+-- Buffers of w words and t starts, and the counts, have room for n more clauses of at most three literals.
+pub record Lent (w t : ℕ) (s : Store) (n : ℕ) : Type 0 where
+  pub room : Room s n
+  pub words : s .words + 4 * n ≤ w
+  pub starts : s .clauses + n ≤ t

@@ -1,10 +1,13 @@
 // The clause store in two lent buffers: words holds each clause as its count and its literals,
 // starts the offset of each count. What does not fit is counted and not written, so that a walk
 // over empty slices is the walk that counts.
+ghost use mathlib.Core.Bool.{_&&_};
 ghost use mathlib.Core.Path.{_≡_};
 ghost use mathlib.Core.List.{[], _∷_};
-ghost use lib.ListN.{set};
-ghost use Rattle.clauses.specs.Clause.{Appended, Room};
+ghost use Prim.Native.Nat.{_*_, _+_};
+ghost use lib.Dec.{eqb, leb};
+ghost use lib.ListN.{length, set};
+ghost use Rattle.clauses.specs.Clause.{Appended, Lent, Room};
 
 // How much of the two buffers is used: entries of words, entries of starts.
 pub struct Store {
@@ -67,6 +70,55 @@ pub fn append3(words: &mut [u32], starts: &mut [u32], s: Store, a: u32, b: u32, 
     put(words, s.words + 1, a);
     put(words, s.words + 2, b);
     put(words, s.words + 3, c);
+    Store {
+        words: s.words + 4,
+        clauses: s.clauses + 1,
+    }
+}
+
+// Whether n more clauses of at most three literals fit into buffers of these lengths.
+pub fn fits(words: usize, starts: usize, s: Store, n: u32) -> bool
+    ensures { λ r. ⌜ r ≡ (leb (s .words + 4 * n) words && leb (s .clauses + n) starts) ⌝ }
+{
+    s.words as usize + 4 * n as usize <= words && s.clauses as usize + n as usize <= starts
+}
+
+// Whether buffers of these lengths hold nothing, so that clauses are only counted.
+pub fn counts(words: usize, starts: usize) -> bool
+    ensures { λ r. ⌜ r ≡ (eqb words 0 && eqb starts 0) ⌝ }
+{
+    words == 0 && starts == 0
+}
+
+// Appends a clause of two literals, for which there is room.
+pub fn write2(words: &mut [u32], starts: &mut [u32], s: Store, a: u32, b: u32) -> Store
+    requires { ⌜ Lent (length (now words)) (length (now starts)) s 1 ⌝ }
+    ensures { λ r. ⌜ Appended (now (words .entry)) (now (starts .entry)) s ((a ∷ b ∷ []) ∷ []) (now (words .exit)) (now (starts .exit)) r ⌝ }
+{
+    let i = s.words as usize;
+    let k = s.clauses as usize;
+    starts[k] = s.words;
+    words[i] = 2;
+    words[i + 1] = a;
+    words[i + 2] = b;
+    Store {
+        words: s.words + 3,
+        clauses: s.clauses + 1,
+    }
+}
+
+// Appends a clause of three literals, for which there is room.
+pub fn write3(words: &mut [u32], starts: &mut [u32], s: Store, a: u32, b: u32, c: u32) -> Store
+    requires { ⌜ Lent (length (now words)) (length (now starts)) s 1 ⌝ }
+    ensures { λ r. ⌜ Appended (now (words .entry)) (now (starts .entry)) s ((a ∷ b ∷ c ∷ []) ∷ []) (now (words .exit)) (now (starts .exit)) r ⌝ }
+{
+    let i = s.words as usize;
+    let k = s.clauses as usize;
+    starts[k] = s.words;
+    words[i] = 3;
+    words[i + 1] = a;
+    words[i + 2] = b;
+    words[i + 3] = c;
     Store {
         words: s.words + 4,
         clauses: s.clauses + 1,

@@ -1,17 +1,17 @@
 -- Emitting nodes, one list after another.
-use mathlib.Core.Bool.{true}
+use mathlib.Core.Bool.{_&&_, true}
 use mathlib.Core.List.{List, [], _++_}
 use mathlib.Core.Path.{_∙_, _≡_, ap, subst, sym}
-use Prim.Native.Nat.{_+_, _≤_, suc, ℕ}
+use Prim.Native.Nat.{_*_, _+_, _≤_, suc, ℕ}
 use native.Mathlib.Nat.{add-zero}
 use native.Mathlib.Omega.{arith}
-use lib.Dec.{leb}
+use lib.Dec.{eqb, leb}
 use lib.ListN.{length, length-append}
 use borrow.Author.Tests.{leb-true}
-use Rattle.clauses.proofs.Appending.{appended-none, appended-starts-length, appended-then, appended-words-length}
-use Rattle.clauses.specs.Clause.{Appended, Clause, Room}
-use Rattle.netlist.proofs.Nodes.{clausesOf-append, clausesOf-few, clausesOf-short}
-use Rattle.netlist.specs.Emit.{Emitted, Ready}
+use Rattle.clauses.proofs.Appending.{appended-counted, appended-none, appended-starts-length, appended-then, appended-words-length, lent-after}
+use Rattle.clauses.specs.Clause.{Appended, Clause, Lent, Room}
+use Rattle.netlist.proofs.Nodes.{Sized, clausesOf-append, clausesOf-few, clausesOf-narrow, clausesOf-short}
+use Rattle.netlist.specs.Emit.{Counted, Emitted, Ready}
 use Rattle.netlist.specs.Node.{Node, clausesOf}
 use Rattle.netlist.specs.declared.Net.{Net}
 
@@ -46,6 +46,10 @@ emitted-starts-length p = appended-starts-length (p .store)
 pub ready-room : {n : Net} {k : ℕ} → Ready n (suc k) → Room (n .store) 6
 ready-room r = record { words = omega (arith, r .words, r .next); clauses = omega (arith, r .clauses, r .next) }
 
+-- room for the clauses of several nodes
+pub ready-clauses : {n : Net} (k : ℕ) {j : ℕ} → Ready n k → j ≤ 6 * k → Room (n .store) j
+ready-clauses k r h = record { words = omega (arith, r .words, r .next); clauses = omega (arith, r .clauses, r .next) }
+
 -- what the nodes need does not depend on the buffers: a walk over empty ones counts it
 pub same-state : {w t : List ℕ} {n : Net} {a : List Node} {w₁ t₁ : List ℕ} {n₁ : Net} {v u v₁ u₁ : List ℕ} {n₂ : Net}
     → Emitted w t n a w₁ t₁ n₁ → Emitted v u n a v₁ u₁ n₂ → n₁ ≡ n₂
@@ -75,3 +79,19 @@ ready-two {k = k} p q r h = ready-after k (emitted-then p q) r (leb-true _ _ h)
 -- room for more is room for less
 pub ready-weaken : {n : Net} {j k : ℕ} → j ≤ k → Ready n k → Ready n j
 ready-weaken l r = record { words = r .words; clauses = r .clauses; next = omega (arith, r .next) }
+
+-- in empty buffers nodes are counted only
+pub emitted-counted : (w t : List ℕ) {n : Net} {ns : List Node} {v c k : ℕ} {n₁ : Net} → (eqb (length w) 0 && eqb (length t) 0) ≡ true
+    → Counted n v c k n₁ → Sized ns v c k → Emitted w t n ns w t n₁
+emitted-counted w t {n} {ns} h p q = record {
+  store = appended-counted w t (clausesOf (n .next) ns) h
+      (p .words ∙ ap (λ (i : ℕ). n .store .words + i) (sym (q .words (n .next))))
+      (p .clauses ∙ ap (λ (i : ℕ). n .store .clauses + i) (sym (q .clauses (n .next))));
+  next = p .next ∙ ap (λ (i : ℕ). n .next + i) (sym (q .nodes));
+}
+
+-- after some nodes the buffers have room for the clauses of the others
+pub lent-beyond : {w t : List ℕ} {n : Net} {a : List Node} {w₁ t₁ : List ℕ} {n₁ : Net} (k : ℕ) {j : ℕ}
+    → Emitted w t n a w₁ t₁ n₁ → Lent (length w) (length t) (n .store) j → length (clausesOf (n .next) a) + k ≤ j
+    → Lent (length w₁) (length t₁) (n₁ .store) k
+lent-beyond {n = n} {a} k p l h = lent-after k (p .store) l (clausesOf-narrow (n .next) a) h

@@ -1,6 +1,6 @@
 -- The clauses of nodes, and how many there are.
 use mathlib.Core.List.{List, [], _++_, _∷_, append-assoc}
-use mathlib.Core.Path.{_∙_, _≡_, ap, sym}
+use mathlib.Core.Path.{_∙_, _≡_, ap, refl, sym}
 use Prim.Native.Nat.{_*_, _+_, _≤_, suc, ℕ}
 use native.Mathlib.Nat.{add-suc, add-zero, suc-add}
 use native.Mathlib.Omega.{arith}
@@ -46,3 +46,54 @@ unfolding clausesOf
 clausesOf-short g [] = omega arith
 clausesOf-short g (n ∷ ns) =
     simp (flatten-append, length-append) (omega (arith, nodeClauses-short g n, clausesOf-short (suc g) ns))
+
+-- a clause takes at most 4 words
+nodeClauses-narrow : (g : ℕ) (n : Node) → length (flatten (nodeClauses g n)) ≤ 4 * length (nodeClauses g n)
+unfolding nodeClauses
+nodeClauses-narrow g one = omega arith
+nodeClauses-narrow g (input k j) = omega arith
+nodeClauses-narrow g (and a b) = omega arith
+nodeClauses-narrow g (xor a b) = omega arith
+nodeClauses-narrow g (maj a b c) = omega arith
+nodeClauses-narrow g (mux c a b) = omega arith
+
+pub clausesOf-narrow : (g : ℕ) (ns : List Node) → length (flatten (clausesOf g ns)) ≤ 4 * length (clausesOf g ns)
+unfolding clausesOf
+clausesOf-narrow g [] = omega arith
+clausesOf-narrow g (n ∷ ns) =
+    simp (flatten-append, length-append) (omega (arith, nodeClauses-narrow g n, clausesOf-narrow (suc g) ns))
+
+-- nodes that are v in number, with c clauses and k words, whatever their first variable
+pub record Sized (ns : List Node) (v c k : ℕ) : Type 0 where
+  pub nodes : length ns ≡ v
+  pub clauses : (g : ℕ) → length (clausesOf g ns) ≡ c
+  pub words : (g : ℕ) → length (flatten (clausesOf g ns)) ≡ k
+
+pub none-sized : Sized [] 0 0 0
+unfolding clausesOf
+none-sized = record { nodes = refl; clauses = λ g. refl; words = λ g. refl }
+
+pub and-sized : (a b : ℕ) → Sized (and a b ∷ []) 1 3 10
+unfolding clausesOf nodeClauses
+and-sized a b = record { nodes = refl; clauses = λ g. refl; words = λ g. refl }
+
+pub xor-sized : (a b : ℕ) → Sized (xor a b ∷ []) 1 4 16
+unfolding clausesOf nodeClauses
+xor-sized a b = record { nodes = refl; clauses = λ g. refl; words = λ g. refl }
+
+pub maj-sized : (a b c : ℕ) → Sized (maj a b c ∷ []) 1 6 24
+unfolding clausesOf nodeClauses
+maj-sized a b c = record { nodes = refl; clauses = λ g. refl; words = λ g. refl }
+
+pub mux-sized : (c a b : ℕ) → Sized (mux c a b ∷ []) 1 4 16
+unfolding clausesOf nodeClauses
+mux-sized c a b = record { nodes = refl; clauses = λ g. refl; words = λ g. refl }
+
+-- one list of nodes, and then another
+pub sized-then : {a b : List Node} {v c k v₁ c₁ k₁ v₂ c₂ k₂ : ℕ} → Sized a v c k → Sized b v₁ c₁ k₁
+    → v + v₁ ≡ v₂ → c + c₁ ≡ c₂ → k + k₁ ≡ k₂ → Sized (a ++ b) v₂ c₂ k₂
+sized-then {a} {b} p q e f h = record {
+  nodes = rw length-append (omega (arith, p .nodes, q .nodes));
+  clauses = λ g. rw (clausesOf-append, length-append) (omega (arith, p .clauses g, q .clauses (g + length a)));
+  words = λ g. rw (clausesOf-append, flatten-append, length-append) (omega (arith, p .words g, q .words (g + length a)));
+}

@@ -17,3 +17,9 @@ pub record Ready (n : Net) (k : ℕ) : Type 0 where
   pub words : n .store .words ≤ 24 * n .next
   pub clauses : n .store .clauses ≤ 6 * n .next
   pub next : n .next + k ≤ 2 ^ 26
+
+-- State n becomes n′ by v nodes of c clauses and w words.
+pub record Counted (n : Net) (v c w : ℕ) (n′ : Net) : Type 0 where
+  pub next : n′ .next ≡ n .next + v
+  pub clauses : n′ .store .clauses ≡ n .store .clauses + c
+  pub words : n′ .store .words ≡ n .store .words + w

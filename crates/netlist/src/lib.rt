@@ -1,8 +1,14 @@
 // Gates as clauses. A gate takes the next variable and appends its clauses; what it makes is the literal twice that variable.
+pub mod roomy;
+mod tight;
+
 use clauses::Store;
+use clauses::counts;
+use clauses::fits;
 ghost use mathlib.Core.List.{[], _∷_};
 ghost use mathlib.Core.Path.{_≡_};
-ghost use Rattle.netlist.specs.Emit.{Emitted, Ready};
+ghost use Prim.Native.Nat.{_*_, _≤_};
+ghost use Rattle.netlist.specs.Emit.{Counted, Emitted, Ready};
 ghost use Rattle.netlist.specs.Literal.{opp};
 ghost use Rattle.netlist.specs.Node.{and, maj, mux, xor};
 
@@ -19,21 +25,36 @@ pub fn opposite(l: u32) -> u32
     l ^ 1
 }
 
+// The state after nodes that are only counted: how many there are, and their clauses and words.
+pub fn counted(n: Net, nodes: u32, clauses: u32, words: u32) -> Net
+    requires { ⌜ Ready n nodes ⌝ }
+    requires { ⌜ (clauses ≤ 6 * nodes) × (words ≤ 24 * nodes) ⌝ }
+    ensures { λ r. ⌜ Counted n nodes clauses words r ⌝ }
+{
+    let s = n.store;
+    let store = Store {
+        words: s.words + words,
+        clauses: s.clauses + clauses,
+    };
+    Net {
+        store,
+        next: n.next + nodes,
+    }
+}
+
 // The literal that both a and b hold.
 pub fn and_gate(words: &mut [u32], starts: &mut [u32], n: Net, a: u32, b: u32) -> Net
     requires { ⌜ Ready n 1 ⌝ }
     ensures { λ r. ⌜ Emitted (now (words .entry)) (now (starts .entry)) n (and a b ∷ []) (now (words .exit)) (now (starts .exit)) r ⌝ }
 {
-    let next = n.next + 1;
-    let p = 2 * n.next;
-    let m = p + 1;
-    let na = opposite(a);
-    let nb = opposite(b);
-    let s0 = n.store;
-    let s1 = clauses::append2(words, starts, s0, m, a);
-    let s2 = clauses::append2(words, starts, s1, m, b);
-    let s3 = clauses::append3(words, starts, s2, p, na, nb);
-    Net { store: s3, next }
+    let s = n.store;
+    if fits(words.len(), starts.len(), s, 3) {
+        return roomy::and_gate(words, starts, n, a, b);
+    }
+    if counts(words.len(), starts.len()) {
+        return counted(n, 1, 3, 10);
+    }
+    tight::and_gate(words, starts, n, a, b)
 }
 
 // The literal that exactly one of a and b holds.
@@ -41,17 +62,14 @@ pub fn xor_gate(words: &mut [u32], starts: &mut [u32], n: Net, a: u32, b: u32) -
     requires { ⌜ Ready n 1 ⌝ }
     ensures { λ r. ⌜ Emitted (now (words .entry)) (now (starts .entry)) n (xor a b ∷ []) (now (words .exit)) (now (starts .exit)) r ⌝ }
 {
-    let next = n.next + 1;
-    let p = 2 * n.next;
-    let m = p + 1;
-    let na = opposite(a);
-    let nb = opposite(b);
-    let s0 = n.store;
-    let s1 = clauses::append3(words, starts, s0, m, a, b);
-    let s2 = clauses::append3(words, starts, s1, m, na, nb);
-    let s3 = clauses::append3(words, starts, s2, p, na, b);
-    let s4 = clauses::append3(words, starts, s3, p, a, nb);
-    Net { store: s4, next }
+    let s = n.store;
+    if fits(words.len(), starts.len(), s, 4) {
+        return roomy::xor_gate(words, starts, n, a, b);
+    }
+    if counts(words.len(), starts.len()) {
+        return counted(n, 1, 4, 16);
+    }
+    tight::xor_gate(words, starts, n, a, b)
 }
 
 // The literal that at least two of a, b and c hold.
@@ -59,20 +77,14 @@ pub fn maj_gate(words: &mut [u32], starts: &mut [u32], n: Net, a: u32, b: u32, c
     requires { ⌜ Ready n 1 ⌝ }
     ensures { λ r. ⌜ Emitted (now (words .entry)) (now (starts .entry)) n (maj a b c ∷ []) (now (words .exit)) (now (starts .exit)) r ⌝ }
 {
-    let next = n.next + 1;
-    let p = 2 * n.next;
-    let m = p + 1;
-    let na = opposite(a);
-    let nb = opposite(b);
-    let nc = opposite(c);
-    let s0 = n.store;
-    let s1 = clauses::append3(words, starts, s0, na, nb, p);
-    let s2 = clauses::append3(words, starts, s1, na, nc, p);
-    let s3 = clauses::append3(words, starts, s2, nb, nc, p);
-    let s4 = clauses::append3(words, starts, s3, a, b, m);
-    let s5 = clauses::append3(words, starts, s4, a, c, m);
-    let s6 = clauses::append3(words, starts, s5, b, c, m);
-    Net { store: s6, next }
+    let s = n.store;
+    if fits(words.len(), starts.len(), s, 6) {
+        return roomy::maj_gate(words, starts, n, a, b, c);
+    }
+    if counts(words.len(), starts.len()) {
+        return counted(n, 1, 6, 24);
+    }
+    tight::maj_gate(words, starts, n, a, b, c)
 }
 
 // The literal that has the value of a where c holds, and else that of b.
@@ -80,16 +92,12 @@ pub fn mux_gate(words: &mut [u32], starts: &mut [u32], n: Net, c: u32, a: u32, b
     requires { ⌜ Ready n 1 ⌝ }
     ensures { λ r. ⌜ Emitted (now (words .entry)) (now (starts .entry)) n (mux c a b ∷ []) (now (words .exit)) (now (starts .exit)) r ⌝ }
 {
-    let next = n.next + 1;
-    let p = 2 * n.next;
-    let m = p + 1;
-    let na = opposite(a);
-    let nb = opposite(b);
-    let nc = opposite(c);
-    let s0 = n.store;
-    let s1 = clauses::append3(words, starts, s0, nc, na, p);
-    let s2 = clauses::append3(words, starts, s1, nc, a, m);
-    let s3 = clauses::append3(words, starts, s2, c, nb, p);
-    let s4 = clauses::append3(words, starts, s3, c, b, m);
-    Net { store: s4, next }
+    let s = n.store;
+    if fits(words.len(), starts.len(), s, 4) {
+        return roomy::mux_gate(words, starts, n, c, a, b);
+    }
+    if counts(words.len(), starts.len()) {
+        return counted(n, 1, 4, 16);
+    }
+    tight::mux_gate(words, starts, n, c, a, b)
 }

@@ -20,9 +20,10 @@ use Rattle.netlist.proofs.Emitting.{emitted-then}
 use Rattle.netlist.proofs.Formed.{before-later, before-neg, before-opp, before-pos, formed-append}
 use Rattle.netlist.proofs.Literals.{lit-neg, lit-opp, lit-pos, lit-true}
 use Rattle.netlist.proofs.Model.{Before, WellFormed}
+use Rattle.netlist.proofs.Nodes.{Sized, and-sized, none-sized, sized-then, xor-sized}
 use Rattle.netlist.proofs.Truth.{Models, models-append}
 use Rattle.netlist.specs.Emit.{Emitted}
-use Rattle.netlist.specs.Literal.{opp}
+use Rattle.netlist.specs.Literal.{neg, opp}
 use Rattle.clauses.specs.Meaning.{Assign, lit}
 use Rattle.netlist.specs.Meaning.{Inputs, nodeVal, xorB}
 use Rattle.netlist.specs.Node.{Node}
@@ -32,6 +33,19 @@ pub length-equality : (g : ℕ) (a b : Bits) (w : ℕ) → length (equality g a 
 unfolding equality
 length-equality g a b zero = refl
 length-equality g a b (suc j) = simp length-append (omega (arith, length-equality g a b j))
+
+-- a place takes 2 nodes, 7 clauses and 26 words
+pub equality-sized : (g : ℕ) (a b : Bits) (w : ℕ) → Sized (equality g a b w) (2 * w) (7 * w) (26 * w)
+unfolding equality
+equality-sized g a b zero = none-sized
+equality-sized g a b (suc j) =
+    sized-then (equality-sized g a b j) (sized-then (xor-sized (a j) (b j)) (and-sized (sameAt g j) (neg (g + 2 * j))) refl refl refl)
+    (omega arith) (omega arith) (omega arith)
+
+-- the last literal is the last variable
+pub last-same : (g w next : ℕ) → (w ≡ 0 → ⊥) → next ≡ g + 2 * w → 2 * (next - 1) ≡ sameAt g w
+last-same g zero next h e = absurd (h refl)
+last-same g (suc w) next h e = omega arith
 
 -- tests of facts that follow from each other
 eqb-iff : (u v x y : ℕ) → (u ≡ v → x ≡ y) → (x ≡ y → u ≡ v) → eqb u v ≡ eqb x y

@@ -1,14 +1,14 @@
-use mathlib.Core.Path.{_≡_, refl}
+use mathlib.Core.Path.{_∙_, _≡_, refl, sym}
 use Prim.Native.Nat.{_≤_, _-_}
 use native.Mathlib.Omega.{arith}
 use borrow.Author.Needs.{needs}
 use lib.ListN.{length}
 use denote.Ref.{now}
-use Rattle.adders.proofs.Adder.{adder-turn, carry-turn, length-adder}
+use Rattle.adders.proofs.Adder.{adder-sized, adder-turn, carry-turn, length-adder}
 use Rattle.adders.proofs.add.Statement.{statement}
 use Rattle.adders.specs.Adder.{adder, carryAt}
 use Rattle.bits.specs.Bits.{litAt}
-use Rattle.netlist.proofs.Emitting.{emitted-none, emitted-starts-length, emitted-words-length, ready-after}
+use Rattle.netlist.proofs.Emitting.{emitted-counted, emitted-none, emitted-starts-length, emitted-words-length, ready-after}
 use Rattle.netlist.specs.Emit.{Emitted, Ready}
 use Rattle.adders.proofs.add.Tie as tie
 
@@ -19,6 +19,15 @@ Inv-loop words₀ starts₀ a b c net₀ carry₀ j₀ words starts net carry j 
 
 abbrev μ-loop : tie.MeasureT-loop
 μ-loop words₀ starts₀ a b c net₀ carry₀ j₀ words starts net carry j = length a - j
+
+counts-requires : tie.Need-counts-requires Inv-loop μ-loop
+counts-requires c κs = search needs
+
+count-sum-requires : tie.Need-count-sum-requires Inv-loop μ-loop
+count-sum-requires c κs = search needs
+
+returns : tie.Need-returns Inv-loop μ-loop
+returns c = emitted-counted _ _ (sym (c .before .before .counts .ensures) ∙ c .before .if1 .taken) (c .count-sum .ensures) (adder-sized _ _ _ _ _)
 
 loop-holds : tie.Need-loop-holds Inv-loop μ-loop
 unfolding adder
@@ -37,7 +46,7 @@ shared-slice-read-full-adder-2 : tie.Need-shared-slice-read-full-adder-2 Inv-loo
 shared-slice-read-full-adder-2 c = search needs
 
 ready : (c : tie.After-shared-slice-known4 Inv-loop μ-loop) → Ready (c .before .before .before .before .before .loop .net) 3
-ready c = ready-after 3 (c .before .before .before .before .before .loop .inv .1) (c .before .before .before .before .before .before .before .before .before .before .pre .0) (simp length-adder (omega arith))
+ready c = ready-after 3 (c .before .before .before .before .before .loop .inv .1) (c .before .before .before .before .before .before .before .before .before .before .before .before .pre .0) (simp length-adder (omega arith))
 
 full-adder-requires : tie.Need-full-adder-requires Inv-loop μ-loop
 full-adder-requires c κs = ready c
@@ -66,9 +75,9 @@ same-length c = emitted-words-length (c .before .loop .inv .1)
 same-length-2 : tie.Need-same-length-2 Inv-loop μ-loop
 same-length-2 c = emitted-starts-length (c .before .loop .inv .1)
 
-returns : tie.Need-returns Inv-loop μ-loop
-returns c =
-    let e : c .before .loop .j ≡ length (now (c .before .before .before .before .before .before .args .a)) = omega arith in
+returns-2 : tie.Need-returns-2 Inv-loop μ-loop
+returns-2 c =
+    let e : c .before .loop .j ≡ length (now (c .before .before .before .before .before .before .before .before .args .a)) = omega arith in
     rw (← e) (c .before .loop .inv .1)
 
 pub add-spec : {M : Type 1} → statement M
@@ -77,6 +86,9 @@ add-spec =
     (tie.spec
     Inv-loop
     μ-loop
+    counts-requires
+    count-sum-requires
+    returns
     loop-holds
     mul-full-adder
     shared-slice-read-full-adder
@@ -90,4 +102,4 @@ add-spec =
     loop-again
     same-length
     same-length-2
-    returns)
+    returns-2)

@@ -1,33 +1,20 @@
-use mathlib.Core.Path.{refl}
+use mathlib.Core.Path.{_∙_, sym}
+use native.Mathlib.Omega.{arith}
 use borrow.Author.Needs.{needs}
-use Rattle.clauses.proofs.Appending.{appended-then}
+use Rattle.clauses.proofs.Appending.{lent-of}
+use Rattle.netlist.proofs.Emitting.{emitted-counted, ready-clauses}
 use Rattle.netlist.proofs.and_gate.Statement.{statement}
-use Rattle.netlist.specs.Node.{clausesOf, nodeClauses}
+use Rattle.netlist.proofs.Nodes.{and-sized}
 use Rattle.netlist.proofs.and_gate.Tie as tie
 
-add-next : tie.Need-add-next
-add-next c = search needs
+fits-requires : tie.Need-fits-requires
+fits-requires c κs = search needs
 
-mul-p : tie.Need-mul-p
-mul-p c = search needs
-
-add-m : tie.Need-add-m
-add-m c = search needs
-
-opposite-requires : tie.Need-opposite-requires
-opposite-requires c κs = search needs
-
-opposite-requires-2 : tie.Need-opposite-requires-2
-opposite-requires-2 c κs = search needs
-
-append2-requires : tie.Need-append2-requires
-append2-requires c κs = search needs
-
-append2-requires-2 : tie.Need-append2-requires-2
-append2-requires-2 c κs = search needs
-
-append3-requires : tie.Need-append3-requires
-append3-requires c κs = search needs
+and-gate-requires : tie.Need-and-gate-requires
+and-gate-requires c κs =
+    let f = c .before .before .before in
+    let start = f .before .before .before .before in
+    (start .pre, lent-of _ _ _ (ready-clauses 1 (start .pre) (omega arith)) (sym (f .fits2 .ensures) ∙ c .before .before .if1 .taken))
 
 same-length : tie.Need-same-length
 same-length c = search needs
@@ -36,30 +23,42 @@ same-length-2 : tie.Need-same-length-2
 same-length-2 c = search needs
 
 returns : tie.Need-returns
-unfolding clausesOf nodeClauses
-returns c =
-    let c3 = c .before .before .before .before in
-    let c2 = c3 .before .before .before .before .before .before .before in
-    let c1 = c2 .before .before .before .before .before .before .before in
-    let o2 = c1 .before .before .before .before in
-    record {
-      store = rw (← o2 .before .opposite .ensures, ← o2 .opposite2 .ensures)
-          (appended-then (appended-then (c1 .append2 .ensures) (c2 .append22 .ensures)) (c3 .append3 .ensures));
-      next = refl;
-    }
+returns c = search needs
+
+counts-requires : tie.Need-counts-requires
+counts-requires c κs = search needs
+
+counted-requires : tie.Need-counted-requires
+counted-requires c κs = search needs
+
+returns-2 : tie.Need-returns-2
+returns-2 c = emitted-counted _ _ (sym (c .before .before .counts .ensures) ∙ c .before .if2 .taken) (c .counted .ensures) (and-sized _ _)
+
+and-gate-requires-2 : tie.Need-and-gate-requires-2
+and-gate-requires-2 c κs = search needs
+
+same-length-3 : tie.Need-same-length-3
+same-length-3 c = search needs
+
+same-length-4 : tie.Need-same-length-4
+same-length-4 c = search needs
+
+returns-3 : tie.Need-returns-3
+returns-3 c = search needs
 
 pub and-gate-spec : {M : Type 1} → statement M
 and-gate-spec =
     tie.close
     (tie.spec
-    add-next
-    mul-p
-    add-m
-    opposite-requires
-    opposite-requires-2
-    append2-requires
-    append2-requires-2
-    append3-requires
+    fits-requires
+    and-gate-requires
     same-length
     same-length-2
-    returns)
+    returns
+    counts-requires
+    counted-requires
+    returns-2
+    and-gate-requires-2
+    same-length-3
+    same-length-4
+    returns-3)

@@ -7,12 +7,12 @@ use denote.Ref.{now}
 use lib.ListN.{length, take, getD-replicate}
 use Rattle.bits.proofs.Laws.{sized-bits, sized-length, table-length}
 use Rattle.bits.proofs.Values.{tabulate-ext}
-use Rattle.circuits.proofs.Product.{length-product, product-turn, rowStart-le}
+use Rattle.circuits.proofs.Product.{length-product, product-sized, product-turn, rowStart-le}
 use Rattle.circuits.proofs.products.multiply.Statement.{statement}
 use Rattle.adders.specs.Adder.{sumBit}
 use Rattle.bits.specs.Bits.{litAt, tabulate}
 use Rattle.circuits.specs.Product.{accBit, product, rowStart}
-use Rattle.netlist.proofs.Emitting.{emitted-none, emitted-starts-length, emitted-words-length, ready-after}
+use Rattle.netlist.proofs.Emitting.{emitted-counted, emitted-none, emitted-starts-length, emitted-words-length, ready-after}
 use Rattle.netlist.specs.Emit.{Emitted, Ready}
 use Rattle.circuits.proofs.products.multiply.Tie as tie
 
@@ -23,22 +23,33 @@ Inv-loop words₀ starts₀ s t w net₀ acc₀ k₀ words starts net acc k =
 abbrev μ-loop : tie.MeasureT-loop
 μ-loop words₀ starts₀ s t w net₀ acc₀ k₀ words starts net acc k = w - k
 
+counts-requires : tie.Need-counts-requires Inv-loop μ-loop
+counts-requires c κs = search needs
+
+count-product-requires : tie.Need-count-product-requires Inv-loop μ-loop
+count-product-requires c κs = search needs
+
+returns : tie.Need-returns Inv-loop μ-loop
+returns c =
+    let n = c .count-product .ensures in
+    (emitted-counted _ _ (sym (c .before .before .counts .ensures) ∙ c .before .if1 .taken) (n .0) (product-sized _ _ _ _), n .1)
+
 loop-holds : tie.Need-loop-holds Inv-loop μ-loop
 unfolding product
 loop-holds c =
     (search needs, emitted-none _ _ _, tabulate-ext _ _ 32 refl (λ j h. getD-replicate 32 j 3 0 h))
 
 -- where row k starts
-at-row : (c : tie.At-loop Inv-loop μ-loop) → c .loop .net .next ≡ rowStart (c .before .before .before .before .before .args .n .next) (length (now (c .before .before .before .before .before .args .s))) (c .loop .k)
+at-row : (c : tie.At-loop Inv-loop μ-loop) → c .loop .net .next ≡ rowStart (c .before .before .before .before .before .before .before .args .n .next) (length (now (c .before .before .before .before .before .before .before .args .s))) (c .loop .k)
 at-row c = c .loop .inv .1 .next ∙ length-product _ _ _ _ _
 
 -- and there is room for it
-ready : (c : tie.At-loop Inv-loop μ-loop) → c .loop .k < length (now (c .before .before .before .before .before .args .s)) → Ready (c .loop .net) 128
+ready : (c : tie.At-loop Inv-loop μ-loop) → c .loop .k < length (now (c .before .before .before .before .before .before .before .args .s)) → Ready (c .loop .net) 128
 ready c h =
-    let w = length (now (c .before .before .before .before .before .args .s)) in
-    let g = c .before .before .before .before .before .args .n .next in
-    ready-after 128 (c .loop .inv .1) (c .before .before .before .before .before .pre .0)
-    (omega (arith, length-product g (litAt (now (c .before .before .before .before .before .args .s))) (litAt (now (c .before .before .before .before .before .args .t))) w (c .loop .k), rowStart-le g w (c .loop .k) (omega arith)))
+    let w = length (now (c .before .before .before .before .before .before .before .args .s)) in
+    let g = c .before .before .before .before .before .before .before .args .n .next in
+    ready-after 128 (c .loop .inv .1) (c .before .before .before .before .before .before .before .pre .0)
+    (omega (arith, length-product g (litAt (now (c .before .before .before .before .before .before .before .args .s))) (litAt (now (c .before .before .before .before .before .before .before .args .t))) w (c .loop .k), rowStart-le g w (c .loop .k) (omega arith)))
 
 sub-first : tie.Need-sub-first Inv-loop μ-loop
 sub-first c = search needs
@@ -59,11 +70,11 @@ array-share-prefix-acc : tie.Need-array-share-prefix-acc Inv-loop μ-loop
 array-share-prefix-acc c = search (needs, table-length _ (c .before .before .before .before .before .loop .inv .2))
 
 slice-aggregate-add-row : tie.Need-slice-aggregate-add-row Inv-loop μ-loop
-slice-aggregate-add-row c = sym (sized-length _ (c .before .before .before .before .before .before .loop .inv .2) (length (now (c .before .before .before .before .before .before .before .before .before .before .before .args .s))) (omega arith))
+slice-aggregate-add-row c = sym (sized-length _ (c .before .before .before .before .before .before .loop .inv .2) (length (now (c .before .before .before .before .before .before .before .before .before .before .before .before .before .args .s))) (omega arith))
 
 add-row-requires : tie.Need-add-row-requires Inv-loop μ-loop
 add-row-requires c κs =
-    (ready (c .before .before .before .before .before .before) (c .before .before .before .before .before .loop-test .taken), (sized-length _ (c .before .before .before .before .before .before .loop .inv .2) (length (now (c .before .before .before .before .before .before .before .before .before .before .before .args .s))) (omega arith), (search needs, search needs)))
+    (ready (c .before .before .before .before .before .before) (c .before .before .before .before .before .loop-test .taken), (sized-length _ (c .before .before .before .before .before .before .loop .inv .2) (length (now (c .before .before .before .before .before .before .before .before .before .before .before .before .before .args .s))) (omega arith), (search needs, search needs)))
 
 sum-bits-requires : tie.Need-sum-bits-requires Inv-loop μ-loop
 sum-bits-requires c κs = omega (arith, ready (c .before .before .before .before .before .before .before .before .before .before .before) (c .before .before .before .before .before .before .before .before .before .before .loop-test .taken) .next)
@@ -77,10 +88,10 @@ loop-less c = search needs
 loop-again : tie.Need-loop-again Inv-loop μ-loop
 loop-again c =
     let l = c .before .before .before .before .before .before .before .before .before .before .before .before .loop in
-    let a = c .before .before .before .before .before .before .before .before .before .before .before .before .before .before .before .before .before .args in
+    let a = c .before .before .before .before .before .before .before .before .before .before .before .before .before .before .before .before .before .before .before .args in
     let w = length (now (a .s)) in (
       search needs,
-      product-turn (litAt (now (a .s))) (litAt (now (a .t))) (litAt (take w (l .acc))) w (l .k) (l .inv .1) (c .before .before .before .before .before .add-row .ensures) (sized-bits _ (l .inv .2) w (omega arith)),
+      product-turn (litAt (now (a .s))) (litAt (now (a .t))) (litAt (take w (l .acc))) w (l .k) (l .inv .1) (c .before .before .before .before .before .add-row .ensures) (sized-bits _ (l .inv .2) w (omega (arith, c .before .before .before .before .before .before .before .before .before .before .before .before .before .before .before .before .before .before .before .pre .1 .1))),
       rw (add-one (l .k)) (c .sum-bits .ensures ∙ ap (λ (i : ℕ). tabulate (sumBit (i + (w - l .k))) 32) (at-row (c .before .before .before .before .before .before .before .before .before .before .before .before))),
     )
 
@@ -90,9 +101,9 @@ same-length c = emitted-words-length (c .before .loop .inv .1)
 same-length-2 : tie.Need-same-length-2 Inv-loop μ-loop
 same-length-2 c = emitted-starts-length (c .before .loop .inv .1)
 
-returns : tie.Need-returns Inv-loop μ-loop
-returns c =
-    let e : c .before .loop .k ≡ length (now (c .before .before .before .before .before .before .args .s)) = omega arith in
+returns-2 : tie.Need-returns-2 Inv-loop μ-loop
+returns-2 c =
+    let e : c .before .loop .k ≡ length (now (c .before .before .before .before .before .before .before .before .args .s)) = omega arith in
     (rw e at (c .before .loop .inv .1), rw e at (c .before .loop .inv .2))
 
 pub multiply-spec : {M : Type 1} → statement M
@@ -101,6 +112,9 @@ multiply-spec =
     (tie.spec
     Inv-loop
     μ-loop
+    counts-requires
+    count-product-requires
+    returns
     loop-holds
     sub-first
     cast-first
@@ -116,4 +130,4 @@ multiply-spec =
     loop-again
     same-length
     same-length-2
-    returns)
+    returns-2)

@@ -1,14 +1,14 @@
-use mathlib.Core.Path.{_≡_, refl}
+use mathlib.Core.Path.{_∙_, _≡_, refl, sym}
 use Prim.Native.Nat.{_≤_, _-_}
 use native.Mathlib.Omega.{arith}
 use borrow.Author.Needs.{needs}
 use denote.Ref.{now}
 use lib.ListN.{length}
-use Rattle.relations.proofs.Compare.{equality-turn, length-equality, same-turn}
+use Rattle.relations.proofs.Compare.{equality-sized, equality-turn, length-equality, same-turn}
 use Rattle.relations.proofs.comparisons.equal.Statement.{statement}
 use Rattle.bits.specs.Bits.{litAt}
 use Rattle.relations.specs.Compare.{equality, sameAt}
-use Rattle.netlist.proofs.Emitting.{emitted-none, emitted-starts-length, emitted-words-length, ready-after}
+use Rattle.netlist.proofs.Emitting.{emitted-counted, emitted-none, emitted-starts-length, emitted-words-length, ready-after}
 use Rattle.netlist.specs.Emit.{Emitted, Ready}
 use Rattle.relations.proofs.comparisons.equal.Tie as tie
 
@@ -19,6 +19,17 @@ Inv-loop words₀ starts₀ a b net₀ lit₀ j₀ words starts net lit j =
 
 abbrev μ-loop : tie.MeasureT-loop
 μ-loop words₀ starts₀ a b net₀ lit₀ j₀ words starts net lit j = length a - j
+
+counts-requires : tie.Need-counts-requires Inv-loop μ-loop
+counts-requires c κs = search needs
+
+count-equal-requires : tie.Need-count-equal-requires Inv-loop μ-loop
+count-equal-requires c κs = search needs
+
+returns : tie.Need-returns Inv-loop μ-loop
+returns c =
+    let n = c .count-equal .ensures in
+    (emitted-counted _ _ (sym (c .before .before .counts .ensures) ∙ c .before .if1 .taken) (n .0) (equality-sized _ _ _ _), n .1)
 
 loop-holds : tie.Need-loop-holds Inv-loop μ-loop
 unfolding equality
@@ -37,7 +48,7 @@ shared-slice-read-same-place-2 : tie.Need-shared-slice-read-same-place-2 Inv-loo
 shared-slice-read-same-place-2 c = search needs
 
 ready : (c : tie.After-shared-slice-known4 Inv-loop μ-loop) → Ready (c .before .before .before .before .before .loop .net) 2
-ready c = ready-after 2 (c .before .before .before .before .before .loop .inv .1) (c .before .before .before .before .before .before .before .before .before .before .pre .0) (simp length-equality (omega arith))
+ready c = ready-after 2 (c .before .before .before .before .before .loop .inv .1) (c .before .before .before .before .before .before .before .before .before .before .before .before .pre .0) (simp length-equality (omega arith))
 
 same-place-requires : tie.Need-same-place-requires Inv-loop μ-loop
 same-place-requires c κs = ready c
@@ -66,9 +77,9 @@ same-length c = emitted-words-length (c .before .loop .inv .1)
 same-length-2 : tie.Need-same-length-2 Inv-loop μ-loop
 same-length-2 c = emitted-starts-length (c .before .loop .inv .1)
 
-returns : tie.Need-returns Inv-loop μ-loop
-returns c =
-    let e : c .before .loop .j ≡ length (now (c .before .before .before .before .before .before .args .a)) = omega arith in
+returns-2 : tie.Need-returns-2 Inv-loop μ-loop
+returns-2 c =
+    let e : c .before .loop .j ≡ length (now (c .before .before .before .before .before .before .before .before .args .a)) = omega arith in
     rw (← e) (c .before .loop .inv .1, c .before .loop .inv .2)
 
 pub equal-spec : {M : Type 1} → statement M
@@ -77,6 +88,9 @@ equal-spec =
     (tie.spec
     Inv-loop
     μ-loop
+    counts-requires
+    count-equal-requires
+    returns
     loop-holds
     mul-same-place
     shared-slice-read-same-place
@@ -90,4 +104,4 @@ equal-spec =
     loop-again
     same-length
     same-length-2
-    returns)
+    returns-2)

@@ -1,17 +1,29 @@
-use mathlib.Core.Path.{_≡_, refl, sym, ap}
+use mathlib.Core.Path.{_∙_, _≡_, ap, refl, sym}
 use Prim.Native.Nat.{_-_}
 use native.Mathlib.Omega.{arith}
 use denote.Ref.{now}
 use lib.ListN.{length, take}
 use borrow.Author.Needs.{needs}
-use Rattle.adders.proofs.Adder.{adder-cong}
+use Rattle.adders.proofs.Adder.{adder-cong, adder-sized}
 use Rattle.bits.proofs.Laws.{extended-bits, sized-length}
 use Rattle.relations.proofs.comparisons.less_signed.Statement.{statement}
 use Rattle.adders.specs.Adder.{oppBits}
 use Rattle.bits.specs.Bits.{litAt}
 use Rattle.relations.specs.Compare.{flipped}
 use Rattle.netlist.specs.Literal.{opp}
+use Rattle.netlist.proofs.Emitting.{emitted-counted}
 use Rattle.relations.proofs.comparisons.less_signed.Tie as tie
+
+counts-requires : tie.Need-counts-requires
+counts-requires c κs = search needs
+
+count-less-requires : tie.Need-count-less-requires
+count-less-requires c κs = search needs
+
+returns : tie.Need-returns
+returns c =
+    let n = c .count-less .ensures in
+    (emitted-counted _ _ (sym (c .before .before .counts .ensures) ∙ c .before .if1 .taken) (n .0) (adder-sized _ _ _ _ _), n .1)
 
 flip-top-requires : tie.Need-flip-top-requires
 flip-top-requires c κs = search needs
@@ -23,18 +35,18 @@ array-share-prefix-x : tie.Need-array-share-prefix-x
 array-share-prefix-x c = search needs
 
 slice-aggregate-less : tie.Need-slice-aggregate-less
-slice-aggregate-less c = let w = length (now (c .before .before .before .before .before .before .before .before .before .args .a)) in sym (sized-length _ (c .before .before .before .before .flip-top .ensures) w (omega arith))
+slice-aggregate-less c = let w = length (now (c .before .before .before .before .before .before .before .before .before .before .before .args .a)) in sym (sized-length _ (c .before .before .before .before .flip-top .ensures) w (omega arith))
 
 array-share-prefix-y : tie.Need-array-share-prefix-y
 array-share-prefix-y c = search needs
 
 slice-aggregate-less-2 : tie.Need-slice-aggregate-less-2
-slice-aggregate-less-2 c = let w = length (now (c .before .before .before .before .before .before .before .before .before .before .args .a)) in sym (sized-length _ (c .before .before .before .before .flip-top2 .ensures) w (omega arith))
+slice-aggregate-less-2 c = let w = length (now (c .before .before .before .before .before .before .before .before .before .before .before .before .args .a)) in sym (sized-length _ (c .before .before .before .before .flip-top2 .ensures) w (omega arith))
 
 less-requires : tie.Need-less-requires
 less-requires c κs =
-    let p = c .before .before .before .before .before .before .before .before .before .before .pre in
-    let w = length (now (c .before .before .before .before .before .before .before .before .before .before .args .a)) in
+    let p = c .before .before .before .before .before .before .before .before .before .before .before .before .pre in
+    let w = length (now (c .before .before .before .before .before .before .before .before .before .before .before .before .args .a)) in
     let x : length (take w (c .before .before .before .before .before .flip-top .result)) ≡ w = sized-length _ (c .before .before .before .before .before .flip-top .ensures) w (omega arith) in
     let y : length (take w (c .before .before .before .before .flip-top2 .result)) ≡ w = sized-length _ (c .before .before .before .before .flip-top2 .ensures) w (omega arith) in
     simp (x, y) (p .0, (refl, p .1 .1))
@@ -45,10 +57,10 @@ same-length c = search needs
 same-length-2 : tie.Need-same-length-2
 same-length-2 c = search needs
 
-returns : tie.Need-returns
-returns c =
-    let p = c .before .before .before .before .before .before .before .before .before .before .before .before .before .before .before .pre in
-    let a = c .before .before .before .before .before .before .before .before .before .before .before .before .before .before .before .args in
+returns-2 : tie.Need-returns-2
+returns-2 c =
+    let p = c .before .before .before .before .before .before .before .before .before .before .before .before .before .before .before .before .before .pre in
+    let a = c .before .before .before .before .before .before .before .before .before .before .before .before .before .before .before .before .before .args in
     let w = length (now (a .a)) in
     let f = c .before .before .before .before .before .before .before .before .before .before .flip-top .ensures in
     let h = c .before .before .before .before .before .before .before .before .before .flip-top2 .ensures in
@@ -63,6 +75,9 @@ pub less-signed-spec : {M : Type 1} → statement M
 less-signed-spec =
     tie.close
     (tie.spec
+    counts-requires
+    count-less-requires
+    returns
     flip-top-requires
     flip-top-requires-2
     array-share-prefix-x
@@ -72,4 +87,4 @@ less-signed-spec =
     less-requires
     same-length
     same-length-2
-    returns)
+    returns-2)
