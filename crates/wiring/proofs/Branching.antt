@@ -1,11 +1,12 @@
 -- The beginning and the end of an if, from what their parts made. Assumes nothing.
-use mathlib.Core.Path.{_≡_, ap, subst, _∙_}
+use mathlib.Core.Path.{_≡_, refl, ap, subst, _∙_}
 use mathlib.Core.List.{List, [], _∷_, _++_}
 use mathlib.Core.Bool.{Bool, true, false}
 use Prim.Native.Nat.{ℕ, zero, suc, _+_, _*_, _≤_}
 use native.Mathlib.Omega.{arith}
 use native.Mathlib.Numerals.{add-one}
-use lib.ListN.{length, take, drop, length-append}
+use lib.ListN.{length, take, drop, set, length-append}
+use lib.Seq.{sets, drop-set-lt}
 use lib.Dec.{eqb}
 use Rattle.header.specs.Header.{width}
 use Rattle.command.specs.Sound.{Fine}
@@ -19,17 +20,16 @@ use Rattle.netlist.proofs.Emitting.{emitted-then, ready-after}
 use Rattle.bits.specs.Bits.{litAt, tabulate}
 use Rattle.bits.specs.Extend.{extend}
 use Rattle.bits.proofs.Laws.{extended-table}
+use Rattle.bits.proofs.Values.{length-tabulate}
 use Rattle.relations.specs.Relation.{relNodes, relLit}
 use Rattle.circuits.specs.Join.{join, joinBit}
 use Rattle.relations.specs.declared.Test.{Test}
 use Rattle.circuits.proofs.Join.{length-join}
 use Rattle.relations.proofs.Relating.{relation-short}
-use Rattle.wiring.specs.Wires.{bitsIn}
+use Rattle.wiring.specs.Wires.{Wires, bitsIn}
 use Rattle.wiring.specs.Branch.{conditionNodes, conditionLit, armNodes, armLit, branchNodes, joinNodes, joinLits, joined}
-use Rattle.wiring.specs.Makes.{storing, Makes, Branched, joinedVariables}
+use Rattle.wiring.specs.Makes.{Makes, Branched}
 use Rattle.wiring.specs.declared.Claim.{Claim}
-use Rattle.wiring.specs.declared.Wires.{Wires}
-use Rattle.wiring.specs.declared.Made.{Made}
 use Rattle.wiring.proofs.Ranges.{ranged}
 
 -- ---- the beginning
@@ -92,37 +92,54 @@ module _ (bs : List ℕ) (h : Header) (fine : Fine bs h) (c : ℕ) (x y : List �
       let r = ranged bs h v fine (omega arith) in
       simp length-append (omega (arith, join-few v (omega arith), length-join c (bitsIn bs x v) (bitsIn bs y v) (width bs v), r .few))
 
--- one variable more
-module _ {W U W₁ U₁ W₂ U₂ : List ℕ} (n n₁ n₂ : Net) (bs : List ℕ) (c : ℕ) (x : Wires) (y : List ℕ) (v w : ℕ) (e : w ≡ width bs v)
-    (p : Emitted W U n (joinNodes bs c (x .lits) y v) W₁ U₁ n₁)
-    (q : Emitted W₁ U₁ n₁ (join c (litAt (take w (drop (32 * v) (x .lits)))) (litAt (take w (drop (32 * v) y))) w) W₂ U₂ n₂) where
-  pub variable-joined : Emitted W U n (joinNodes bs c (x .lits) y (v + 1)) W₂ U₂ n₂
+-- an overlay leaves what stands after it
+drop-sets : (vs l : List ℕ) (i k : ℕ) → i + length vs ≤ k → drop k (sets l i vs) ≡ drop k l
+drop-sets [] l i k h = refl
+drop-sets (v ∷ vs) l i k h = drop-sets vs (set l i v) (suc i) k (omega arith) ∙ drop-set-lt k l i v (omega arith)
+
+module _ (bs : List ℕ) (h : Header) (fine : Fine bs h) (g c : ℕ) (x y : List ℕ) where
+  -- the first v variables, joined in place, leave what stands after them
+  join-leaves : (v : ℕ) → v ≤ h .variables → (k : ℕ) → 32 * v ≤ k → drop k (joinLits bs g c x y v) ≡ drop k x
+  unfolding joinLits
+  join-leaves zero l k q = refl
+  join-leaves (suc v) l k q =
+      let r = ranged bs h v fine (omega arith) in
+      let f = joinBit (g + length (joinNodes bs c x y v)) c (bitsIn bs x v) (bitsIn bs y v) in
+      drop-sets (tabulate f (width bs v)) (joinLits bs g c x y v) (32 * v) k (omega (arith, length-tabulate f (width bs v), r .few))
+      ∙ join-leaves v (omega arith) k (omega arith)
+
+-- one variable more; the literals are l, in which the variables from v on are the first arm's still
+module _ {W U W₁ U₁ W₂ U₂ : List ℕ} (n n₁ n₂ : Net) (bs : List ℕ) (h : Header) (fine : Fine bs h) (c : ℕ) (x y l : List ℕ) (v w : ℕ) (few : v ≤ h .variables)
+    (e : w ≡ width bs v) (p : Emitted W U n (joinNodes bs c x y v) W₁ U₁ n₁) (a : l ≡ joinLits bs (n .next) c x y v)
+    (q : Emitted W₁ U₁ n₁ (join c (litAt (take w (drop (32 * v) l))) (litAt (take w (drop (32 * v) y))) w) W₂ U₂ n₂) where
+  unjoined : drop (32 * v) l ≡ drop (32 * v) x
+  unjoined = ap (drop (32 * v)) a ∙ join-leaves bs h fine (n .next) c x y v few (32 * v) (omega arith)
+
+  pub variable-joined : Emitted W U n (joinNodes bs c x y (v + 1)) W₂ U₂ n₂
   unfolding joinNodes
   variable-joined =
       rw (add-one v)
-      (subst (λ (ns : List Node). Emitted W U n (joinNodes bs c (x .lits) y v ++ ns) W₂ U₂ n₂)
-      (λ i. join c (litAt (take (e i) (drop (32 * v) (x .lits)))) (litAt (take (e i) (drop (32 * v) y))) (e i)) (emitted-then p q))
+      (subst (λ (ns : List Node). Emitted W U n (joinNodes bs c x y v ++ ns) W₂ U₂ n₂)
+      (λ i. join c (litAt (take (e i) (unjoined i))) (litAt (take (e i) (drop (32 * v) y))) (e i)) (emitted-then p q))
 
-  pub variable-wired : (s s₁ : Wires) (bits : List ℕ)
-      → s ≡ record { lits = joinLits bs (n .next) c (x .lits) y v; arrival = x .arrival; claim = x .claim }
-      → bits ≡ tabulate (extend (joinBit (n₁ .next) c (litAt (take w (drop (32 * v) (x .lits)))) (litAt (take w (drop (32 * v) y)))) w 3) 32
-      → w ≤ 32 → s₁ ≡ storing s v (take w bits)
-      → s₁ ≡ record { lits = joinLits bs (n .next) c (x .lits) y (v + 1); arrival = x .arrival; claim = x .claim }
+  pub variable-wired : (l₁ bits : List ℕ)
+      → bits ≡ tabulate (extend (joinBit (n₁ .next) c (litAt (take w (drop (32 * v) l))) (litAt (take w (drop (32 * v) y)))) w 3) 32
+      → w ≤ 32 → l₁ ≡ sets l (32 * v) (take w bits) → l₁ ≡ joinLits bs (n .next) c x y (v + 1)
   unfolding joinLits
-  variable-wired s s₁ bits a f l b =
+  variable-wired l₁ bits f s b =
       rw (add-one v)
-      (b ∙ ap (storing s v) (extended-table _ w 3 f l)
-      ∙ (λ i. storing (a i) v (tabulate (joinBit (p .next i) c (litAt (take (e i) (drop (32 * v) (x .lits)))) (litAt (take (e i) (drop (32 * v) y)))) (e i))))
+      (b ∙ ap (sets l (32 * v)) (extended-table _ w 3 f s)
+      ∙ (λ i. sets (a i) (32 * v) (tabulate (joinBit (p .next i) c (litAt (take (e i) (unjoined i))) (litAt (take (e i) (drop (32 * v) y)))) (e i))))
 
 -- all variables, then arrival
-pub arms-joined : {W U W₁ U₁ W₂ U₂ : List ℕ} {n n₂ : Net} (bs : List ℕ) (h : Header) (c : ℕ) (x y : Wires) (m : Made) (a b : ℕ)
-    → Makes W U n (joinedVariables bs (n .next) c x y (h .variables)) W₁ U₁ m → a ≡ opp (x .arrival) → b ≡ opp (y .arrival)
-    → Emitted W₁ U₁ (m .net) (and a b ∷ []) W₂ U₂ n₂
-    → Makes W U n (joined bs h (n .next) c x y) W₂ U₂ (record { net = n₂; wires = record { lits = m .wires .lits; arrival = 2 * m .net .next + 1; claim = Claim.Open } })
+pub arms-joined : {W U W₁ U₁ W₂ U₂ : List ℕ} {n n₁ n₂ : Net} (bs : List ℕ) (h : Header) (c : ℕ) (x y : Wires) (l : List ℕ) (a b : ℕ)
+    → Emitted W U n (joinNodes bs c (x .lits) (y .lits) (h .variables)) W₁ U₁ n₁ → l ≡ joinLits bs (n .next) c (x .lits) (y .lits) (h .variables)
+    → a ≡ opp (x .arrival) → b ≡ opp (y .arrival) → Emitted W₁ U₁ n₁ (and a b ∷ []) W₂ U₂ n₂
+    → Makes W U n (joined bs h (n .next) c x y) W₂ U₂ l (record { net = n₂; reach = record { arrival = 2 * n₁ .next + 1; claim = Claim.Open } })
 unfolding joined
-arms-joined {W} {U} {W₂ = W₂} {U₂ = U₂} {n} {n₂} bs h c x y m a b p e f q = record {
+arms-joined {W} {U} {W₂ = W₂} {U₂ = U₂} {n} {n₂ = n₂} bs h c x y l a b p s e f q = record {
   emitted =
       subst (λ (ns : List Node). Emitted W U n (joinNodes bs c (x .lits) (y .lits) (h .variables) ++ ns) W₂ U₂ n₂) (λ i. and (e i) (f i) ∷ [])
-      (emitted-then (p .emitted) q);
-  wires = λ i. record { lits = p .wires i .lits; arrival = neg (p .emitted .next i); claim = Claim.Open };
+      (emitted-then p q);
+  wires = λ i. record { lits = s i; arrival = neg (p .next i); claim = Claim.Open };
 }

@@ -5,6 +5,7 @@ use mathlib.Core.Bool.{Bool, true, false, cond}
 use Prim.Native.Nat.{ℕ, _+_, _*_, _≤_}
 use native.Mathlib.Omega.{arith}
 use lib.ListN.{length, take, drop, length-append}
+use lib.Seq.{sets}
 use lib.Dec.{eqb}
 use borrow.Author.Tests.{eq-eqb, ne-eqb}
 use Rattle.header.specs.Header.{width, arraySize}
@@ -19,26 +20,25 @@ use Rattle.bits.specs.Input.{inBit, TakesInputs}
 use Rattle.bits.proofs.Laws.{sized-table}
 use Rattle.relations.specs.Access.{aboveNodes}
 use Rattle.relations.proofs.Access.{above-short}
-use Rattle.wiring.specs.Wires.{bitsOf, put, arriving, claiming, isMade}
+use Rattle.wiring.specs.Wires.{Wires, wiresOf, bitsIn, bitsPut, bitsOf, put, arriving, claiming, isMade}
 use Rattle.wiring.specs.Command.{Stretch, after, still, claimed, passed, readInto, simple}
 use Rattle.operands.specs.Operation.{computeNodes, claimNodes, claimLit, accessNodes, accessArrival}
-use Rattle.wiring.specs.Makes.{storing, accessOf, Makes}
+use Rattle.wiring.specs.Makes.{accessOf, Makes}
 use Rattle.lead.specs.declared.Target.{Target}
-use Rattle.wiring.specs.declared.Wires.{Wires}
 use Rattle.wiring.specs.declared.Made.{Made}
 use Rattle.command.proofs.Tests.{not-both}
 
 -- the first w places of an array were stored for variable d
-pub stored : (bs : List ℕ) (s : Wires) (d : ℕ) {r : List ℕ} (f : Bits) (x : Wires) (w : ℕ) → x ≡ storing s d (take w r) → w ≡ width bs d
-    → r ≡ tabulate f 32 → width bs d ≤ 32 → x ≡ put bs s d f
-stored bs s d {r} f x w e q p l = e ∙ ap (λ (i : ℕ). storing s d (take i r)) q ∙ ap (storing s d) (sized-table f p (width bs d) l)
+pub stored : (bs l : List ℕ) (d : ℕ) {r : List ℕ} (f : Bits) (l₁ : List ℕ) (w : ℕ) → l₁ ≡ sets l (32 * d) (take w r) → w ≡ width bs d
+    → r ≡ tabulate f 32 → width bs d ≤ 32 → l₁ ≡ bitsPut bs l d f
+stored bs l d {r} f l₁ w e q p h = e ∙ ap (λ (i : ℕ). sets l (32 * d) (take i r)) q ∙ ap (sets l (32 * d)) (sized-table f p (width bs d) h)
 
 -- operands of one width
-pub computed-at : (bs : List ℕ) (s : Wires) (op d a b g : ℕ) (w : ℕ) → w ≡ width bs d → width bs d ≡ width bs a → width bs d ≡ width bs b
-    → computeNodes op g (litAt (take w (drop (32 * a) (s .lits)))) (litAt (take w (drop (32 * b) (s .lits)))) w
-    ≡ computeNodes op g (bitsOf bs s a) (bitsOf bs s b) (width bs d)
-computed-at bs s op d a b g w e x y =
-    λ i. computeNodes op g (litAt (take ((e ∙ x) i) (drop (32 * a) (s .lits)))) (litAt (take ((e ∙ y) i) (drop (32 * b) (s .lits)))) (e i)
+pub computed-at : (bs l : List ℕ) (op d a b g : ℕ) (w : ℕ) → w ≡ width bs d → width bs d ≡ width bs a → width bs d ≡ width bs b
+    → computeNodes op g (litAt (take w (drop (32 * a) l))) (litAt (take w (drop (32 * b) l))) w
+    ≡ computeNodes op g (bitsIn bs l a) (bitsIn bs l b) (width bs d)
+computed-at bs l op d a b g w e x y =
+    λ i. computeNodes op g (litAt (take ((e ∙ x) i) (drop (32 * a) l))) (litAt (take ((e ∙ y) i) (drop (32 * b) l))) (e i)
 
 module _ (bs : List ℕ) (h : Header) (t : Target) (g array i : ℕ) (k : Counts) (s : Wires) where
   -- the named access, read with its width and its size
@@ -135,14 +135,15 @@ module _ (bs : List ℕ) (h : Header) (t : Target) (g array i : ℕ) (k : Counts
       pick false e = refl
 
 -- the same buffers by an equal stretch
-pub makes-as : {w u w₁ u₁ : List ℕ} {n : Net} {x y : Stretch} {r : Made} → x ≡ y → Makes w u n x w₁ u₁ r → Makes w u n y w₁ u₁ r
-makes-as {w} {u} {w₁} {u₁} {n} {x} {y} {r} e m = subst (λ (z : Stretch). Makes w u n z w₁ u₁ r) e m
+pub makes-as : {w u w₁ u₁ l₁ : List ℕ} {n : Net} {x y : Stretch} {r : Made} → x ≡ y → Makes w u n x w₁ u₁ l₁ r → Makes w u n y w₁ u₁ l₁ r
+makes-as {w} {u} {w₁} {u₁} {l₁} {n} {x} {y} {r} e m = subst (λ (z : Stretch). Makes w u n z w₁ u₁ l₁ r) e m
 
 -- an access, and then the bits of a read
-pub read-makes : {w u w₁ u₁ : List ℕ} {n : Net} {x : Stretch} {m r : Made} (bs : List ℕ) (h : Header) (d : ℕ) (k : Counts)
-    → Makes w u n x w₁ u₁ m → (wd : ℕ) → wd ≡ width bs d → TakesInputs (m .net) wd (r .net) → r .wires ≡ put bs (m .wires) d (inBit (m .net .next))
-    → Makes w u n (after (x .nodes) (readInto bs h d k (n .next + length (x .nodes)) (x .wires))) w₁ u₁ r
-read-makes {w₁ = w₁} {u₁ = u₁} {n = n} {x = x} {m} {r} bs h d k p wd e q z = record {
+pub read-makes : {w u w₁ u₁ l₁ : List ℕ} {n : Net} {x : Stretch} {m : Made} (bs : List ℕ) (h : Header) (d : ℕ) (k : Counts)
+    → Makes w u n x w₁ u₁ l₁ m → (wd : ℕ) → wd ≡ width bs d → (n₁ : Net) → TakesInputs (m .net) wd n₁
+    → (l₂ : List ℕ) → l₂ ≡ bitsPut bs l₁ d (inBit (m .net .next))
+    → Makes w u n (after (x .nodes) (readInto bs h d k (n .next + length (x .nodes)) (x .wires))) w₁ u₁ l₂ (record { net = n₁; reach = m .reach })
+read-makes {w₁ = w₁} {u₁ = u₁} {n = n} {x = x} {m} bs h d k p wd e n₁ q l₂ z = record {
   emitted = emitted-then (p .emitted) (rw e at (q .tells w₁ u₁ (h .parameters + k .reads)));
-  wires = z ∙ (λ j. put bs (p .wires j) d (inBit (p .emitted .next j)));
+  wires = ap (λ (l : List ℕ). wiresOf l (m .reach)) z ∙ (λ j. put bs (p .wires j) d (inBit (p .emitted .next j)));
 }

@@ -11,10 +11,9 @@ use Rattle.netlist.specs.Literal.{opp, pos, neg}
 use Rattle.netlist.specs.Node.{Node, and}
 use Rattle.relations.specs.Relation.{relNodes, relLit}
 use Rattle.circuits.specs.Join.{join, joinBit}
-use Rattle.wiring.specs.Wires.{bitsIn, bitsPut, bitsOf}
+use Rattle.wiring.specs.Wires.{Wires, bitsIn, bitsPut, bitsOf}
 use Rattle.wiring.specs.Command.{Stretch}
 use Rattle.wiring.specs.declared.Claim.{Claim}
-use Rattle.wiring.specs.declared.Wires.{Wires}
 
 -- the gates of an if's condition
 abbrev pub conditionNodes : List ℕ → (g : ℕ) → Condition → Wires → List Node

@@ -14,8 +14,7 @@ use Rattle.bits.specs.Extend.{constBit}
 use Rattle.bits.specs.Input.{inputs, inBit}
 use Rattle.lead.specs.declared.Target.{Target}
 use Rattle.operands.specs.Operation.{convertBits, computeNodes, computeBits, accessNodes, accessArrival, claimNodes, claimLit}
-use Rattle.wiring.specs.Wires.{bitsOf, put, arriving, claiming}
-use Rattle.wiring.specs.declared.Wires.{Wires}
+use Rattle.wiring.specs.Wires.{Wires, bitsOf, put, arriving, claiming}
 
 -- a stretch of a translation: the nodes that it makes, and the wires that it leaves
 pub record Stretch : Type 0 where

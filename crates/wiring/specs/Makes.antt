@@ -1,10 +1,9 @@
 -- What the makers of a command, and of an if's beginning and end, tell.
-use Prim.Native.Nat.{ℕ, _+_, _*_}
+use Prim.Native.Nat.{ℕ, _+_}
 use mathlib.Core.Path.{_≡_}
 use mathlib.Core.List.{List, _++_}
 use mathlib.Core.Bool.{cond}
 use lib.ListN.{length}
-use lib.Seq.{sets}
 use lib.Dec.{eqb}
 use Rattle.header.specs.declared.Header.{Header}
 use Rattle.command.specs.Step.{accesses}
@@ -12,21 +11,17 @@ use Rattle.command.specs.declared.Condition.{Condition}
 use Rattle.command.specs.declared.Counts.{Counts}
 use Rattle.netlist.specs.Emit.{Emitted}
 use Rattle.netlist.specs.declared.Net.{Net}
+use Rattle.wiring.specs.Wires.{Wires, wiresOf}
 use Rattle.wiring.specs.Command.{Stretch, claimed, passed}
-use Rattle.wiring.specs.Branch.{conditionNodes, conditionLit, branchNodes, firstLit, elseLit, joinNodes, joinLits}
+use Rattle.wiring.specs.Branch.{conditionNodes, conditionLit, branchNodes, firstLit, elseLit}
 use Rattle.lead.specs.declared.Target.{Target}
-use Rattle.wiring.specs.declared.Wires.{Wires}
 use Rattle.wiring.specs.declared.Made.{Made}
 use Rattle.wiring.specs.declared.Branches.{Branches}
 
--- the wires with these literals from the place of variable v on
-abbrev pub storing : Wires → (v : ℕ) → (vs : List ℕ) → Wires
-storing s v vs = record { lits = sets (s .lits) (32 * v) vs; arrival = s .arrival; claim = s .claim }
-
--- the buffers w and u became w₁ and u₁ by the stretch x
-pub record Makes (w u : List ℕ) (n : Net) (x : Stretch) (w₁ u₁ : List ℕ) (r : Made) : Type 0 where
+-- the buffers w and u became w₁ and u₁ by the stretch x, and the literals became l₁
+pub record Makes (w u : List ℕ) (n : Net) (x : Stretch) (w₁ u₁ l₁ : List ℕ) (r : Made) : Type 0 where
   pub emitted : Emitted w u n (x .nodes) w₁ u₁ (r .net)
-  pub wires : r .wires ≡ x .wires
+  pub wires : wiresOf l₁ (r .reach) ≡ x .wires
 
 -- an access by itself
 abbrev pub accessOf : List ℕ → Header → Target → (g array i : ℕ) → Counts → Wires → Stretch
@@ -38,11 +33,3 @@ pub record Branched (bs : List ℕ) (w u : List ℕ) (n : Net) (c : Condition) (
   pub condition : r .condition ≡ conditionLit bs (n .next) c
   pub first : r .first ≡ firstLit d (n .next + length (conditionNodes bs (n .next) c s))
   pub second : r .second ≡ elseLit d (n .next + length (conditionNodes bs (n .next) c s)) (s .arrival) (conditionLit bs (n .next) c)
-
--- the first n variables joined; arrival and claim are the first arm's still
-abbrev pub joinedVariables : List ℕ → (g c : ℕ) → (x y : Wires) → (n : ℕ) → Stretch
-joinedVariables bs g c x y n =
-    record {
-      nodes = joinNodes bs c (x .lits) (y .lits) n;
-      wires = record { lits = joinLits bs g c (x .lits) (y .lits) n; arrival = x .arrival; claim = x .claim };
-    }

@@ -2,8 +2,8 @@
 use crate::Branches;
 use crate::Claim;
 use crate::Made;
-use crate::Wires;
-use crate::literals::with_bits;
+use crate::Reach;
+use crate::literals::store_bits;
 use command::Condition;
 use header::Header;
 use header::width_of;
@@ -14,11 +14,12 @@ use operands::operations::condition;
 use operands::operations::join_variable;
 use relations::Test;
 ghost use mathlib.Core.Path.{_≡_};
-ghost use Prim.Native.Nat.{_<_};
+ghost use lib.ListN.{length};
 ghost use Rattle.command.specs.Sound.{SoundIf, Fine};
 ghost use Rattle.netlist.specs.Emit.{Emitted, Ready};
-ghost use Rattle.wiring.specs.Branch.{armNodes, armLit, joined};
-ghost use Rattle.wiring.specs.Makes.{Makes, Branched, joinedVariables};
+ghost use Rattle.wiring.specs.Wires.{wiresOf};
+ghost use Rattle.wiring.specs.Branch.{armNodes, armLit, joinNodes, joinLits, joined};
+ghost use Rattle.wiring.specs.Makes.{Makes, Branched};
 
 // The arrival of an arm: 3, without a gate, if the other arm was decided.
 fn arm_arrival(
@@ -45,20 +46,21 @@ fn arm_arrival(
 pub fn branch(
     words: &mut [u32],
     starts: &mut [u32],
+    lits: &[u32],
     n: Net,
     bytes: &[u8],
     h: Header,
     c: Condition,
     d: u8,
-    s: Wires,
+    s: Reach,
 ) -> Branches
     requires { ⌜ Ready n 8192 ⌝ }
+    requires { ⌜ length (now lits) ≡ 1024 ⌝ }
     requires { ⌜ SoundIf (now bytes) h c × Fine (now bytes) h ⌝ }
-    ensures { λ r. ⌜ Branched (now (bytes .entry)) (now (words .entry)) (now (starts .entry)) n c d s (now (words .exit)) (now (starts .exit)) r ⌝ }
+    ensures { λ r. ⌜ Branched (now (bytes .entry)) (now (words .entry)) (now (starts .entry)) n c d (wiresOf (now (lits .entry)) s) (now (words .exit)) (now (starts .exit)) r ⌝ }
 {
-    let lits = s.lits;
     let w = width_of(bytes, c.s) as usize;
-    let test = condition(words, starts, n, &lits, c, w);
+    let test = condition(words, starts, n, lits, c, w);
     let n1 = test.net;
     let holds = test.lit;
     let x = arm_arrival(words, starts, n1, d == 1, s.arrival, holds);
@@ -74,66 +76,61 @@ pub fn branch(
     }
 }
 
-// The variables joined one by one, in the place of the first arm's.
+// The variables joined one by one, in the place of the first arm's; the else's are `other`.
 fn join_variables(
     words: &mut [u32],
     starts: &mut [u32],
+    lits: &mut [u32],
     n: Net,
     bytes: &[u8],
     h: Header,
     c: u32,
-    x: Wires,
-    y: Wires,
-) -> Made
+    other: &[u32],
+) -> Net
     requires { ⌜ Ready n 2048 ⌝ }
+    requires { ⌜ (length (now lits) ≡ 1024) × (length (now other) ≡ 1024) ⌝ }
     requires { ⌜ Fine (now bytes) h ⌝ }
-    ensures { λ r. ⌜ Makes (now (words .entry)) (now (starts .entry)) n (joinedVariables (now (bytes .entry)) (n .next) c x y (h .variables)) (now (words .exit)) (now (starts .exit)) r ⌝ }
+    ensures { λ r. ⌜ Emitted (now (words .entry)) (now (starts .entry)) n (joinNodes (now (bytes .entry)) c (now (lits .entry)) (now (other .entry)) (h .variables)) (now (words .exit)) (now (starts .exit)) r ⌝ }
+    ensures { λ _. ⌜ now (lits .exit) ≡ joinLits (now (bytes .entry)) (n .next) c (now (lits .entry)) (now (other .entry)) (h .variables) ⌝ }
 {
-    let first = x.lits;
-    let second = y.lits;
     let mut net = n;
-    let mut wires = x;
     let mut v = 0;
     while v < h.variables {
         let w = width_of(bytes, v) as usize;
-        let r = join_variable(words, starts, net, c, &first, &second, v, w);
+        let r = join_variable(words, starts, net, c, lits, other, v, w);
         let next = r.net;
         net = next;
         let bits = r.bits;
-        wires = with_bits(wires, v, &bits, w);
+        store_bits(lits, v, &bits, w);
         v += 1;
     }
-    Made { net, wires }
+    net
 }
 
-// The end of an if: the variables, then arrival.
+// The end of an if: the variables, then arrival. The first arm left lits and x, the else left other and y.
 pub fn join_arms(
     words: &mut [u32],
     starts: &mut [u32],
+    lits: &mut [u32],
     n: Net,
     bytes: &[u8],
     h: Header,
     c: u32,
-    x: Wires,
-    y: Wires,
+    x: Reach,
+    other: &[u32],
+    y: Reach,
 ) -> Made
     requires { ⌜ Ready n 8192 ⌝ }
+    requires { ⌜ (length (now lits) ≡ 1024) × (length (now other) ≡ 1024) ⌝ }
     requires { ⌜ Fine (now bytes) h ⌝ }
-    ensures { λ r. ⌜ Makes (now (words .entry)) (now (starts .entry)) n (joined (now (bytes .entry)) h (n .next) c x y) (now (words .exit)) (now (starts .exit)) r ⌝ }
+    ensures { λ r. ⌜ Makes (now (words .entry)) (now (starts .entry)) n (joined (now (bytes .entry)) h (n .next) c (wiresOf (now (lits .entry)) x) (wiresOf (now (other .entry)) y)) (now (words .exit)) (now (starts .exit)) (now (lits .exit)) r ⌝ }
 {
-    let m = join_variables(words, starts, n, bytes, h, c, x, y);
-    let n1 = m.net;
-    let wires = m.wires;
-    let lits = wires.lits;
+    let n1 = join_variables(words, starts, lits, n, bytes, h, c, other);
     let a = opposite(x.arrival);
     let b = opposite(y.arrival);
     let arrival = 2 * n1.next + 1;
     let net = and_gate(words, starts, n1, a, b);
     let claim = Claim::Open;
-    let wires = Wires {
-        lits,
-        arrival,
-        claim,
-    };
-    Made { net, wires }
+    let reach = Reach { arrival, claim };
+    Made { net, reach }
 }

@@ -1,4 +1,5 @@
-// The wires of a translation: the literals of the variables' bits, what a command makes of them, and the beginning and the end of an if.
+// The wires of a translation: the literals of the variables' bits, what a command makes of them, and the beginning and the end of an if. The literals
+// are lent: 32 places a variable, the lowest bit first.
 pub mod branchings;
 pub mod commands;
 pub mod literals;
@@ -11,17 +12,16 @@ pub enum Claim {
     Made { arrival: u32, side: u32 },
 }
 
-// The state of a translation: a literal for each bit of each variable, 32 places a variable; arrival; the claim.
-pub struct Wires {
-    pub lits: [u32; 1024],
+// What a translation carries beside the literals: arrival, and the claim.
+pub struct Reach {
     pub arrival: u32,
     pub claim: Claim,
 }
 
-// What a command made: what is emitted, and the wires.
+// What a command made: what is emitted, arrival and the claim.
 pub struct Made {
     pub net: Net,
-    pub wires: Wires,
+    pub reach: Reach,
 }
 
 // The beginning of an if: what is emitted, the literal of its condition, and the arrivals of its arms.

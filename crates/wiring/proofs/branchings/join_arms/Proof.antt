@@ -1,13 +1,16 @@
-use native.Mathlib.Omega.{arith}
-use denote.Ref.{now}
 use Rattle.netlist.proofs.Emitting.{ready-after, ready-weaken}
 use Rattle.wiring.proofs.Branching.{join-few, arms-joined}
+use Rattle.wiring.specs.Wires.{wiresOf}
 use borrow.Author.Needs.{needs}
+use native.Mathlib.Omega.{arith}
+use denote.Ref.{now}
 use Rattle.wiring.proofs.branchings.join_arms.Statement.{statement}
 use Rattle.wiring.proofs.branchings.join_arms.Tie as tie
 
 join-variables-requires : tie.Need-join-variables-requires
-join-variables-requires c κs = search needs
+join-variables-requires c κs = let a = c .before .before .before .before .before .before .before .before .args in
+    let p = c .before .before .before .before .before .before .before .before .pre in
+    (ready-weaken (omega arith) (p .0), (p .1 .0, p .1 .1))
 
 opposite-requires : tie.Need-opposite-requires
 opposite-requires c κs = search needs
@@ -16,19 +19,19 @@ opposite-requires-2 : tie.Need-opposite-requires-2
 opposite-requires-2 c κs = search needs
 
 mul-arrival : tie.Need-mul-arrival
-mul-arrival c = let a = c .before .before .before .before .before .before .before .before .before .before .before .before .before .before .before .before .args in
-    let p = c .before .before .before .before .before .before .before .before .before .before .before .before .before .before .before .before .pre in
-    omega (arith, ready-after 2 (c .before .before .before .before .before .before .before .before .before .before .join-variables .ensures .emitted) (p .0) (omega (arith, join-few (now (a .bytes)) (a .h) (p .1) (a .c) (a .x .lits) (a .y .lits) (a .h .variables) (omega arith), p .1 .few)) .next)
+mul-arrival c = let a = c .before .before .before .before .before .before .before .before .before .before .before .before .before .before .before .before .before .before .args in
+    let p = c .before .before .before .before .before .before .before .before .before .before .before .before .before .before .before .before .before .before .pre in
+    omega (arith, ready-after 2 (c .before .before .before .before .before .before .before .before .before .join-variables .ensures .0) (p .0) (omega (arith, join-few (now (a .bytes)) (a .h) (p .1 .1) (a .c) (now (a .lits)) (now (a .other)) (a .h .variables) (omega arith), p .1 .1 .few)) .next)
 
 add-arrival : tie.Need-add-arrival
-add-arrival c = let a = c .before .before .before .before .before .before .before .before .before .before .before .before .before .before .before .before .args in
-    let p = c .before .before .before .before .before .before .before .before .before .before .before .before .before .before .before .before .pre in
-    omega (arith, ready-after 2 (c .before .before .before .before .before .before .before .before .before .before .join-variables .ensures .emitted) (p .0) (omega (arith, join-few (now (a .bytes)) (a .h) (p .1) (a .c) (a .x .lits) (a .y .lits) (a .h .variables) (omega arith), p .1 .few)) .next)
+add-arrival c = let a = c .before .before .before .before .before .before .before .before .before .before .before .before .before .before .before .before .before .before .args in
+    let p = c .before .before .before .before .before .before .before .before .before .before .before .before .before .before .before .before .before .before .pre in
+    omega (arith, ready-after 2 (c .before .before .before .before .before .before .before .before .before .join-variables .ensures .0) (p .0) (omega (arith, join-few (now (a .bytes)) (a .h) (p .1 .1) (a .c) (now (a .lits)) (now (a .other)) (a .h .variables) (omega arith), p .1 .1 .few)) .next)
 
 and-gate-requires : tie.Need-and-gate-requires
-and-gate-requires c κs = let a = c .before .before .before .before .before .before .before .before .before .before .before .before .before .before .before .before .before .before .args in
-    let p = c .before .before .before .before .before .before .before .before .before .before .before .before .before .before .before .before .before .before .pre in
-    ready-weaken (omega arith) (ready-after 2 (c .before .before .before .before .before .before .before .before .before .before .before .before .join-variables .ensures .emitted) (p .0) (omega (arith, join-few (now (a .bytes)) (a .h) (p .1) (a .c) (a .x .lits) (a .y .lits) (a .h .variables) (omega arith), p .1 .few)))
+and-gate-requires c κs = let a = c .before .before .before .before .before .before .before .before .before .before .before .before .before .before .before .before .before .before .before .before .args in
+    let p = c .before .before .before .before .before .before .before .before .before .before .before .before .before .before .before .before .before .before .before .before .pre in
+    ready-weaken (omega arith) (ready-after 2 (c .before .before .before .before .before .before .before .before .before .before .before .join-variables .ensures .0) (p .0) (omega (arith, join-few (now (a .bytes)) (a .h) (p .1 .1) (a .c) (now (a .lits)) (now (a .other)) (a .h .variables) (omega arith), p .1 .1 .few)))
 
 same-length : tie.Need-same-length
 same-length c = search needs
@@ -36,11 +39,13 @@ same-length c = search needs
 same-length-2 : tie.Need-same-length-2
 same-length-2 c = search needs
 
+same-length-3 : tie.Need-same-length-3
+same-length-3 c = search needs
+
 returns : tie.Need-returns
-returns c = let a = c .before .before .before .before .before .before .before .before .before .before .before .before .before .before .before .before .before .before .before .before .before .before .before .args in
-    let p = c .before .before .before .before .before .before .before .before .before .before .before .before .before .before .before .before .before .before .before .before .before .before .before .pre in
-    arms-joined (now (a .bytes)) (a .h) (a .c) (a .x) (a .y) (c .before .before .before .before .before .before .before .before .before .before .before .before .before .before .before .before .before .join-variables .result) _ _ (c .before .before .before .before .before .before .before .before .before .before .before .before .before .before .before .before .before .join-variables .ensures) (c .before .before .before .before .before .before .before .before .before .opposite .ensures)
-    (c .before .before .before .before .before .before .before .before .opposite2 .ensures) (c .before .before .before .before .and-gate .ensures)
+returns c = let a = c .before .before .before .before .before .before .before .before .before .before .before .before .before .before .before .before .before .before .before .before .before .before .before .before .before .args in
+    arms-joined (now (a .bytes)) (a .h) (a .c) (wiresOf (now (a .lits)) (a .x)) (wiresOf (now (a .other)) (a .y)) _ _ _ (c .before .before .before .before .before .before .before .before .before .before .before .before .before .before .before .before .join-variables .ensures .0) (c .before .before .before .before .before .before .before .before .before .before .before .before .before .before .before .before .join-variables .ensures .1)
+    (c .before .before .before .before .before .before .before .before .before .opposite .ensures) (c .before .before .before .before .before .before .before .before .opposite2 .ensures) (c .before .before .before .before .and-gate .ensures)
 
 pub join-arms-spec : {M : Type 1} → statement M
 join-arms-spec =
@@ -54,4 +59,5 @@ join-arms-spec =
     and-gate-requires
     same-length
     same-length-2
+    same-length-3
     returns)

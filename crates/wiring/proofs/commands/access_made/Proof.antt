@@ -1,14 +1,14 @@
 use mathlib.Core.Path.{sym, _∙_}
-use native.Mathlib.Omega.{arith}
-use denote.Ref.{now}
+use Rattle.netlist.proofs.Emitting.{ready-weaken}
 use Rattle.wiring.proofs.Ranges.{ranged}
 use Rattle.wiring.proofs.Commanding.{claim-at, pass-at, makes-as}
-use Rattle.wiring.specs.Wires.{arriving}
+use Rattle.wiring.specs.Wires.{wiresOf, reaching}
 use Rattle.wiring.specs.declared.Claim.{Claim}
 use borrow.Author.Needs.{needs}
+use native.Mathlib.Omega.{arith}
+use denote.Ref.{now}
 use Rattle.wiring.proofs.commands.access_made.Statement.{statement}
 use Rattle.wiring.proofs.commands.access_made.Tie as tie
-use Rattle.netlist.proofs.Emitting.{ready-weaken}
 
 width-of-requires : tie.Need-width-of-requires
 width-of-requires c κs = search needs
@@ -25,15 +25,12 @@ accesses-of-requires c κs = search needs
 wide-requires : tie.Need-wide-requires
 wide-requires c κs = search needs
 
-slice-aggregate-claim-access : tie.Need-slice-aggregate-claim-access
-slice-aggregate-claim-access c = search (needs, c .before .before .before .before .before .before .before .before .before .before .before .before .good .1 .1 .1 .1 .1 .1 .1 .1 .1)
-
 claim-access-requires : tie.Need-claim-access-requires
-claim-access-requires c κs = let a = c .before .before .before .before .before .before .before .before .before .before .before .before .args in
-    let p = c .before .before .before .before .before .before .before .before .before .before .before .before .pre in
-    let r = ranged (now (a .bytes)) (a .h) (a .i) (p .1 .1) (p .1 .0) in
-    let e = c .before .before .before .before .before .before .before .width-of .ensures in
-    (ready-weaken (omega arith) (p .0), (search (needs, c .before .before .before .before .before .before .before .before .before .before .before .before .good .1 .1 .1 .1 .1 .1 .1 .1 .1), (r .variable, omega (arith, r .some, e), omega (arith, r .few, e))))
+claim-access-requires c κs = let a = c .before .before .before .before .before .before .before .before .before .before .before .args in
+    let p = c .before .before .before .before .before .before .before .before .before .before .before .pre in
+    let r = ranged (now (a .bytes)) (a .h) (a .i) (p .1 .1 .1) (p .1 .1 .0) in
+    let e = c .before .before .before .before .before .before .width-of .ensures in
+    (ready-weaken (omega arith) (p .0), (p .1 .0, (r .variable, omega (arith, r .some, e), omega (arith, r .few, e))))
 
 same-length : tie.Need-same-length
 same-length c = search needs
@@ -42,22 +39,18 @@ same-length-2 : tie.Need-same-length-2
 same-length-2 c = search needs
 
 returns : tie.Need-returns
-returns c = let a = c .before .before .before .before .before .before .before .before .before .before .before .before .before .before .before .before .before .before .args in
-    let p = c .before .before .before .before .before .before .before .before .before .before .before .before .before .before .before .before .before .before .pre in
+returns c = let a = c .before .before .before .before .before .before .before .before .before .before .before .before .before .before .before .before .before .args in
     let m = c .before .before .before .before .before .claim-access .ensures in
-    makes-as (claim-at (now (a .bytes)) (a .h) (a .t) (a .n .next) (a .array) (a .i) (a .k) (a .s) _ _ (c .before .before .before .before .before .before .before .before .before .before .before .before .before .width-of .ensures) (c .before .before .before .before .before .before .before .before .before .before .before .before .size-of-array .ensures)
-    (sym (c .before .before .before .before .before .before .before .before .before .before .before .accesses-of .ensures) ∙ c .before .before .before .before .before .before .before .before .before .if1 .taken ∙ c .before .before .before .before .before .before .before .before .before .before .wide .ensures))
-    (record { emitted = m .0; wires = λ j. record { lits = a .s .lits; arrival = a .s .arrival; claim = Claim.Made (a .s .arrival) (m .1 j) } })
-
-slice-aggregate-pass-access : tie.Need-slice-aggregate-pass-access
-slice-aggregate-pass-access c = search (needs, c .before .before .before .before .before .before .before .before .before .before .before .before .good .1 .1 .1 .1 .1 .1 .1 .1 .1)
+    makes-as (claim-at (now (a .bytes)) (a .h) (a .t) (a .n .next) (a .array) (a .i) (a .k) (wiresOf (now (a .lits)) (a .s)) _ _ (c .before .before .before .before .before .before .before .before .before .before .before .before .width-of .ensures) (c .before .before .before .before .before .before .before .before .before .before .before .size-of-array .ensures)
+    (sym (c .before .before .before .before .before .before .before .before .before .before .accesses-of .ensures) ∙ c .before .before .before .before .before .before .before .before .if1 .taken ∙ c .before .before .before .before .before .before .before .before .before .wide .ensures))
+    (record { emitted = m .0; wires = λ j. record { lits = now (a .lits); arrival = a .s .arrival; claim = Claim.Made (a .s .arrival) (m .1 j) } })
 
 pass-access-requires : tie.Need-pass-access-requires
-pass-access-requires c κs = let a = c .before .before .before .before .before .before .before .before .before .before .before .before .args in
-    let p = c .before .before .before .before .before .before .before .before .before .before .before .before .pre in
-    let r = ranged (now (a .bytes)) (a .h) (a .i) (p .1 .1) (p .1 .0) in
-    let e = c .before .before .before .before .before .before .before .width-of .ensures in
-    (ready-weaken (omega arith) (p .0), (search (needs, c .before .before .before .before .before .before .before .before .before .before .before .before .good .1 .1 .1 .1 .1 .1 .1 .1 .1), (r .variable, omega (arith, r .some, e), omega (arith, r .few, e))))
+pass-access-requires c κs = let a = c .before .before .before .before .before .before .before .before .before .before .before .args in
+    let p = c .before .before .before .before .before .before .before .before .before .before .before .pre in
+    let r = ranged (now (a .bytes)) (a .h) (a .i) (p .1 .1 .1) (p .1 .1 .0) in
+    let e = c .before .before .before .before .before .before .width-of .ensures in
+    (ready-weaken (omega arith) (p .0), (p .1 .0, (r .variable, omega (arith, r .some, e), omega (arith, r .few, e))))
 
 with-arrival-requires : tie.Need-with-arrival-requires
 with-arrival-requires c κs = search needs
@@ -69,12 +62,11 @@ same-length-4 : tie.Need-same-length-4
 same-length-4 c = search needs
 
 returns-2 : tie.Need-returns-2
-returns-2 c = let a = c .before .before .before .before .before .before .before .before .before .before .before .before .before .before .before .before .before .before .before .args in
-    let p = c .before .before .before .before .before .before .before .before .before .before .before .before .before .before .before .before .before .before .before .pre in
+returns-2 c = let a = c .before .before .before .before .before .before .before .before .before .before .before .before .before .before .before .before .before .before .args in
     let m = c .before .before .before .before .before .before .pass-access .ensures in
-    makes-as (pass-at (now (a .bytes)) (a .h) (a .t) (a .n .next) (a .array) (a .i) (a .k) (a .s) _ _ (c .before .before .before .before .before .before .before .before .before .before .before .before .before .before .width-of .ensures) (c .before .before .before .before .before .before .before .before .before .before .before .before .before .size-of-array .ensures)
-    (λ q. c .before .before .before .before .before .before .before .before .before .before .if1 .left (c .before .before .before .before .before .before .before .before .before .before .before .before .accesses-of .ensures ∙ q ∙ sym (c .before .before .before .before .before .before .before .before .before .before .before .wide .ensures))))
-    (record { emitted = m .0; wires = c .with-arrival .ensures ∙ (λ j. arriving (a .s) (m .1 j)) })
+    makes-as (pass-at (now (a .bytes)) (a .h) (a .t) (a .n .next) (a .array) (a .i) (a .k) (wiresOf (now (a .lits)) (a .s)) _ _ (c .before .before .before .before .before .before .before .before .before .before .before .before .before .width-of .ensures) (c .before .before .before .before .before .before .before .before .before .before .before .before .size-of-array .ensures)
+    (λ q. c .before .before .before .before .before .before .before .before .before .if1 .left (c .before .before .before .before .before .before .before .before .before .before .before .accesses-of .ensures ∙ q ∙ sym (c .before .before .before .before .before .before .before .before .before .before .wide .ensures))))
+    (record { emitted = m .0; wires = λ i. wiresOf (now (a .lits)) ((c .with-arrival .ensures ∙ (λ j. reaching (a .s) (m .1 j))) i) })
 
 pub access-made-spec : {M : Type 1} → statement M
 access-made-spec =
@@ -85,12 +77,10 @@ access-made-spec =
     size-of-array-requires
     accesses-of-requires
     wide-requires
-    slice-aggregate-claim-access
     claim-access-requires
     same-length
     same-length-2
     returns
-    slice-aggregate-pass-access
     pass-access-requires
     with-arrival-requires
     same-length-3

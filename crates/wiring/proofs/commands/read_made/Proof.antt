@@ -1,24 +1,21 @@
 use mathlib.Core.Path.{sym, ap, _∙_}
-use native.Mathlib.Omega.{arith}
-use denote.Ref.{now}
 use Rattle.command.proofs.Fine.{read-fine}
 use Rattle.netlist.proofs.Emitting.{ready-after, ready-weaken}
 use Rattle.wiring.proofs.Ranges.{ranged}
 use Rattle.wiring.proofs.Commanding.{stored, access-few, read-claimed, read-goes, makes-as, read-makes}
-use Rattle.wiring.specs.Wires.{isMade}
-use Rattle.wiring.specs.declared.Wires.{Wires}
+use Rattle.wiring.specs.Wires.{Wires, wiresOf, isMade}
 use Rattle.bits.proofs.Laws.{table-length}
 use borrow.Author.Needs.{needs}
+use native.Mathlib.Omega.{arith}
+use denote.Ref.{now}
 use Rattle.wiring.proofs.commands.read_made.Statement.{statement}
 use Rattle.wiring.proofs.commands.read_made.Tie as tie
 
 access-made-requires : tie.Need-access-made-requires
-access-made-requires c κs = let a = c .before .before .before .before .before .args in
-    let p = c .before .before .before .before .before .pre in
-    let f = read-fine (now (a .bytes)) (a .h) (a .d) (a .array) (a .i) (p .1 .0) in
-    let x = ranged (now (a .bytes)) (a .h) (a .i) (p .1 .1) (f .2) in
-    let y = ranged (now (a .bytes)) (a .h) (a .d) (p .1 .1) (f .0) in
-    (p .0, (f .2, p .1 .1))
+access-made-requires c κs = let a = c .before .before .before .before .before .before .before .args in
+    let p = c .before .before .before .before .before .before .before .pre in
+    let f = read-fine (now (a .bytes)) (a .h) (a .d) (a .array) (a .i) (p .1 .1 .0) in
+    (p .0, (p .1 .0, (f .2, p .1 .1 .1)))
 
 is-made-requires : tie.Need-is-made-requires
 is-made-requires c κs = search needs
@@ -29,23 +26,22 @@ same-length c = search needs
 same-length-2 : tie.Need-same-length-2
 same-length-2 c = search needs
 
+same-length-3 : tie.Need-same-length-3
+same-length-3 c = search needs
+
 returns : tie.Need-returns
-returns c = let a = c .before .before .before .before .before .before .before .before .before .before .before .before .before .args in
-    let p = c .before .before .before .before .before .before .before .before .before .before .before .before .before .pre in
-    let f = read-fine (now (a .bytes)) (a .h) (a .d) (a .array) (a .i) (p .1 .0) in
-    let x = ranged (now (a .bytes)) (a .h) (a .i) (p .1 .1) (f .2) in
-    let y = ranged (now (a .bytes)) (a .h) (a .d) (p .1 .1) (f .0) in
+returns c = let a = c .before .before .before .before .before .before .before .before .before .before .before .before .before .before .before .args in
+    let p = c .before .before .before .before .before .before .before .before .before .before .before .before .before .before .before .pre in
     let m = c .before .before .before .before .before .before .before .access-made .ensures in
-    makes-as (read-claimed (now (a .bytes)) (a .h) (a .t) (a .n .next) (a .array) (a .i) (a .k) (a .s) (a .d) (p .1 .2)
+    makes-as (read-claimed (now (a .bytes)) (a .h) (a .t) (a .n .next) (a .array) (a .i) (a .k) (wiresOf (now (a .lits)) (a .s)) (a .d) (p .1 .1 .2)
     (ap (λ (z : Wires). isMade (z .claim)) (sym (m .wires)) ∙ sym (c .before .is-made .ensures) ∙ c .if1 .taken)) m
 
 input-bits-requires : tie.Need-input-bits-requires
-input-bits-requires c κs = let a = c .before .before .before .before .before .before .before .before .before .before .before .before .before .before .args in
-    let p = c .before .before .before .before .before .before .before .before .before .before .before .before .before .before .pre in
-    let f = read-fine (now (a .bytes)) (a .h) (a .d) (a .array) (a .i) (p .1 .0) in
-    let x = ranged (now (a .bytes)) (a .h) (a .i) (p .1 .1) (f .2) in
-    let y = ranged (now (a .bytes)) (a .h) (a .d) (p .1 .1) (f .0) in
-    omega (arith, ready-after 32 (c .before .before .before .before .before .before .before .before .access-made .ensures .emitted) (p .0) (omega (arith, access-few (now (a .bytes)) (a .h) (a .t) (a .n .next) (a .array) (a .i) (a .k) (a .s) (x .few))) .next)
+input-bits-requires c κs = let a = c .before .before .before .before .before .before .before .before .before .before .before .before .before .before .before .before .args in
+    let p = c .before .before .before .before .before .before .before .before .before .before .before .before .before .before .before .before .pre in
+    let f = read-fine (now (a .bytes)) (a .h) (a .d) (a .array) (a .i) (p .1 .1 .0) in
+    let x = ranged (now (a .bytes)) (a .h) (a .i) (p .1 .1 .1) (f .2) in
+    omega (arith, ready-after 32 (c .before .before .before .before .before .before .before .before .access-made .ensures .emitted) (p .0) (omega (arith, access-few (now (a .bytes)) (a .h) (a .t) (a .n .next) (a .array) (a .i) (a .k) (wiresOf (now (a .lits)) (a .s)) (x .few))) .next)
 
 width-of-requires : tie.Need-width-of-requires
 width-of-requires c κs = search needs
@@ -54,43 +50,44 @@ cast-w : tie.Need-cast-w
 cast-w c = search needs
 
 take-inputs-requires : tie.Need-take-inputs-requires
-take-inputs-requires c κs = let a = c .before .before .before .before .before .before .before .before .before .before .before .before .before .before .before .before .args in
-    let p = c .before .before .before .before .before .before .before .before .before .before .before .before .before .before .before .before .pre in
-    let f = read-fine (now (a .bytes)) (a .h) (a .d) (a .array) (a .i) (p .1 .0) in
-    let x = ranged (now (a .bytes)) (a .h) (a .i) (p .1 .1) (f .2) in
-    let y = ranged (now (a .bytes)) (a .h) (a .d) (p .1 .1) (f .0) in
-    ready-weaken (omega (arith, y .few, c .width-of .ensures)) (ready-after 32 (c .before .before .before .before .before .before .before .before .before .before .access-made .ensures .emitted) (p .0) (omega (arith, access-few (now (a .bytes)) (a .h) (a .t) (a .n .next) (a .array) (a .i) (a .k) (a .s) (x .few))))
-
-slice-aggregate-with-bits : tie.Need-slice-aggregate-with-bits
-slice-aggregate-with-bits c = search needs
-
-with-bits-requires : tie.Need-with-bits-requires
-with-bits-requires c κs = let a = c .before .before .before .before .before .before .before .before .before .before .before .before .before .before .before .before .before .before .args in
+take-inputs-requires c κs = let a = c .before .before .before .before .before .before .before .before .before .before .before .before .before .before .before .before .before .before .args in
     let p = c .before .before .before .before .before .before .before .before .before .before .before .before .before .before .before .before .before .before .pre in
-    let f = read-fine (now (a .bytes)) (a .h) (a .d) (a .array) (a .i) (p .1 .0) in
-    let x = ranged (now (a .bytes)) (a .h) (a .i) (p .1 .1) (f .2) in
-    let y = ranged (now (a .bytes)) (a .h) (a .d) (p .1 .1) (f .0) in
-    let e = c .before .before .width-of .ensures in
-    (y .variable, omega (arith, y .few, e), omega (arith, y .few, e, table-length _ (c .before .before .before .input-bits .ensures)))
+    let f = read-fine (now (a .bytes)) (a .h) (a .d) (a .array) (a .i) (p .1 .1 .0) in
+    let x = ranged (now (a .bytes)) (a .h) (a .i) (p .1 .1 .1) (f .2) in
+    let y = ranged (now (a .bytes)) (a .h) (a .d) (p .1 .1 .1) (f .0) in
+    ready-weaken (omega (arith, y .few, c .width-of .ensures)) (ready-after 32 (c .before .before .before .before .before .before .before .before .before .before .access-made .ensures .emitted) (p .0) (omega (arith, access-few (now (a .bytes)) (a .h) (a .t) (a .n .next) (a .array) (a .i) (a .k) (wiresOf (now (a .lits)) (a .s)) (x .few))))
 
-same-length-3 : tie.Need-same-length-3
-same-length-3 c = search needs
+slice-aggregate-store-bits : tie.Need-slice-aggregate-store-bits
+slice-aggregate-store-bits c = search needs
+
+store-bits-requires : tie.Need-store-bits-requires
+store-bits-requires c κs = let a = c .before .before .before .before .before .before .before .before .before .before .before .before .before .before .before .before .before .before .before .before .before .args in
+    let p = c .before .before .before .before .before .before .before .before .before .before .before .before .before .before .before .before .before .before .before .before .before .pre in
+    let f = read-fine (now (a .bytes)) (a .h) (a .d) (a .array) (a .i) (p .1 .1 .0) in
+    let y = ranged (now (a .bytes)) (a .h) (a .d) (p .1 .1 .1) (f .0) in
+    let e = c .before .before .before .width-of .ensures in
+    (p .1 .0, (y .variable, omega (arith, y .few, e), omega (arith, y .few, e, table-length _ (c .before .before .before .before .input-bits .ensures))))
 
 same-length-4 : tie.Need-same-length-4
 same-length-4 c = search needs
 
+same-length-5 : tie.Need-same-length-5
+same-length-5 c = search needs
+
+same-length-6 : tie.Need-same-length-6
+same-length-6 c = search needs
+
 returns-2 : tie.Need-returns-2
-returns-2 c = let a = c .before .before .before .before .before .before .before .before .before .before .before .before .before .before .before .before .before .before .before .args in
-    let p = c .before .before .before .before .before .before .before .before .before .before .before .before .before .before .before .before .before .before .before .pre in
-    let f = read-fine (now (a .bytes)) (a .h) (a .d) (a .array) (a .i) (p .1 .0) in
-    let x = ranged (now (a .bytes)) (a .h) (a .i) (p .1 .1) (f .2) in
-    let y = ranged (now (a .bytes)) (a .h) (a .d) (p .1 .1) (f .0) in
-    let m = c .before .before .before .before .before .before .before .before .before .before .before .before .before .access-made .ensures in
-    let e = c .before .before .before .width-of .ensures in
-    makes-as (read-goes (now (a .bytes)) (a .h) (a .t) (a .n .next) (a .array) (a .i) (a .k) (a .s) (a .d)
-    (ap (λ (z : Wires). isMade (z .claim)) (sym (m .wires)) ∙ sym (c .before .before .before .before .before .before .before .is-made .ensures) ∙ c .before .before .before .before .before .before .if1 .left))
-    (read-makes (now (a .bytes)) (a .h) (a .d) (a .k) m _ e (c .before .before .take-inputs .ensures)
-    (stored (now (a .bytes)) _ (a .d) _ _ _ (c .with-bits .ensures) e (c .before .before .before .before .input-bits .ensures) (y .few)))
+returns-2 c = let a = c .before .before .before .before .before .before .before .before .before .before .before .before .before .before .before .before .before .before .before .before .before .before .before .before .args in
+    let p = c .before .before .before .before .before .before .before .before .before .before .before .before .before .before .before .before .before .before .before .before .before .before .before .before .pre in
+    let f = read-fine (now (a .bytes)) (a .h) (a .d) (a .array) (a .i) (p .1 .1 .0) in
+    let y = ranged (now (a .bytes)) (a .h) (a .d) (p .1 .1 .1) (f .0) in
+    let m = c .before .before .before .before .before .before .before .before .before .before .before .before .before .before .before .before .access-made .ensures in
+    let e = c .before .before .before .before .before .before .width-of .ensures in
+    makes-as (read-goes (now (a .bytes)) (a .h) (a .t) (a .n .next) (a .array) (a .i) (a .k) (wiresOf (now (a .lits)) (a .s)) (a .d)
+    (ap (λ (z : Wires). isMade (z .claim)) (sym (m .wires)) ∙ sym (c .before .before .before .before .before .before .before .before .before .before .is-made .ensures) ∙ c .before .before .before .before .before .before .before .before .before .if1 .left))
+    (read-makes (now (a .bytes)) (a .h) (a .d) (a .k) m _ e _ (c .before .before .before .before .before .take-inputs .ensures) _
+    (stored (now (a .bytes)) (now (a .lits)) (a .d) _ _ _ (c .before .before .store-bits .ensures) e (c .before .before .before .before .before .before .before .input-bits .ensures) (y .few)))
 
 pub read-made-spec : {M : Type 1} → statement M
 read-made-spec =
@@ -100,13 +97,15 @@ read-made-spec =
     is-made-requires
     same-length
     same-length-2
+    same-length-3
     returns
     input-bits-requires
     width-of-requires
     cast-w
     take-inputs-requires
-    slice-aggregate-with-bits
-    with-bits-requires
-    same-length-3
+    slice-aggregate-store-bits
+    store-bits-requires
     same-length-4
+    same-length-5
+    same-length-6
     returns-2)

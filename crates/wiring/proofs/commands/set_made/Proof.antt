@@ -1,10 +1,10 @@
-use native.Mathlib.Omega.{arith}
-use denote.Ref.{now}
 use Rattle.command.proofs.Fine.{set-fine}
 use Rattle.wiring.proofs.Ranges.{ranged}
 use Rattle.wiring.proofs.Commanding.{stored}
 use Rattle.bits.proofs.Laws.{table-length}
 use borrow.Author.Needs.{needs}
+use native.Mathlib.Omega.{arith}
+use denote.Ref.{now}
 use Rattle.wiring.proofs.commands.set_made.Statement.{statement}
 use Rattle.wiring.proofs.commands.set_made.Tie as tie
 
@@ -17,20 +17,23 @@ width-of-requires c κs = search needs
 cast-w : tie.Need-cast-w
 cast-w c = search needs
 
-slice-aggregate-with-bits : tie.Need-slice-aggregate-with-bits
-slice-aggregate-with-bits c = search needs
+slice-aggregate-store-bits : tie.Need-slice-aggregate-store-bits
+slice-aggregate-store-bits c = search needs
 
-with-bits-requires : tie.Need-with-bits-requires
-with-bits-requires c κs = let a = c .before .before .before .before .args in
-    let p = c .before .before .before .before .pre in
-    let r = ranged (now (a .bytes)) (a .h) (a .d) (p .1) (set-fine (now (a .bytes)) (a .h) (a .d) (a .c) (p .0) .0) in
-    (r .variable, omega (arith, r .few, c .before .width-of .ensures), omega (arith, r .few, c .before .width-of .ensures, table-length _ (c .before .before .const-bits .ensures)))
+store-bits-requires : tie.Need-store-bits-requires
+store-bits-requires c κs = let a = c .before .before .before .before .before .before .args in
+    let p = c .before .before .before .before .before .before .pre in
+    let r = ranged (now (a .bytes)) (a .h) (a .d) (p .1 .1) (set-fine (now (a .bytes)) (a .h) (a .d) (a .c) (p .1 .0) .0) in
+    (p .0, (r .variable, omega (arith, r .few, c .before .before .width-of .ensures), omega (arith, r .few, c .before .before .width-of .ensures, table-length _ (c .before .before .before .const-bits .ensures))))
+
+same-length : tie.Need-same-length
+same-length c = search needs
 
 returns : tie.Need-returns
-returns c = let a = c .before .before .before .before .before .args in
-    let p = c .before .before .before .before .before .pre in
-    let r = ranged (now (a .bytes)) (a .h) (a .d) (p .1) (set-fine (now (a .bytes)) (a .h) (a .d) (a .c) (p .0) .0) in
-    stored (now (a .bytes)) (a .s) (a .d) _ _ _ (c .with-bits .ensures) (c .before .before .width-of .ensures) (c .before .before .before .const-bits .ensures) (r .few)
+returns c = let a = c .before .before .before .before .before .before .before .before .before .args in
+    let p = c .before .before .before .before .before .before .before .before .before .pre in
+    let r = ranged (now (a .bytes)) (a .h) (a .d) (p .1 .1) (set-fine (now (a .bytes)) (a .h) (a .d) (a .c) (p .1 .0) .0) in
+    stored (now (a .bytes)) (now (a .lits)) (a .d) _ _ _ (c .before .before .store-bits .ensures) (c .before .before .before .before .before .width-of .ensures) (c .before .before .before .before .before .before .const-bits .ensures) (r .few)
 
 pub set-made-spec : {M : Type 1} → statement M
 set-made-spec =
@@ -39,6 +42,7 @@ set-made-spec =
     const-bits-requires
     width-of-requires
     cast-w
-    slice-aggregate-with-bits
-    with-bits-requires
+    slice-aggregate-store-bits
+    store-bits-requires
+    same-length
     returns)
