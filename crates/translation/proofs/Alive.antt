@@ -22,12 +22,11 @@ use Rattle.clauses.specs.Meaning.{Assign}
 use Rattle.netlist.specs.Meaning.{Inputs}
 use Rattle.netlist.proofs.Truth.{Models, models-append}
 use Rattle.wiring.specs.Command.{Stretch, simple}
-use Rattle.wiring.specs.Wires.{isMade}
+use Rattle.wiring.specs.Wires.{Wires, isMade}
 use Rattle.translation.specs.Walk.{andThen, forked, armOf}
 use Rattle.translation.specs.Faithful.{bitsOfList}
 use Rattle.wiring.specs.declared.Claim.{Claim}
 use Rattle.lead.specs.declared.Target.{Target}
-use Rattle.wiring.specs.declared.Wires.{Wires}
 use Rattle.translation.proofs.Claimed.{simple-claims, fork-claims, arm-claims}
 use Rattle.translation.proofs.Dead.{Deadens, arm-dead}
 use Rattle.translation.proofs.Fitting.{Fit}

@@ -1,10 +1,11 @@
 -- The parameters, one after the other. Assumes nothing.
-use mathlib.Core.Path.{_≡_, ap, subst, _∙_}
+use mathlib.Core.Path.{_≡_, refl, ap, subst, _∙_}
 use mathlib.Core.List.{List, [], _++_}
 use Prim.Native.Nat.{ℕ, zero, suc, _+_, _*_, _≤_}
 use native.Mathlib.Omega.{arith}
 use native.Mathlib.Numerals.{add-one}
 use lib.ListN.{length, take, length-append}
+use lib.Seq.{sets, length-sets}
 use Rattle.header.specs.Header.{width}
 use Rattle.command.specs.Sound.{Fine}
 use Rattle.header.specs.declared.Header.{Header}
@@ -16,9 +17,7 @@ use Rattle.bits.specs.Bits.{tabulate}
 use Rattle.bits.specs.Input.{inputs, inBit, TakesInputs}
 use Rattle.bits.proofs.Input.{length-inputs}
 use Rattle.bits.proofs.Laws.{sized-table}
-use Rattle.translation.specs.Translation.{parameterNodes, parameterLits, start}
-use Rattle.wiring.specs.Makes.{storing}
-use Rattle.wiring.specs.declared.Wires.{Wires}
+use Rattle.translation.specs.Translation.{parameterNodes, parameterLits}
 use Rattle.wiring.proofs.Ranges.{ranged}
 
 pub some-few : (bs : List ℕ) (h : Header) → Fine bs h → (p : ℕ) → p ≤ h .parameters → length (parameterNodes bs p) ≤ 32 * p
@@ -35,11 +34,18 @@ module _ (bs : List ℕ) (n n₁ n₂ : Net) (p w : ℕ) (e : w ≡ width bs p) 
       rw (add-one p)
       (subst (λ (ns : List Node). Emitted W U n (parameterNodes bs p ++ ns) W U n₂) (λ i. inputs p (e i)) (emitted-then (q W U) (r .tells W U p)))
 
-  pub parameter-wired : n .next ≡ 2 → (s s₁ : Wires) (bits : List ℕ) → s ≡ start bs p → bits ≡ tabulate (inBit (n₁ .next)) 32 → w ≤ 32 → s₁ ≡ storing s p (take w bits)
-      → s₁ ≡ start bs (p + 1)
-  unfolding parameterLits start
-  parameter-wired two s s₁ bits a f l b =
+  pub parameter-wired : n .next ≡ 2 → (l l₁ bits : List ℕ) → l ≡ parameterLits bs p → bits ≡ tabulate (inBit (n₁ .next)) 32 → w ≤ 32
+      → l₁ ≡ sets l (32 * p) (take w bits) → l₁ ≡ parameterLits bs (p + 1)
+  unfolding parameterLits
+  parameter-wired two l l₁ bits a f s b =
       let g : n₁ .next ≡ 2 + length (parameterNodes bs p) = q [] [] .next ∙ ap (λ (i : ℕ). i + length (parameterNodes bs p)) two in
       rw (add-one p)
-      (b ∙ ap (storing s p) (sized-table _ f w l)
-      ∙ (λ i. storing (a i) p (tabulate (inBit (g i)) (e i))))
+      (b ∙ ap (sets l (32 * p)) (sized-table _ f w s)
+      ∙ (λ i. sets (a i) (32 * p) (tabulate (inBit (g i)) (e i))))
+
+-- the literals keep their places
+pub parameters-length : (bs : List ℕ) (p : ℕ) → length (parameterLits bs p) ≡ 1024
+unfolding parameterLits
+parameters-length bs zero = refl
+parameters-length bs (suc p) =
+    length-sets (parameterLits bs p) (32 * p) (tabulate (inBit (2 + length (parameterNodes bs p))) (width bs p)) ∙ parameters-length bs p

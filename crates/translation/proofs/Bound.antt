@@ -40,13 +40,12 @@ use Rattle.bits.proofs.Input.{length-inputs}
 use Rattle.circuits.proofs.Join.{length-join}
 use Rattle.relations.proofs.Access.{above-short}
 use Rattle.relations.proofs.Relating.{relation-short}
-use Rattle.wiring.specs.Wires.{bitsIn, bitsOf, arriving}
+use Rattle.wiring.specs.Wires.{Wires, bitsIn, bitsOf, arriving}
 use Rattle.wiring.specs.Command.{Stretch, still, access, readInto, simple}
 use Rattle.operands.specs.Operation.{computeNodes, accessNodes, accessArrival, claimNodes}
 use Rattle.translation.specs.Walk.{andThen, forked, armOf}
 use Rattle.wiring.specs.Branch.{conditionNodes, conditionLit, armNodes, branchNodes, joinNodes, joined}
 use Rattle.lead.specs.declared.Target.{Target}
-use Rattle.wiring.specs.declared.Wires.{Wires}
 use Rattle.translation.proofs.Stretches.{by-cond, then-by, access-by, fork-by, frontOf, firstFrom, firstWires, firstOf, secondFrom, secondWires, secondOf, joinFrom, joinOf}
 use Rattle.translation.proofs.Counted.{commandsIn, ifsIn, all-ifs, few-commands}
 

@@ -15,13 +15,12 @@ use Rattle.command.specs.declared.Condition.{Condition}
 use Rattle.command.specs.declared.Counts.{Counts}
 use Rattle.command.specs.declared.Simple.{Simple}
 use Rattle.routine.proofs.Views.{induction}
-use Rattle.wiring.specs.Wires.{claiming, isMade}
+use Rattle.wiring.specs.Wires.{Wires, claiming, isMade}
 use Rattle.wiring.specs.Command.{Stretch, still, readInto, simple}
 use Rattle.translation.specs.Walk.{andThen, forked, armOf}
 use Rattle.wiring.specs.Branch.{joined}
 use Rattle.wiring.specs.declared.Claim.{Claim}
 use Rattle.lead.specs.declared.Target.{Target}
-use Rattle.wiring.specs.declared.Wires.{Wires}
 use Rattle.translation.proofs.Numbers.{after-grows, accesses-grow}
 use Rattle.command.proofs.Tests.{not-both}
 use Rattle.translation.proofs.Stretches.{then-by, access-by, fork-by, firstFrom, firstWires, firstOf, secondFrom, secondWires, secondOf}

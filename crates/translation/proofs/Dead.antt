@@ -15,13 +15,12 @@ use Rattle.command.specs.declared.Simple.{Simple}
 use Rattle.clauses.specs.Meaning.{Assign, lit}
 use Rattle.netlist.specs.Meaning.{Inputs}
 use Rattle.netlist.proofs.Truth.{Models, models-append}
-use Rattle.wiring.specs.Wires.{bitsOf}
+use Rattle.wiring.specs.Wires.{Wires, bitsOf}
 use Rattle.wiring.specs.Command.{Stretch, still, readInto, simple}
 use Rattle.operands.specs.Operation.{accessNodes, accessArrival}
 use Rattle.translation.specs.Walk.{forked, armOf}
 use Rattle.wiring.specs.Branch.{conditionNodes, conditionLit, branchNodes}
 use Rattle.lead.specs.declared.Target.{Target}
-use Rattle.wiring.specs.declared.Wires.{Wires}
 use Rattle.translation.proofs.Gates.{models-three, access-lit, first-lit, else-lit, joined-lit}
 use Rattle.translation.proofs.Stretches.{then-by, access-by, fork-by, firstFrom, firstWires, firstOf, secondFrom, secondWires, secondOf, joinFrom, joinOf}
 

@@ -33,14 +33,13 @@ use Rattle.netlist.proofs.Literals.{lit-true}
 use Rattle.netlist.proofs.Model.{WellFormed, valueAt, eval, satisfied-iff, evaluated}
 use Rattle.netlist.proofs.Truth.{Models, models-iff, models-append}
 use Rattle.wiring.specs.Command.{Stretch}
-use Rattle.wiring.specs.Wires.{isMade}
+use Rattle.wiring.specs.Wires.{Wires, isMade}
 use Rattle.translation.specs.Walk.{armOf}
 use Rattle.translation.specs.Translation.{parameterNodes, start, whole}
 use Rattle.machine.specs.Side.{sideOf}
 use Rattle.translation.specs.Faithful.{bitsOfList, Solves, courseOf, Arrives, Faithful}
 use Rattle.wiring.specs.declared.Claim.{Claim}
 use Rattle.lead.specs.declared.Target.{Target}
-use Rattle.wiring.specs.declared.Wires.{Wires}
 use Rattle.translation.proofs.Alive.{arm-alive}
 use Rattle.translation.proofs.Claimed.{MadeBy, made-by, arm-claims, arm-settled}
 use Rattle.translation.proofs.Fitting.{Fitting, fitting}

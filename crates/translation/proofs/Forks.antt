@@ -26,14 +26,13 @@ use Rattle.netlist.specs.Meaning.{Inputs}
 use Rattle.netlist.proofs.Truth.{Models, models-append}
 use Rattle.bits.proofs.Values.{value}
 use Rattle.relations.proofs.Relating.{relation-value}
-use Rattle.wiring.specs.Wires.{bitsOf, arriving, isMade}
+use Rattle.wiring.specs.Wires.{Wires, bitsOf, arriving, isMade}
 use Rattle.wiring.specs.Command.{Stretch}
 use Rattle.wiring.specs.Branch.{conditionNodes, conditionLit, branchNodes, firstLit, elseLit, joined}
 use Rattle.translation.specs.Walk.{forked}
 use Rattle.translation.specs.Faithful.{bitsOfList}
 use Rattle.wiring.specs.declared.Claim.{Claim}
 use Rattle.lead.specs.declared.Target.{Target}
-use Rattle.wiring.specs.declared.Wires.{Wires}
 use Rattle.translation.proofs.Dead.{Deadens}
 use Rattle.translation.proofs.Gates.{models-three, first-lit, else-lit, joined-lit, joined-gates}
 use Rattle.translation.proofs.Numbers.{Elsewhere}

@@ -37,7 +37,7 @@ use Rattle.bits.proofs.Input.{length-inputs, inputs-formed, input-before}
 use Rattle.circuits.proofs.Join.{join-formed, join-before}
 use Rattle.relations.proofs.Access.{above-formed, above-before}
 use Rattle.relations.proofs.Relating.{relation-formed, relation-before}
-use Rattle.wiring.specs.Wires.{bitsIn, bitsPut, bitsOf, put, arriving}
+use Rattle.wiring.specs.Wires.{Wires, bitsIn, bitsPut, bitsOf, put, arriving}
 use Rattle.wiring.specs.Command.{Stretch, after, still, access, readInto, simple}
 use Rattle.operands.specs.Operation.{convertBits, computeNodes, computeBits, top, accessNodes, accessArrival, claimNodes, claimLit}
 use Rattle.translation.specs.Walk.{andThen, forked, armOf}
@@ -45,7 +45,6 @@ use Rattle.wiring.specs.Branch.{conditionNodes, conditionLit, armNodes, armLit,
 use Rattle.translation.specs.Translation.{parameterNodes, parameterLits, start, whole}
 use Rattle.wiring.specs.declared.Claim.{Claim}
 use Rattle.lead.specs.declared.Target.{Target}
-use Rattle.wiring.specs.declared.Wires.{Wires}
 use Rattle.translation.proofs.Places.{bits-place, put-length, put-keeps}
 use Rattle.translation.proofs.Stretches.{by-cond, then-by, access-by, fork-by, firstFrom, firstWires, firstOf, secondFrom, secondWires, secondOf, joinFrom, joinOf}
 

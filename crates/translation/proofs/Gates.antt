@@ -17,8 +17,8 @@ use Rattle.netlist.proofs.Truth.{Models, models-append}
 use Rattle.bits.specs.Bits.{Bits}
 use Rattle.relations.specs.Access.{aboveNodes, aboveLit}
 use Rattle.operands.specs.Operation.{top, accessNodes, accessArrival}
+use Rattle.wiring.specs.Wires.{Wires}
 use Rattle.wiring.specs.Branch.{armNodes, armLit, branchNodes, firstLit, elseLit, joinNodes, joined}
-use Rattle.wiring.specs.declared.Wires.{Wires}
 
 module _ (ins : Inputs) (ρ : Assign) where
   -- three stretches one after the other

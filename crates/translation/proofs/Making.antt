@@ -1,14 +1,13 @@
 -- The whole translation: variable 1, the parameters, the commands, and the last two clauses. Assumes nothing.
 use mathlib.Core.Path.{_≡_, ap, subst, _∙_}
 use mathlib.Core.List.{List, [], _∷_, _++_}
-use mathlib.Core.Bool.{false}
 use Prim.Native.Nat.{ℕ, _+_, _-_, _≤_}
 use native.Mathlib.Nat.{zero-add}
 use native.Mathlib.Omega.{arith}
 use lib.ListN.{length}
 use Rattle.header.specs.Header.{firstCommand}
 use Rattle.routine.specs.Routine.{Arm}
-use Rattle.routine.specs.Decode.{routine, decode, noCounts, IsRoutine}
+use Rattle.routine.specs.Decode.{routine, decode, IsRoutine}
 use Rattle.command.specs.Sound.{Fine}
 use Rattle.header.specs.declared.Header.{Header}
 use Rattle.command.specs.declared.Counts.{Counts}
@@ -22,15 +21,14 @@ use Rattle.netlist.specs.Emit.{Emitted, Ready}
 use Rattle.netlist.specs.declared.Net.{Net}
 use Rattle.netlist.proofs.Emitting.{emitted-then, emitted-words-length, emitted-starts-length, ready-after, ready-room}
 use Rattle.wiring.specs.Command.{Stretch, after}
-use Rattle.wiring.specs.Wires.{isMade}
 use Rattle.translation.specs.Walk.{armOf}
 use Rattle.translation.specs.Translation.{parameterNodes, start, whole, lastClauses, clausesOfAll, sizeOf}
-use Rattle.translation.specs.Walker.{walkAt, Arrives, Roomy, ArmMade, ArmRoom, Begun, WholeMade}
+use Rattle.translation.specs.Walker.{wiresAt, beginning, Arrives, Roomy, ArmMade, ArmRoom, Begun, WholeMade}
 use Rattle.translation.specs.declared.Size.{Size}
 use Rattle.lead.specs.declared.Target.{Target}
-use Rattle.wiring.specs.declared.Wires.{Wires}
 use Rattle.translation.specs.declared.Walk.{Walk}
-use Rattle.wiring.specs.declared.Made.{Made}
+use Rattle.wiring.specs.declared.Claim.{Claim}
+use Rattle.translation.proofs.Beginning.{parameters-length}
 use Rattle.translation.proofs.Bound.{parameters-few, roomy}
 
 -- nothing is stored yet
@@ -52,32 +50,29 @@ module _ (bs : List ℕ) (h : Header) (t : Target) (ds : List ℕ) (i : IsRoutin
   pub begin-ready : Ready (record { store = s₁; next = 2 }) 2048
   begin-ready = record { words = omega (arith, p .used); clauses = omega (arith, p .count); next = omega arith }
 
-  module _ (m : Made) (b : Begun bs (record { store = s₁; next = 2 }) (h .parameters) m) where
+  module _ (n : Net) (l : List ℕ) (b : Begun bs (record { store = s₁; next = 2 }) (h .parameters) l n) where
     -- where the commands begin
-    from : m .net .next ≡ 2 + length (parameterNodes bs (h .parameters))
+    from : n .next ≡ 2 + length (parameterNodes bs (h .parameters))
     from = b .emitted w₁ u₁ .next
 
-    pub not-made : isMade (m .wires .claim) ≡ false
-    unfolding start
-    not-made = ap (λ (z : Wires). isMade (z .claim)) (b .wires)
-
-    ready-here : Ready (m .net) 1024
+    ready-here : Ready n 1024
     ready-here = ready-after 1024 (b .emitted w₁ u₁) begin-ready (omega (arith, parameters-few bs h (fine-here bs h i)))
 
-    few-here : m .net .next ≤ 2048
+    few-here : n .next ≤ 2048
     few-here = omega (arith, from, parameters-few bs h (fine-here bs h i))
 
-    room-for : (a : Arm) (k : Counts) → decode bs ≡ routine h a k → Roomy (m .net) (armOf bs h t ds a (m .net .next) (m .wires))
-    room-for a k d = roomy bs t ds h a k d (m .net) (ready-here .words) (ready-here .clauses) few-here (m .net .next) (m .wires)
+    room-for : (at : ℕ) (a : Arm) (k : Counts) → decode bs ≡ routine h a k → Roomy n (armOf bs h t ds a (n .next) (wiresAt l (beginning at n)))
+    room-for at a k d = roomy bs t ds h a k d n (ready-here .words) (ready-here .clauses) few-here (n .next) (wiresAt l (beginning at n))
 
-    pub whole-roomy : (at : ℕ) → at ≡ firstCommand h → ArmRoom bs h t ds 0 0 (walkAt at noCounts (m .net) (m .wires))
+    pub whole-roomy : (at : ℕ) → at ≡ firstCommand h → ArmRoom bs h t ds 0 0 l (beginning at n)
     whole-roomy at e = record {
       some = record { arm = i .commands; end = length bs; after = i .counts; stands = rw e (decoded bs h (i .commands) (i .counts) (i .decodes) .stands) };
-      room = room-for (i .commands) (i .counts) (i .decodes);
+      room = room-for at (i .commands) (i .counts) (i .decodes);
+      places = ap length (b .lits) ∙ parameters-length bs (h .parameters);
     }
 
-    module _ (w₂ u₂ : List ℕ) (at : ℕ) (e : at ≡ firstCommand h) (r : Walk) (x : ArmMade bs h t ds 0 0 w₁ u₁ (walkAt at noCounts (m .net) (m .wires)) w₂ u₂ r) where
-      arrives : (a : Arm) (k : Counts) → decode bs ≡ routine h a k → Arrives w₁ u₁ (m .net) (armOf bs h t ds a (m .net .next) (m .wires)) (length bs) k w₂ u₂ r
+    module _ (w₂ u₂ l₂ : List ℕ) (at : ℕ) (e : at ≡ firstCommand h) (r : Walk) (x : ArmMade bs h t ds 0 0 w₁ u₁ l (beginning at n) w₂ u₂ l₂ r) where
+      arrives : (a : Arm) (k : Counts) → decode bs ≡ routine h a k → Arrives w₁ u₁ n (armOf bs h t ds a (n .next) (wiresAt l (beginning at n))) (length bs) k w₂ u₂ l₂ r
       arrives a k d = x .tells a (length bs) k (rw e (decoded bs h a k d .stands))
 
       -- the buffers stay as long as they were
@@ -90,12 +85,12 @@ module _ (bs : List ℕ) (h : Header) (t : Target) (ds : List ℕ) (i : IsRoutin
       pub claim-room : Room (r .net .store) 2
       claim-room =
           let q = arrives (i .commands) (i .counts) (i .decodes) in
-          room-weaken (omega arith) (ready-room {k = 0} (ready-after 1 (q .emitted) (room-for (i .commands) (i .counts) (i .decodes)) (omega arith)))
+          room-weaken (omega arith) (ready-room {k = 0} (ready-after 1 (q .emitted) (room-for at (i .commands) (i .counts) (i .decodes)) (omega arith)))
 
       pub some-variables : 2 ≤ r .net .next
       some-variables = let q = arrives (i .commands) (i .counts) (i .decodes) in omega (arith, q .emitted .next, from)
 
-      module _ (w₃ u₃ : List ℕ) (all : Store) (c : Appended w₂ u₂ (r .net .store) (lastClauses (r .wires .claim)) w₃ u₃ all) where
+      module _ (w₃ u₃ : List ℕ) (all : Store) (c : Appended w₂ u₂ (r .net .store) (lastClauses (r .reach .claim)) w₃ u₃ all) where
         module _ (a : Arm) (k : Counts) (d : decode bs ≡ routine h a k) where
           X : Stretch
           X = whole bs t ds h a
@@ -103,12 +98,12 @@ module _ (bs : List ℕ) (h : Header) (t : Target) (ds : List ℕ) (i : IsRoutin
           Y : Stretch
           Y = armOf bs h t ds a (2 + length (parameterNodes bs (h .parameters))) (start bs (h .parameters))
 
-          arm-is : armOf bs h t ds a (m .net .next) (m .wires) ≡ Y
-          unfolding Y
-          arm-is = λ j. armOf bs h t ds a (from j) (b .wires j)
+          arm-is : armOf bs h t ds a (n .next) (wiresAt l (beginning at n)) ≡ Y
+          unfolding Y start
+          arm-is = λ j. armOf bs h t ds a (from j) (record { lits = b .lits j; arrival = 2; claim = Claim.Open })
 
-          arm-there : Arrives w₁ u₁ (m .net) Y (length bs) k w₂ u₂ r
-          arm-there = subst (λ (z : Stretch). Arrives w₁ u₁ (m .net) z (length bs) k w₂ u₂ r) arm-is (arrives a k d)
+          arm-there : Arrives w₁ u₁ n Y (length bs) k w₂ u₂ l₂ r
+          arm-there = subst (λ (z : Stretch). Arrives w₁ u₁ n z (length bs) k w₂ u₂ l₂ r) arm-is (arrives a k d)
 
           rest-made : Emitted w₁ u₁ (record { store = s₁; next = 2 }) (parameterNodes bs (h .parameters) ++ Y .nodes) w₂ u₂ (r .net)
           rest-made = emitted-then (b .emitted w₁ u₁) (arm-there .emitted)
@@ -117,7 +112,7 @@ module _ (bs : List ℕ) (h : Header) (t : Target) (ds : List ℕ) (i : IsRoutin
           unfolding clausesOfAll clausesOf nodeClauses whole X Y
           all-made =
               subst (λ (cs : List Clause). Appended w u noStore ((clausesOf 1 (one ∷ (parameterNodes bs (h .parameters) ++ Y .nodes))) ++ cs) w₃ u₃ all)
-              (λ j. lastClauses (arm-there .wires j .claim))
+              (ap lastClauses (arm-there .claim))
               (appended-then (appended-then p (rest-made .store)) c)
 
           size-is : _≡_ {A = Size} (record { clauses = all .clauses; words = all .words; variables = r .net .next - 1 }) (sizeOf X)

@@ -9,7 +9,7 @@ use lib.ListN.{length, length-append}
 use Rattle.slices.specs.Bytes.{entry}
 use Rattle.command.specs.Step.{oneIf}
 use Rattle.routine.specs.Routine.{Arm}
-use Rattle.routine.specs.Stands.{SomeIf}
+use Rattle.routine.specs.Stands.{Stands, SomeIf}
 use Rattle.header.specs.declared.Header.{Header}
 use Rattle.command.specs.declared.Condition.{Condition}
 use Rattle.command.specs.declared.Counts.{Counts}
@@ -17,50 +17,63 @@ use Rattle.netlist.specs.Node.{Node}
 use Rattle.netlist.specs.Emit.{Emitted, Ready}
 use Rattle.netlist.specs.declared.Net.{Net}
 use Rattle.netlist.proofs.Emitting.{emitted-then, ready-after}
-use Rattle.wiring.specs.Wires.{arriving, isMade}
+use Rattle.wiring.specs.Wires.{Wires, arriving, isMade}
 use Rattle.wiring.specs.Command.{Stretch, after}
 use Rattle.translation.specs.Walk.{forked, armOf}
 use Rattle.wiring.specs.Branch.{conditionNodes, conditionLit, branchNodes, joined}
-use Rattle.translation.specs.Walker.{walkAt, Arrives, Roomy, ArmRoom}
-use Rattle.wiring.specs.Makes.{Makes, Branched}
+use Rattle.translation.specs.Walker.{wiresAt, inFirst, inElse, Arrives, Roomy, ArmMade, ArmRoom, ifOf, IfMade}
+use Rattle.wiring.specs.Makes.{Branched}
 use Rattle.lead.specs.declared.Target.{Target}
-use Rattle.wiring.specs.declared.Wires.{Wires}
 use Rattle.translation.specs.declared.Walk.{Walk}
-use Rattle.wiring.specs.declared.Made.{Made}
 use Rattle.wiring.specs.declared.Branches.{Branches}
 use Rattle.command.proofs.Tests.{not-both}
+use Rattle.translation.proofs.Translating.{same-arm, over}
 use Rattle.translation.proofs.Stretches.{fork-by, frontOf, firstFrom, firstOf, secondFrom, secondOf, joinFrom, joinOf}
 
-module _ (bs : List ℕ) (h : Header) (depth at : ℕ) (k : Counts) (i : SomeIf bs h depth at (oneIf k)) where
-  -- room for an arm is room for the walk that stands before it
-  pub first-roomy : (t : Target) (ds : List ℕ) (inside : Counts) (n : Net) (s : Wires) → inside ≡ oneIf k → Roomy n (armOf bs h t ds (i .first) (n .next) s)
-      → ArmRoom bs h t ds (depth + 1) 12 (walkAt (at + 4) inside n s)
-  first-roomy t ds inside n s e r = record { some = record { arm = i .first; end = i .else; after = i .between; stands = rw e (i .stands-first) }; room = r }
+-- what was told of the arms of i is told of whatever arms stand there
+pub if-told : {bs : List ℕ} {h : Header} {t : Target} {ds : List ℕ} {depth : ℕ} {c : Condition} {w u l w₁ u₁ l₁ : List ℕ} {p r : Walk}
+    (i : SomeIf bs h depth (p .next) (oneIf (p .counts))) → Arrives w u (p .net) (ifOf bs h t ds c l p (i .first) (i .second)) (i .end) (i .after) w₁ u₁ l₁ r
+    → IfMade bs h t ds depth c w u l p w₁ u₁ l₁ r
+if-told {bs} {h} {depth = depth} i x = record {
+  tells = λ first else k₁ second end k₂ y z.
+      let e = same-arm (i .stands-first) y in
+      let v : Stands bs h (depth + 1) 0x0D (i .else) (i .between) second end k₂ = rw (e .1, e .2) z in
+      let f = same-arm (i .stands-second) v in
+      rw (e .0, f .0, f .1, f .2) at x;
+}
 
-  pub second-roomy : (t : Target) (ds : List ℕ) (next : ℕ) (k₁ : Counts) (n : Net) (s : Wires) → next ≡ i .else → k₁ ≡ i .between
-      → Roomy n (armOf bs h t ds (i .second) (n .next) s) → ArmRoom bs h t ds (depth + 1) 13 (walkAt next k₁ n s)
-  second-roomy t ds next k₁ n s p q r = record { some = record { arm = i .second; end = i .end; after = i .after; stands = rw (p, q) (i .stands-second) }; room = r }
+-- the if where the walk p is, with the literals l, whose arms are those of i
+module _ (bs : List ℕ) (h : Header) (t : Target) (ds : List ℕ) (depth : ℕ) (c : Condition) (l : List ℕ) (p : Walk) (i : SomeIf bs h depth (p .next) (oneIf (p .counts))) where
+  abbrev d : ℕ
+  d = entry ds (p .counts .ifs)
 
--- the arms F and S of an if at which the walk is
-module _ (bs : List ℕ) (h : Header) (t : Target) (ds : List ℕ) (k : Counts) (n : Net) (c : Condition) (s : Wires) (F S : Arm) where
-  abbrev pub First : Stretch
-  First = firstOf bs h (entry ds (k .ifs)) (n .next) c s (armOf bs h t ds F) (armOf bs h t ds S)
+  abbrev s : Wires
+  s = wiresAt l p
 
-  abbrev pub Second : Stretch
-  Second = secondOf bs h (entry ds (k .ifs)) (n .next) c s (armOf bs h t ds F) (armOf bs h t ds S)
+  abbrev first : ℕ → Wires → Stretch
+  first = armOf bs h t ds (i .first)
+
+  abbrev second : ℕ → Wires → Stretch
+  second = armOf bs h t ds (i .second)
+
+  abbrev First : Stretch
+  First = firstOf bs h d (p .net .next) c s first second
+
+  abbrev Second : Stretch
+  Second = secondOf bs h d (p .net .next) c s first second
 
   abbrev Front : List Node
-  Front = frontOf bs h (entry ds (k .ifs)) (n .next) c s (armOf bs h t ds F) (armOf bs h t ds S)
+  Front = frontOf bs h d (p .net .next) c s first second
 
-  abbrev pub Fork : Stretch
-  Fork = forked bs h (entry ds (k .ifs)) (n .next) c s (armOf bs h t ds F) (armOf bs h t ds S)
+  abbrev Fork : Stretch
+  Fork = forked bs h d (p .net .next) c s first second
 
   -- by where the claim was made
   by-claim : (Q : Stretch → Type 0) → (isMade (First .wires .claim) ≡ true → Q (after Front First))
       → (isMade (First .wires .claim) ≡ false → isMade (Second .wires .claim) ≡ true → Q (after Front (after (First .nodes) Second)))
       → (isMade (First .wires .claim) ≡ false → isMade (Second .wires .claim) ≡ false
-      → Q (after Front (after (First .nodes) (after (Second .nodes) (joinOf bs h (entry ds (k .ifs)) (n .next) c s (armOf bs h t ds F) (armOf bs h t ds S)))))) → Q Fork
-  by-claim = fork-by bs h (entry ds (k .ifs)) (n .next) c s (armOf bs h t ds F) (armOf bs h t ds S)
+      → Q (after Front (after (First .nodes) (after (Second .nodes) (joinOf bs h d (p .net .next) c s first second))))) → Q Fork
+  by-claim = fork-by bs h d (p .net .next) c s first second
 
   first-longer : length Front + length (First .nodes) ≤ length (Fork .nodes)
   first-longer =
@@ -75,95 +88,104 @@ module _ (bs : List ℕ) (h : Header) (t : Target) (ds : List ℕ) (k : Counts) 
       (λ e f. rw (length-append Front (First .nodes ++ Second .nodes), length-append (First .nodes) (Second .nodes)) (omega arith))
       (λ e f. rw (length-append Front, length-append (First .nodes), length-append (Second .nodes)) (omega arith))
 
-  module _ (w u w₁ u₁ : List ℕ) (br : Branches) (b : Branched bs w u n c (entry ds (k .ifs)) s w₁ u₁ br) where
-    from-first : br .net .next ≡ firstFrom bs h (entry ds (k .ifs)) (n .next) c s (armOf bs h t ds F) (armOf bs h t ds S)
-    from-first = b .emitted .next ∙ ap (λ (m : ℕ). n .next + m) (length-append (conditionNodes bs (n .next) c s) (branchNodes (entry ds (k .ifs)) (s .arrival) (conditionLit bs (n .next) c))) ∙ sym (add-assoc (n .next) _ _)
+  module _ {w u w₁ u₁ : List ℕ} {br : Branches} (b : Branched bs w u (p .net) c (entry ds (p .counts .ifs)) (wiresAt l p) w₁ u₁ br) where
+    from-first : br .net .next ≡ firstFrom bs h d (p .net .next) c s first second
+    from-first = b .emitted .next ∙ ap (λ (m : ℕ). p .net .next + m) (length-append (conditionNodes bs (p .net .next) c s) (branchNodes d (s .arrival) (conditionLit bs (p .net .next) c))) ∙ sym (add-assoc (p .net .next) _ _)
 
-    first-is : armOf bs h t ds F (br .net .next) (arriving s (br .first)) ≡ First
-    first-is = λ j. armOf bs h t ds F (from-first j) (arriving s (b .first j))
+    first-is : first (br .net .next) (arriving s (br .first)) ≡ First
+    first-is = λ j. first (from-first j) (arriving s (b .first j))
 
-    pub first-room : Roomy n Fork → Roomy (br .net) (armOf bs h t ds F (br .net .next) (arriving s (br .first)))
-    first-room r = rw first-is (ready-after (2 ^ 25 + length (First .nodes)) (b .emitted) r (omega (arith, first-longer)))
+    pub first-room : Roomy (p .net) Fork → length l ≡ 1024 → ArmRoom bs h t ds (depth + 1) 12 l (inFirst (p .next + 4) p br)
+    first-room r long = record {
+      some = record { arm = i .first; end = i .else; after = i .between; stands = i .stands-first };
+      room = rw first-is (ready-after (2 ^ 25 + length (First .nodes)) (b .emitted) r (omega (arith, first-longer)));
+      places = long;
+    }
 
-    module _ (w₂ u₂ : List ℕ) (x : Walk) (else : ℕ) (k₁ : Counts)
-        (a : Arrives w₁ u₁ (br .net) (armOf bs h t ds F (br .net .next) (arriving s (br .first))) else k₁ w₂ u₂ x) where
-      first-arrives : Arrives w₁ u₁ (br .net) First else k₁ w₂ u₂ x
-      first-arrives = subst (λ (z : Stretch). Arrives w₁ u₁ (br .net) z else k₁ w₂ u₂ x) first-is a
+    module _ {w₂ u₂ l₂ : List ℕ} {x : Walk} (a : ArmMade bs h t ds (depth + 1) 12 w₁ u₁ l (inFirst (p .next + 4) p br) w₂ u₂ l₂ x) where
+      first-arrives : Arrives w₁ u₁ (br .net) First (i .else) (i .between) w₂ u₂ l₂ x
+      first-arrives =
+          subst (λ (z : Stretch). Arrives w₁ u₁ (br .net) z (i .else) (i .between) w₂ u₂ l₂ x) first-is (a .tells (i .first) (i .else) (i .between) (i .stands-first))
 
-      first-claim : isMade (x .wires .claim) ≡ isMade (First .wires .claim)
-      first-claim = ap (λ (z : Wires). isMade (z .claim)) (first-arrives .wires)
+      first-claim : isMade (x .reach .claim) ≡ isMade (First .wires .claim)
+      first-claim = ap isMade (first-arrives .claim)
 
-      pub first-stops : isMade (x .wires .claim) ≡ true → (end : ℕ) (k₂ : Counts) → Arrives w u n Fork end k₂ w₂ u₂ x
-      first-stops m end k₂ =
-          by-claim (λ (z : Stretch). Arrives w u n z end k₂ w₂ u₂ x)
-          (λ e. record {
-            emitted = emitted-then (b .emitted) (first-arrives .emitted);
-            wires = first-arrives .wires;
-            next = λ f. not-both (isMade (x .wires .claim)) m f;
-            counts = λ f. not-both (isMade (x .wires .claim)) m f;
-          })
+      pub first-stops : isMade (x .reach .claim) ≡ true → Arrives w u (p .net) Fork (i .end) (i .after) w₂ u₂ l₂ x
+      first-stops m =
+          by-claim (λ (z : Stretch). Arrives w u (p .net) z (i .end) (i .after) w₂ u₂ l₂ x)
+          (λ e. over (record { nodes = Front ++ First .nodes; wires = First .wires }) (emitted-then (b .emitted) (first-arrives .emitted)) (first-arrives .claim) m)
           (λ e f. not-both (isMade (First .wires .claim)) (sym first-claim ∙ m) e)
           (λ e f. not-both (isMade (First .wires .claim)) (sym first-claim ∙ m) e)
 
-      module _ (o : isMade (x .wires .claim) ≡ false) where
-        from-second : x .net .next ≡ secondFrom bs h (entry ds (k .ifs)) (n .next) c s (armOf bs h t ds F) (armOf bs h t ds S)
+      module _ (o : isMade (x .reach .claim) ≡ false) where
+        pub at-else : x .next ≡ i .else
+        at-else = first-arrives .next o
+
+        from-second : x .net .next ≡ secondFrom bs h d (p .net .next) c s first second
         from-second = first-arrives .emitted .next ∙ ap (λ (m : ℕ). m + length (First .nodes)) from-first
 
-        second-is : armOf bs h t ds S (x .net .next) (arriving s (br .second)) ≡ Second
-        second-is = λ j. armOf bs h t ds S (from-second j) (arriving s (b .second j))
+        second-is : second (x .net .next) (arriving s (br .second)) ≡ Second
+        second-is = λ j. second (from-second j) (arriving s (b .second j))
 
-        two-made : Emitted w u n (Front ++ First .nodes) w₂ u₂ (x .net)
+        two-made : Emitted w u (p .net) (Front ++ First .nodes) w₂ u₂ (x .net)
         two-made = emitted-then (b .emitted) (first-arrives .emitted)
 
-        pub second-room : Roomy n Fork → Roomy (x .net) (armOf bs h t ds S (x .net .next) (arriving s (br .second)))
-        second-room r =
-            rw second-is
-            (ready-after (2 ^ 25 + length (Second .nodes)) two-made r
-            (rw (length-append Front (First .nodes)) (omega (arith, second-longer (sym first-claim ∙ o)))))
+        else-stands : Stands bs h (depth + 1) 13 (x .next) (x .counts) (i .second) (i .end) (i .after)
+        else-stands = rw (first-arrives .next o, first-arrives .counts o) (i .stands-second)
 
-        module _ (w₃ u₃ : List ℕ) (y : Walk) (end : ℕ) (k₂ : Counts)
-            (a₁ : Arrives w₂ u₂ (x .net) (armOf bs h t ds S (x .net .next) (arriving s (br .second))) end k₂ w₃ u₃ y) where
-          second-arrives : Arrives w₂ u₂ (x .net) Second end k₂ w₃ u₃ y
-          second-arrives = subst (λ (z : Stretch). Arrives w₂ u₂ (x .net) z end k₂ w₃ u₃ y) second-is a₁
+        pub second-room : Roomy (p .net) Fork → length l ≡ 1024 → ArmRoom bs h t ds (depth + 1) 13 l (inElse p br x)
+        second-room r long = record {
+          some = record { arm = i .second; end = i .end; after = i .after; stands = else-stands };
+          room =
+              rw second-is
+              (ready-after (2 ^ 25 + length (Second .nodes)) two-made r
+              (rw (length-append Front (First .nodes)) (omega (arith, second-longer (sym first-claim ∙ o)))));
+          places = long;
+        }
 
-          second-claim : isMade (y .wires .claim) ≡ isMade (Second .wires .claim)
-          second-claim = ap (λ (z : Wires). isMade (z .claim)) (second-arrives .wires)
+        module _ {w₃ u₃ l₃ : List ℕ} {y : Walk} (a₁ : ArmMade bs h t ds (depth + 1) 13 w₂ u₂ l (inElse p br x) w₃ u₃ l₃ y) where
+          second-arrives : Arrives w₂ u₂ (x .net) Second (i .end) (i .after) w₃ u₃ l₃ y
+          second-arrives =
+              subst (λ (z : Stretch). Arrives w₂ u₂ (x .net) z (i .end) (i .after) w₃ u₃ l₃ y) second-is (a₁ .tells (i .second) (i .end) (i .after) else-stands)
 
-          three-made : Emitted w u n (Front ++ (First .nodes ++ Second .nodes)) w₃ u₃ (y .net)
+          second-claim : isMade (y .reach .claim) ≡ isMade (Second .wires .claim)
+          second-claim = ap isMade (second-arrives .claim)
+
+          three-made : Emitted w u (p .net) (Front ++ (First .nodes ++ Second .nodes)) w₃ u₃ (y .net)
           three-made = emitted-then (b .emitted) (emitted-then (first-arrives .emitted) (second-arrives .emitted))
 
-          pub second-stops : isMade (y .wires .claim) ≡ true → Arrives w u n Fork end k₂ w₃ u₃ y
-          second-stops m =
-              by-claim (λ (z : Stretch). Arrives w u n z end k₂ w₃ u₃ y) (λ e. not-both (isMade (First .wires .claim)) e (sym first-claim ∙ o))
-              (λ e f. record {
-                emitted = three-made;
-                wires = second-arrives .wires;
-                next = λ g. not-both (isMade (y .wires .claim)) m g;
-                counts = λ g. not-both (isMade (y .wires .claim)) m g;
-              })
+          -- whatever stands in the literals then
+          pub second-stops : isMade (y .reach .claim) ≡ true → (l₄ : List ℕ) → Arrives w u (p .net) Fork (i .end) (i .after) w₃ u₃ l₄ y
+          second-stops m l₄ =
+              by-claim (λ (z : Stretch). Arrives w u (p .net) z (i .end) (i .after) w₃ u₃ l₄ y) (λ e. not-both (isMade (First .wires .claim)) e (sym first-claim ∙ o))
+              (λ e f. over (record { nodes = Front ++ (First .nodes ++ Second .nodes); wires = Second .wires }) three-made (second-arrives .claim) m)
               (λ e f. not-both (isMade (Second .wires .claim)) (sym second-claim ∙ m) f)
 
-          module _ (o₁ : isMade (y .wires .claim) ≡ false) where
-            pub join-ready : Roomy n Fork → Ready (y .net) 8192
+          module _ (o₁ : isMade (y .reach .claim) ≡ false) where
+            pub join-ready : Roomy (p .net) Fork → Ready (y .net) 8192
             join-ready r =
                 ready-after 8192 three-made r
                 (rw (length-append Front (First .nodes ++ Second .nodes), length-append (First .nodes) (Second .nodes)) (omega (arith, second-longer (sym first-claim ∙ o))))
 
-            from-join : y .net .next ≡ joinFrom bs h (entry ds (k .ifs)) (n .next) c s (armOf bs h t ds F) (armOf bs h t ds S)
+            from-join : y .net .next ≡ joinFrom bs h d (p .net .next) c s first second
             from-join = second-arrives .emitted .next ∙ ap (λ (m : ℕ). m + length (Second .nodes)) from-second
 
-            pub arms-join : (w₄ u₄ : List ℕ) (m : Made) → Makes w₃ u₃ (y .net) (joined bs h (y .net .next) (br .condition) (x .wires) (y .wires)) w₄ u₄ m
-                → Arrives w u n Fork end k₂ w₄ u₄ (walkAt (y .next) (y .counts) (m .net) (m .wires))
-            arms-join w₄ u₄ m p =
-                let q : Makes w₃ u₃ (y .net) (joinOf bs h (entry ds (k .ifs)) (n .next) c s (armOf bs h t ds F) (armOf bs h t ds S)) w₄ u₄ m =
-                subst (λ (z : Stretch). Makes w₃ u₃ (y .net) z w₄ u₄ m)
-                (λ j. joined bs h (from-join j) (b .condition j) (first-arrives .wires j) (second-arrives .wires j)) p in
-                by-claim (λ (z : Stretch). Arrives w u n z end k₂ w₄ u₄ (walkAt (y .next) (y .counts) (m .net) (m .wires)))
+            pub arms-join : {w₄ u₄ l₄ : List ℕ} {r : Walk}
+                → Arrives w₃ u₃ (y .net) (joined bs h (y .net .next) (br .condition) (wiresAt l₂ x) (wiresAt l₃ y)) (y .next) (y .counts) w₄ u₄ l₄ r
+                → Arrives w u (p .net) Fork (i .end) (i .after) w₄ u₄ l₄ r
+            arms-join {w₄} {u₄} {l₄} {r} z =
+                let q : Arrives w₃ u₃ (y .net) (joinOf bs h d (p .net .next) c s first second) (i .end) (i .after) w₄ u₄ l₄ r =
+                subst (λ (k : Counts). Arrives w₃ u₃ (y .net) (joinOf bs h d (p .net .next) c s first second) (i .end) k w₄ u₄ l₄ r) (second-arrives .counts o₁)
+                (subst (λ (n : ℕ). Arrives w₃ u₃ (y .net) (joinOf bs h d (p .net .next) c s first second) n (y .counts) w₄ u₄ l₄ r) (second-arrives .next o₁)
+                (subst (λ (m : Stretch). Arrives w₃ u₃ (y .net) m (y .next) (y .counts) w₄ u₄ l₄ r)
+                (λ j. joined bs h (from-join j) (b .condition j) (first-arrives .wires o j) (second-arrives .wires o₁ j)) z)) in
+                by-claim (λ (m : Stretch). Arrives w u (p .net) m (i .end) (i .after) w₄ u₄ l₄ r)
                 (λ e. not-both (isMade (First .wires .claim)) e (sym first-claim ∙ o))
                 (λ e f. not-both (isMade (Second .wires .claim)) f (sym second-claim ∙ o₁))
                 (λ e f. record {
                   emitted = emitted-then (b .emitted) (emitted-then (first-arrives .emitted) (emitted-then (second-arrives .emitted) (q .emitted)));
+                  claim = q .claim;
                   wires = q .wires;
-                  next = λ g. second-arrives .next o₁;
-                  counts = λ g. second-arrives .counts o₁;
+                  next = q .next;
+                  counts = q .counts;
                 })

@@ -41,13 +41,12 @@ use Rattle.adders.proofs.Adder.{sum-word, difference-word}
 use Rattle.circuits.proofs.Product.{product-word}
 use Rattle.bits.proofs.Extend.{const-word, cut-word, zero-extend-word, sign-extend-word}
 use Rattle.bits.proofs.Input.{input-word}
-use Rattle.wiring.specs.Wires.{bitsOf, put, arriving, claiming}
+use Rattle.wiring.specs.Wires.{Wires, bitsOf, put, arriving, claiming}
 use Rattle.wiring.specs.Command.{Stretch, still, access, readInto, simple}
 use Rattle.operands.specs.Operation.{convertBits, computeNodes, computeBits, accessNodes, accessArrival, claimNodes, claimLit}
 use Rattle.translation.specs.Faithful.{bitsOfList}
 use Rattle.wiring.specs.declared.Claim.{Claim}
 use Rattle.lead.specs.declared.Target.{Target}
-use Rattle.wiring.specs.declared.Wires.{Wires}
 use Rattle.translation.proofs.Fitting.{FitSimple}
 use Rattle.translation.proofs.Gates.{access-lit, access-above}
 use Rattle.translation.proofs.Sides.{Entered, within, outside, inside-says, side-says}

@@ -16,13 +16,12 @@ use Rattle.command.specs.declared.Simple.{Simple}
 use Rattle.netlist.specs.Node.{Node}
 use Rattle.bits.specs.Extend.{constBit}
 use Rattle.bits.specs.Input.{inBit}
-use Rattle.wiring.specs.Wires.{bitsOf, arriving, claiming, isMade}
+use Rattle.wiring.specs.Wires.{Wires, bitsOf, arriving, claiming, isMade}
 use Rattle.wiring.specs.Command.{Stretch, after, still, access, simple, readInto}
 use Rattle.operands.specs.Operation.{accessNodes, accessArrival, claimNodes, claimLit, convertBits, computeBits}
 use Rattle.translation.specs.Walk.{andThen, forked, armOf}
 use Rattle.wiring.specs.Branch.{joinLits, joined, conditionNodes, conditionLit, branchNodes, firstLit, elseLit}
 use Rattle.lead.specs.declared.Target.{Target}
-use Rattle.wiring.specs.declared.Wires.{Wires}
 use Rattle.translation.proofs.Places.{put-length}
 
 -- ---- by cases

@@ -20,12 +20,11 @@ use Rattle.course.specs.Course.{course}
 use Rattle.course.specs.declared.Course.{Course}
 use Rattle.clauses.specs.Meaning.{Assign, lit}
 use Rattle.wiring.specs.Command.{Stretch, after}
-use Rattle.wiring.specs.Wires.{isMade}
+use Rattle.wiring.specs.Wires.{Wires, isMade}
 use Rattle.translation.specs.Walk.{andThen}
 use Rattle.machine.specs.Side.{sideOf}
 use Rattle.wiring.specs.declared.Claim.{Claim}
 use Rattle.lead.specs.declared.Target.{Target}
-use Rattle.wiring.specs.declared.Wires.{Wires}
 use Rattle.translation.proofs.Claimed.{open-of}
 use Rattle.course.proofs.Laws.{onward, course-append}
 use Rattle.translation.proofs.Numbers.{Elsewhere, elsewhere-then, run-then-by}

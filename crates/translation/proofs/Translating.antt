@@ -20,16 +20,15 @@ use Rattle.netlist.specs.Node.{Node}
 use Rattle.netlist.specs.Emit.{Emitted}
 use Rattle.netlist.specs.declared.Net.{Net}
 use Rattle.netlist.proofs.Emitting.{emitted-none, emitted-then, ready-after, ready-weaken}
-use Rattle.wiring.specs.Wires.{isMade}
+use Rattle.wiring.specs.Wires.{Wires, isMade}
 use Rattle.wiring.specs.Command.{Stretch, after, still, simple}
 use Rattle.translation.specs.Walk.{andThen, armOf}
-use Rattle.translation.specs.Walker.{walkAt, Arrives, Roomy, ArmMade, ifOf, IfMade, IfRoom}
+use Rattle.translation.specs.Walker.{wiresAt, Arrives, Roomy, ArmMade, ifOf, IfMade, IfRoom}
 use Rattle.wiring.specs.Makes.{Makes, Branched}
 use Rattle.lead.specs.declared.Target.{Target}
-use Rattle.wiring.specs.declared.Wires.{Wires}
 use Rattle.translation.specs.declared.Walk.{Walk}
-use Rattle.wiring.specs.declared.Made.{Made}
 use Rattle.wiring.specs.declared.Branches.{Branches}
+use Rattle.wiring.specs.declared.Made.{Made}
 use Rattle.command.proofs.Tests.{not-both}
 use Rattle.translation.proofs.Stretches.{then-by}
 
@@ -62,153 +61,164 @@ module _ {bs : List ℕ} {h : Header} {depth close at : ℕ} {k : Counts} {a b :
 
 -- ---- the same walk
 
-module _ (bs : List ℕ) (h : Header) (t : Target) (ds : List ℕ) (depth : ℕ) (w u w₁ u₁ : List ℕ) (p q r : Walk) (e : p ≡ q) where
-  pub arm-from : {close : ℕ} → ArmMade bs h t ds depth close w u p w₁ u₁ r → ArmMade bs h t ds depth close w u q w₁ u₁ r
-  arm-from {close} x = subst (λ (z : Walk). ArmMade bs h t ds depth close w u z w₁ u₁ r) e x
-
-  pub if-from : {c : Condition} → IfMade bs h t ds depth c w u p w₁ u₁ r → IfMade bs h t ds depth c w u q w₁ u₁ r
-  if-from {c} x = subst (λ (z : Walk). IfMade bs h t ds depth c w u z w₁ u₁ r) e x
+module _ {bs : List ℕ} {h : Header} {t : Target} {ds : List ℕ} {depth close : ℕ} {w u l w₁ u₁ l₁ : List ℕ} {p r : Walk} where
+  pub arm-from : (m : List ℕ) (q : Walk) → l ≡ m → p ≡ q → ArmMade bs h t ds depth close w u l p w₁ u₁ l₁ r → ArmMade bs h t ds depth close w u m q w₁ u₁ l₁ r
+  arm-from m q f e x =
+      subst (λ (z : Walk). ArmMade bs h t ds depth close w u m z w₁ u₁ l₁ r) e
+      (subst (λ (z : List ℕ). ArmMade bs h t ds depth close w u z p w₁ u₁ l₁ r) f x)
 
 -- the decision that was read
-pub branched-at : (bs w u : List ℕ) (n : Net) (c : Condition) (d d₁ : ℕ) (s : Wires) (w₁ u₁ : List ℕ) (r : Branches) → d ≡ d₁
+pub branched-at : {bs w u : List ℕ} {n : Net} {c : Condition} {d : ℕ} {s : Wires} {w₁ u₁ : List ℕ} {r : Branches} (d₁ : ℕ) → d ≡ d₁
     → Branched bs w u n c d s w₁ u₁ r → Branched bs w u n c d₁ s w₁ u₁ r
-branched-at bs w u n c d d₁ s w₁ u₁ r e x = subst (λ (z : ℕ). Branched bs w u n c z s w₁ u₁ r) e x
+branched-at {bs} {w} {u} {n} {c} {s = s} {w₁} {u₁} {r} d₁ e x = subst (λ (z : ℕ). Branched bs w u n c z s w₁ u₁ r) e x
+
+-- a maker that always leaves the literals, and the walk after it
+pub arrives-by : {w u : List ℕ} {n : Net} {x : Stretch} {w₁ u₁ l₁ : List ℕ} {m : Made} {end next : ℕ} {k counts : Counts} → Makes w u n x w₁ u₁ l₁ m
+    → next ≡ end → counts ≡ k → Arrives w u n x end k w₁ u₁ l₁ (record { next = next; counts = counts; net = m .net; reach = m .reach })
+arrives-by m e f = record { emitted = m .emitted; claim = ap (λ (z : Wires). z .claim) (m .wires); wires = λ o. m .wires; next = λ o. e; counts = λ o. f }
+
+-- a stretch in which the claim was made: nothing is told of the literals, the offset and the counts
+pub over : {w u : List ℕ} {n : Net} {end : ℕ} {k : Counts} {w₁ u₁ l₁ : List ℕ} {r : Walk} (x : Stretch) → Emitted w u n (x .nodes) w₁ u₁ (r .net)
+    → r .reach .claim ≡ x .wires .claim → isMade (r .reach .claim) ≡ true → Arrives w u n x end k w₁ u₁ l₁ r
+over {r = r} x p q m = record {
+  emitted = p;
+  claim = q;
+  wires = λ e. not-both (isMade (r .reach .claim)) m e;
+  next = λ e. not-both (isMade (r .reach .claim)) m e;
+  counts = λ e. not-both (isMade (r .reach .claim)) m e;
+}
 
 -- ---- the walk over an arm
 
 module _ (bs : List ℕ) (h : Header) (t : Target) (ds : List ℕ) (depth close : ℕ) where
-  -- the walk began at at₀, where the arm of i stands, and is now at `at`; a rest of the arm is left
-  pub record Left (w u : List ℕ) (at₀ : ℕ) (k₀ : Counts) (n₀ : Net) (s₀ : Wires) (i : SomeArm bs h depth close at₀ k₀) (w₁ u₁ : List ℕ) (at : ℕ) (k : Counts)
-      (n : Net) (s : Wires) : Type 0 where
+  -- the walk began at p₀ with the literals l, where the arm of i stands, and is now at p with the literals l₁; a rest of the arm is left
+  pub record Left (w u l : List ℕ) (p₀ : Walk) (i : SomeArm bs h depth close (p₀ .next) (p₀ .counts)) (w₁ u₁ l₁ : List ℕ) (p : Walk) : Type 0 where
     pub nodes : List Node
-    pub emitted : Emitted w u n₀ nodes w₁ u₁ n
-    pub going : isMade (s .claim) ≡ false
+    pub emitted : Emitted w u (p₀ .net) nodes w₁ u₁ (p .net)
+    pub going : isMade (p .reach .claim) ≡ false
     pub rest : Arm
-    pub stands : Stands bs h depth close at k rest (i .end) (i .after)
-    pub same : after nodes (armOf bs h t ds rest (n .next) s) ≡ armOf bs h t ds (i .arm) (n₀ .next) s₀
+    pub stands : Stands bs h depth close (p .next) (p .counts) rest (i .end) (i .after)
+    pub same : after nodes (armOf bs h t ds rest (p .net .next) (wiresAt l₁ p)) ≡ armOf bs h t ds (i .arm) (p₀ .net .next) (wiresAt l p₀)
 
-  module _ (w u : List ℕ) (at₀ : ℕ) (k₀ : Counts) (n₀ : Net) (s₀ : Wires) (i : SomeArm bs h depth close at₀ k₀) where
-    pub begun : isMade (s₀ .claim) ≡ false → Left w u at₀ k₀ n₀ s₀ i w u at₀ k₀ n₀ s₀
-    begun o = record { nodes = []; emitted = emitted-none w u n₀; going = o; rest = i .arm; stands = i .stands; same = refl }
+  module _ (w u l : List ℕ) (p₀ : Walk) (i : SomeArm bs h depth close (p₀ .next) (p₀ .counts)) where
+    -- all that the arm makes
+    abbrev Whole : Stretch
+    Whole = armOf bs h t ds (i .arm) (p₀ .net .next) (wiresAt l p₀)
+
+    pub begun : isMade (p₀ .reach .claim) ≡ false → Left w u l p₀ i w u l p₀
+    begun o = record { nodes = []; emitted = emitted-none w u (p₀ .net); going = o; rest = i .arm; stands = i .stands; same = refl }
 
     -- what was told of the arm of i is told of whatever arm stands there
-    pub arm-told : (w₁ u₁ : List ℕ) (r : Walk) → Arrives w u n₀ (armOf bs h t ds (i .arm) (n₀ .next) s₀) (i .end) (i .after) w₁ u₁ r
-        → ArmMade bs h t ds depth close w u (walkAt at₀ k₀ n₀ s₀) w₁ u₁ r
-    arm-told w₁ u₁ r x = record {
+    pub arm-told : {w₁ u₁ l₁ : List ℕ} {r : Walk} → Arrives w u (p₀ .net) Whole (i .end) (i .after) w₁ u₁ l₁ r → ArmMade bs h t ds depth close w u l p₀ w₁ u₁ l₁ r
+    arm-told x = record {
       tells = λ a end k₁ y.
           let e = same-arm (i .stands) y in
           rw (e .0, e .1, e .2) at x;
     }
 
-    module _ (w₁ u₁ : List ℕ) (at : ℕ) (k : Counts) (n : Net) (s : Wires) (l : Left w u at₀ k₀ n₀ s₀ i w₁ u₁ at k n s) where
+    module _ {w₁ u₁ l₁ : List ℕ} {p : Walk} (y : Left w u l p₀ i w₁ u₁ l₁ p) where
       -- the arm that stands here now
-      pub some-here : SomeArm bs h depth close at k
-      some-here = record { arm = l .rest; end = i .end; after = i .after; stands = l .stands }
+      pub some-here : SomeArm bs h depth close (p .next) (p .counts)
+      some-here = record { arm = y .rest; end = i .end; after = i .after; stands = y .stands }
 
-      pub room-here : Roomy n₀ (armOf bs h t ds (i .arm) (n₀ .next) s₀) → Roomy n (armOf bs h t ds (l .rest) (n .next) s)
+      pub room-here : Roomy (p₀ .net) Whole → Roomy (p .net) (armOf bs h t ds (y .rest) (p .net .next) (wiresAt l₁ p))
       room-here r =
-          let x = armOf bs h t ds (l .rest) (n .next) s in
-          let e = sym (length-append (l .nodes) (x .nodes)) ∙ ap (λ (z : Stretch). length (z .nodes)) (l .same) in
-          ready-after (2 ^ 25 + length (x .nodes)) (l .emitted) r (omega (arith, e))
+          let x = armOf bs h t ds (y .rest) (p .net .next) (wiresAt l₁ p) in
+          let e = sym (length-append (y .nodes) (x .nodes)) ∙ ap (λ (z : Stretch). length (z .nodes)) (y .same) in
+          ready-after (2 ^ 25 + length (x .nodes)) (y .emitted) r (omega (arith, e))
 
-      -- a stretch x comes first in what is left, and in it the claim was made
-      over : (x : Stretch) → after (l .nodes) x ≡ armOf bs h t ds (i .arm) (n₀ .next) s₀ → (w₂ u₂ : List ℕ) (r : Walk)
-          → Emitted w₁ u₁ n (x .nodes) w₂ u₂ (r .net) → r .wires ≡ x .wires → isMade (r .wires .claim) ≡ true
-          → Arrives w u n₀ (armOf bs h t ds (i .arm) (n₀ .next) s₀) (i .end) (i .after) w₂ u₂ r
-      over x e w₂ u₂ r p q m =
-          subst (λ (z : Stretch). Arrives w u n₀ z (i .end) (i .after) w₂ u₂ r) e
-          (record { emitted = emitted-then (l .emitted) p; wires = q; next = λ f. not-both (isMade (r .wires .claim)) m f; counts = λ f. not-both (isMade (r .wires .claim)) m f })
+      -- a stretch x comes first in what is left, and then the walk is at q
+      module _ (x : Stretch) (rest : Arm) (at : ℕ) (k : Counts) (f : Stands bs h depth close at k rest (i .end) (i .after))
+          (s : after (y .nodes) (andThen (p .net .next) x (armOf bs h t ds rest)) ≡ Whole) {w₂ u₂ l₂ : List ℕ} {q : Walk} (a : Arrives w₁ u₁ (p .net) x at k w₂ u₂ l₂ q) where
+        goes : isMade (q .reach .claim) ≡ false → Left w u l p₀ i w₂ u₂ l₂ q
+        goes o = record {
+          nodes = y .nodes ++ x .nodes;
+          emitted = emitted-then (y .emitted) (a .emitted);
+          going = o;
+          rest = rest;
+          stands = rw (a .next o, a .counts o) f;
+          same = then-goes (y .nodes) (p .net .next) x (armOf bs h t ds rest) (q .net .next) (wiresAt l₂ q) o (a .emitted .next) (a .wires o) ∙ s;
+        }
 
-      module _ (r : Command) (is : r ≡ commandAt bs at) where
+        -- in it the claim was made
+        stops : isMade (q .reach .claim) ≡ true → Arrives w u (p₀ .net) Whole (i .end) (i .after) w₂ u₂ l₂ q
+        stops o =
+            subst (λ (z : Stretch). Arrives w u (p₀ .net) z (i .end) (i .after) w₂ u₂ l₂ q)
+            (then-stops (y .nodes) (p .net .next) x (armOf bs h t ds rest) (ap isMade (sym (a .claim)) ∙ o) ∙ s)
+            (over (record { nodes = y .nodes ++ x .nodes; wires = x .wires }) (emitted-then (y .emitted) (a .emitted)) (a .claim) o)
+
+      module _ (r : Command) (is : r ≡ commandAt bs (p .next)) where
         pub closed : (m : ℕ) → r ≡ Command.Close m
-            → Arrives w u n₀ (armOf bs h t ds (i .arm) (n₀ .next) s₀) (i .end) (i .after) w₁ u₁ (walkAt (at + 1) k n s)
+            → Arrives w u (p₀ .net) Whole (i .end) (i .after) w₁ u₁ l₁ (record { next = p .next + 1; counts = p .counts; net = p .net; reach = p .reach })
         unfolding armOf
         closed m q =
-            let v = by-close bs h depth close at k (l .rest) (i .end) (i .after) r is (l .stands) m q in
-            let e : after (l .nodes) (still s) ≡ armOf bs h t ds (i .arm) (n₀ .next) s₀ = rw (v .arm) at (l .same) in
-            subst (λ (z : Stretch). Arrives w u n₀ z (i .end) (i .after) w₁ u₁ (walkAt (at + 1) k n s)) e
+            let v = by-close bs h depth close (p .next) (p .counts) (y .rest) (i .end) (i .after) r is (y .stands) m q in
+            let e : after (y .nodes) (still (wiresAt l₁ p)) ≡ armOf bs h t ds (i .arm) (p₀ .net .next) (wiresAt l p₀) = rw (v .arm) at (y .same) in
+            subst (λ (z : Stretch). Arrives w u (p₀ .net) z (i .end) (i .after) w₁ u₁ l₁ (record { next = p .next + 1; counts = p .counts; net = p .net; reach = p .reach })) e
             (record {
-              emitted = rw (append-nil (l .nodes)) (l .emitted);
-              wires = refl;
+              emitted = rw (append-nil (y .nodes)) (y .emitted);
+              claim = refl;
+              wires = λ f. refl;
               next = λ f. sym (v .ends);
               counts = λ f. sym (v .counts);
             })
 
         module _ (c : Simple) (q : r ≡ Command.Simple c) where
-          simple-here : BySimple bs h depth close at k c (l .rest) (i .end) (i .after)
-          simple-here = by-simple bs h depth close at k (l .rest) (i .end) (i .after) r is (l .stands) c q
+          simple-here : BySimple bs h depth close (p .next) (p .counts) c (y .rest) (i .end) (i .after)
+          simple-here = by-simple bs h depth close (p .next) (p .counts) (y .rest) (i .end) (i .after) r is (y .stands) c q
 
-          simple-same : after (l .nodes) (andThen (n .next) (simple bs h t (n .next) c k s) (armOf bs h t ds (simple-here .rest))) ≡ armOf bs h t ds (i .arm) (n₀ .next) s₀
-          unfolding armOf
-          simple-same = rw (simple-here .arm) at (l .same)
+          simple-first : Stretch
+          simple-first = simple bs h t (p .net .next) c (p .counts) (wiresAt l₁ p)
 
-          module _ (w₂ u₂ : List ℕ) (m : Made) (x : Makes w₁ u₁ n (simple bs h t (n .next) c k s) w₂ u₂ m) where
-            pub stepped : isMade (m .wires .claim) ≡ false → Left w u at₀ k₀ n₀ s₀ i w₂ u₂ (at + sizeOfSimple c) (step.after c k) (m .net) (m .wires)
-            stepped o = record {
-              nodes = l .nodes ++ simple bs h t (n .next) c k s .nodes;
-              emitted = emitted-then (l .emitted) (x .emitted);
-              going = o;
-              rest = simple-here .rest;
-              stands = simple-here .known .stands;
-              same =
-                  then-goes (l .nodes) (n .next) (simple bs h t (n .next) c k s) (armOf bs h t ds (simple-here .rest)) (m .net .next) (m .wires) o (x .emitted .next) (x .wires)
-                  ∙ simple-same;
-            }
+          simple-same : after (y .nodes) (andThen (p .net .next) simple-first (armOf bs h t ds (simple-here .rest))) ≡ Whole
+          unfolding armOf simple-first
+          simple-same = rw (simple-here .arm) at (y .same)
 
-            pub stopped : isMade (m .wires .claim) ≡ true
-                → Arrives w u n₀ (armOf bs h t ds (i .arm) (n₀ .next) s₀) (i .end) (i .after) w₂ u₂ (walkAt at k (m .net) (m .wires))
-            stopped o =
-                over (simple bs h t (n .next) c k s)
-                (then-stops (l .nodes) (n .next) (simple bs h t (n .next) c k s) (armOf bs h t ds (simple-here .rest)) (ap (λ (z : Wires). isMade (z .claim)) (sym (x .wires)) ∙ o)
-                ∙ simple-same) w₂ u₂ (walkAt at k (m .net) (m .wires)) (x .emitted) (x .wires) o
+          module _ {w₂ u₂ l₂ : List ℕ} {n : Walk}
+              (x : Arrives w₁ u₁ (p .net) (simple bs h t (p .net .next) c (p .counts) (wiresAt l₁ p)) (p .next + sizeOfSimple c) (step.after c (p .counts)) w₂ u₂ l₂ n) where
+            pub stepped : isMade (n .reach .claim) ≡ false → Left w u l p₀ i w₂ u₂ l₂ n
+            unfolding simple-first
+            stepped = goes simple-first (simple-here .rest) (p .next + sizeOfSimple c) (step.after c (p .counts)) (simple-here .known .stands) simple-same x
+
+            pub stopped : isMade (n .reach .claim) ≡ true → Arrives w u (p₀ .net) Whole (i .end) (i .after) w₂ u₂ l₂ n
+            unfolding simple-first
+            stopped = stops simple-first (simple-here .rest) (p .next + sizeOfSimple c) (step.after c (p .counts)) (simple-here .known .stands) simple-same x
 
         module _ (c : Condition) (q : r ≡ Command.If c) where
-          if-here : ByIf bs h depth close at k c (l .rest) (i .end) (i .after)
-          if-here = by-if bs h depth close at k (l .rest) (i .end) (i .after) r is (l .stands) c q
+          if-here : ByIf bs h depth close (p .next) (p .counts) c (y .rest) (i .end) (i .after)
+          if-here = by-if bs h depth close (p .next) (p .counts) (y .rest) (i .end) (i .after) r is (y .stands) c q
 
           fork-here : Stretch
-          fork-here = ifOf bs h t ds c (walkAt at k n s) (if-here .first) (if-here .second)
+          fork-here = ifOf bs h t ds c l₁ p (if-here .first) (if-here .second)
 
-          if-same : after (l .nodes) (andThen (n .next) fork-here (armOf bs h t ds (if-here .rest))) ≡ armOf bs h t ds (i .arm) (n₀ .next) s₀
+          if-same : after (y .nodes) (andThen (p .net .next) fork-here (armOf bs h t ds (if-here .rest))) ≡ Whole
           unfolding armOf fork-here
-          if-same = rw (if-here .arm) at (l .same)
+          if-same = rw (if-here .arm) at (y .same)
 
-          pub if-roomy : Roomy n (armOf bs h t ds (l .rest) (n .next) s) → IfRoom bs h t ds depth c (walkAt at k n s)
+          pub if-roomy : length l₁ ≡ 1024 → Roomy (p .net) (armOf bs h t ds (y .rest) (p .net .next) (wiresAt l₁ p)) → IfRoom bs h t ds depth c l₁ p
           unfolding armOf fork-here
-          if-roomy r = record {
+          if-roomy long r = record {
             some = arms-of if-here;
             room =
-                let y : Roomy n (andThen (n .next) fork-here (armOf bs h t ds (if-here .rest))) = rw (if-here .arm) at r in
-                ready-weaken (omega (arith, then-longer (n .next) fork-here (armOf bs h t ds (if-here .rest)))) y;
+                let z : Roomy (p .net) (andThen (p .net .next) fork-here (armOf bs h t ds (if-here .rest))) = rw (if-here .arm) at r in
+                ready-weaken (omega (arith, then-longer (p .net .next) fork-here (armOf bs h t ds (if-here .rest)))) z;
+            places = long;
           }
 
-          module _ (w₂ u₂ : List ℕ) (x : Walk) (y : IfMade bs h t ds depth c w₁ u₁ (walkAt at k n s) w₂ u₂ x) where
-            if-arrives : Arrives w₁ u₁ n fork-here (if-here .known .next) (if-here .known .k₃) w₂ u₂ x
+          module _ {w₂ u₂ l₂ : List ℕ} {n : Walk} (x : IfMade bs h t ds depth c w₁ u₁ l₁ p w₂ u₂ l₂ n) where
+            if-arrives : Arrives w₁ u₁ (p .net) fork-here (if-here .known .next) (if-here .known .k₃) w₂ u₂ l₂ n
             unfolding fork-here
             if-arrives =
                 let v = if-here in
                 let f = v .known in
-                y .tells (v .first) (f .else) (f .k₂) (v .second) (f .next) (f .k₃) (f .stands-first) (f .stands-second)
+                x .tells (v .first) (f .else) (f .k₂) (v .second) (f .next) (f .k₃) (f .stands-first) (f .stands-second)
 
-            pub forked-on : isMade (x .wires .claim) ≡ false → Left w u at₀ k₀ n₀ s₀ i w₂ u₂ (x .next) (x .counts) (x .net) (x .wires)
-            forked-on o =
-                let p = if-arrives in
-                record {
-                  nodes = l .nodes ++ fork-here .nodes;
-                  emitted = emitted-then (l .emitted) (p .emitted);
-                  going = o;
-                  rest = if-here .rest;
-                  stands = rw (p .next o, p .counts o) (if-here .known .stands);
-                  same = then-goes (l .nodes) (n .next) fork-here (armOf bs h t ds (if-here .rest)) (x .net .next) (x .wires) o (p .emitted .next) (p .wires) ∙ if-same;
-                }
+            pub forked-on : isMade (n .reach .claim) ≡ false → Left w u l p₀ i w₂ u₂ l₂ n
+            forked-on = goes fork-here (if-here .rest) (if-here .known .next) (if-here .known .k₃) (if-here .known .stands) if-same if-arrives
 
-            pub fork-stopped : isMade (x .wires .claim) ≡ true → Arrives w u n₀ (armOf bs h t ds (i .arm) (n₀ .next) s₀) (i .end) (i .after) w₂ u₂ x
-            fork-stopped o =
-                let p = if-arrives in
-                over fork-here
-                (then-stops (l .nodes) (n .next) fork-here (armOf bs h t ds (if-here .rest)) (ap (λ (z : Wires). isMade (z .claim)) (sym (p .wires)) ∙ o) ∙ if-same)
-                w₂ u₂ x (p .emitted) (p .wires) o
+            pub fork-stopped : isMade (n .reach .claim) ≡ true → Arrives w u (p₀ .net) Whole (i .end) (i .after) w₂ u₂ l₂ n
+            fork-stopped = stops fork-here (if-here .rest) (if-here .known .next) (if-here .known .k₃) (if-here .known .stands) if-same if-arrives
 
             -- the bytes left fall over an if
-            pub if-falls : isMade (x .wires .claim) ≡ false → (at < x .next) × (x .next ≤ length bs)
+            pub if-falls : isMade (n .reach .claim) ≡ false → (p .next < n .next) × (n .next ≤ length bs)
             if-falls o = rw (if-arrives .next o) (if-ends if-here)

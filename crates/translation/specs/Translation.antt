@@ -9,13 +9,12 @@ use Rattle.clauses.specs.Clause.{Clause, flatten}
 use Rattle.netlist.specs.Literal.{opp}
 use Rattle.netlist.specs.Node.{Node, one, clausesOf}
 use Rattle.bits.specs.Input.{inputs, inBit}
-use Rattle.wiring.specs.Wires.{bitsPut}
+use Rattle.wiring.specs.Wires.{Wires, bitsPut}
 use Rattle.wiring.specs.Command.{Stretch, after}
 use Rattle.translation.specs.Walk.{armOf}
 use Rattle.wiring.specs.declared.Claim.{Claim}
 use Rattle.translation.specs.declared.Size.{Size}
 use Rattle.lead.specs.declared.Target.{Target}
-use Rattle.wiring.specs.declared.Wires.{Wires}
 
 -- the bits of the first n parameters take the next variables
 unfoldable pub parameterNodes : List ℕ → (n : ℕ) → List Node

@@ -1,6 +1,7 @@
 // The translation of a claim into clauses.
 mod parameters;
 pub mod refusals;
+mod steps;
 mod walks;
 pub mod wholes;
 
@@ -9,17 +10,17 @@ use lead::Admitted;
 use lead::Target;
 use lead::admit;
 use netlist::Net;
-use wiring::Wires;
+use wiring::Reach;
 ghost use Rattle.lead.specs.Lead.{targetOf};
 ghost use Rattle.translation.specs.Answer.{Answers, Demand2};
 
-// A translation at the end of an arm or an if: the offset and the counts there, what is emitted, and the wires. Where the claim was made
-// before, offset and counts tell nothing.
+// Where a translation is: the offset and the counts there, what is emitted, arrival and the claim. Where the claim was made before, offset and
+// counts tell nothing.
 pub struct Walk {
     pub next: usize,
     pub counts: Counts,
     pub net: Net,
-    pub wires: Wires,
+    pub reach: Reach,
 }
 
 // A lent buffer of a translation.

@@ -4,11 +4,10 @@ use crate::Refusal;
 use crate::Size;
 use crate::Translated;
 use crate::parameters::begin;
+use crate::parameters::first_walk;
 use crate::walks::arm_made;
-use crate::walks::walk;
 use clauses::Store;
 use clauses::append1;
-use command::Counts;
 use header::Header;
 use header::first_command;
 use lead::Target;
@@ -49,6 +48,7 @@ fn make(
     requires { ⌜ IsRoutine (now bytes) h ⌝ }
     ensures { λ r. ⌜ WholeMade (now (bytes .entry)) h t (now (decisions .entry)) (now (words .entry)) (now (starts .entry)) (now (words .exit)) (now (starts .exit)) r ⌝ }
 {
+    let mut lits = [3u32; 1024];
     let none = Store {
         words: 0,
         clauses: 0,
@@ -58,20 +58,24 @@ fn make(
         store: one,
         next: 2,
     };
-    let m = begin(n, bytes, h);
-    let net = m.net;
-    let wires = m.wires;
-    let counts = Counts {
-        ifs: 0,
-        reads: 0,
-        writes: 0,
-    };
-    let start = walk(first_command(h), counts, net, wires);
-    let r = arm_made(words, starts, bytes, h, t, decisions, 0, 0x00, start);
+    let net = begin(&mut lits, n, bytes, h);
+    let start = first_walk(first_command(h), net);
+    let r = arm_made(
+        words,
+        starts,
+        &mut lits,
+        bytes,
+        h,
+        t,
+        decisions,
+        0,
+        0x00,
+        start,
+    );
     let last = r.net;
     let store = last.store;
-    let left = r.wires;
-    let claim = left.claim;
+    let reach = r.reach;
+    let claim = reach.claim;
     let all = append_claim(words, starts, store, claim);
     Size {
         clauses: all.clauses,

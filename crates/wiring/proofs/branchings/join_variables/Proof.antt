@@ -36,8 +36,7 @@ join-variable-requires c κs = let a = c .before .before .before .before .before
     let p = c .before .before .before .before .before .before .before .before .before .before .before .before .pre in
     let l = c .before .before .before .before .before .before .loop in
     let r = ranged (now (a .bytes)) (a .h) (l .v) (p .1 .1) (omega arith) in
-    let e = c .before .before .before .width-of .ensures in
-    (
+    let e = c .before .before .before .width-of .ensures in (
       ready-after 32 (l .inv .2) (p .0) (omega (arith, join-few (now (a .bytes)) (a .h) (p .1 .1) (a .c) (now (a .lits)) (now (a .other)) (l .v) (l .inv .0), p .1 .1 .few)),
       ((l .inv .1, p .1 .0 .1), (r .variable, omega (arith, r .few, e))),
     )
