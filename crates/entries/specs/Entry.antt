@@ -9,7 +9,7 @@ use Rattle.command.specs.Step.{accesses}
 use Rattle.command.specs.declared.Counts.{Counts}
 use Rattle.machine.specs.Side.{sideNumber}
 use Rattle.machine.specs.declared.Side.{Side}
-use Rattle.translation.specs.declared.Size.{Size}
+use Rattle.meaning.specs.declared.Size.{Size}
 
 -- 1 if a whole number is negative
 abbrev pub isNegative : Whole → ℕ

@@ -5,7 +5,7 @@ use command::steps::accesses_of;
 use header::Header;
 use header::first_command;
 use machine::Side;
-use translation::Size;
+use meaning::Size;
 ghost use mathlib.Core.Path.{_≡_};
 ghost use Prim.Native.Nat.{_≤_};
 ghost use mathlib.Core.List.{[], _∷_};

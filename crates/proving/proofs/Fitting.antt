@@ -19,10 +19,10 @@ use Rattle.wiring.specs.Command.{Stretch}
 use Rattle.lead.specs.declared.Target.{Target}
 use Rattle.translation.specs.Answer as answer
 use Rattle.translation.specs.Answer.{Fitted}
-use Rattle.translation.specs.Translation.{whole, clausesOfAll, sizeOf}
+use Rattle.meaning.specs.Translation.{whole, clausesOfAll, sizeOf}
 use Rattle.translation.specs.declared.Buffer as translation
 use Rattle.translation.specs.declared.Refusal as translating
-use Rattle.translation.specs.declared.Size.{Size}
+use Rattle.meaning.specs.declared.Size.{Size}
 use Rattle.translation.specs.declared.Translated.{Translated}
 use Rattle.propagation.specs.Stored.{clausesOf}
 use Rattle.proof.specs.Answer as proof

@@ -17,8 +17,8 @@ use Rattle.netlist.proofs.Model.{Before, Earlier, WellFormed}
 use Rattle.netlist.proofs.Formed.{before-later, before-opp, before-pos, before-neg}
 use Rattle.wiring.specs.declared.Claim.{Claim}
 use Rattle.lead.specs.declared.Target.{Target}
-use Rattle.translation.specs.Translation.{whole, lastClauses, clausesOfAll}
-use Rattle.translation.proofs.Formed.{whole-formed, whole-named}
+use Rattle.meaning.specs.Translation.{whole, lastClauses, clausesOfAll}
+use Rattle.meaning.proofs.Formed.{whole-formed, whole-named}
 use Rattle.proof.proofs.Laying.{Proper}
 
 -- the literals of a clause, and of clauses, are of variables before g

@@ -8,7 +8,7 @@ use Rattle.command.specs.declared.Counts.{Counts}
 use Rattle.routine.specs.Routine.{Arm}
 use Rattle.routine.specs.Decode.{routine, decode}
 use Rattle.lead.specs.declared.Target.{Target}
-use Rattle.translation.specs.Translation.{whole}
+use Rattle.meaning.specs.Translation.{whole}
 use Rattle.translation.specs.declared.Buffer as translation
 use Rattle.translation.specs.declared.Refusal as translating
 use Rattle.witness.specs.Lead.{decisionsIn, proofAt}

@@ -6,7 +6,7 @@ use lib.Dec.{leb}
 use Rattle.header.specs.declared.Header.{Header}
 use Rattle.command.specs.declared.Counts.{Counts}
 use Rattle.wiring.specs.Command.{Stretch}
-use Rattle.translation.specs.Translation.{clausesOfAll, sizeOf}
+use Rattle.meaning.specs.Translation.{clausesOfAll, sizeOf}
 use Rattle.proof.specs.State.{Limits}
 use Rattle.proof.specs.Check.{checkProof}
 use Rattle.step.specs.declared.Verdict.{Verdict}

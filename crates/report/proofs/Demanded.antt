@@ -29,9 +29,9 @@ use Rattle.netlist.specs.Node.{clausesOf}
 use Rattle.netlist.proofs.Literals.{lit-opp}
 use Rattle.netlist.proofs.Truth.{sat-append}
 use Rattle.lead.specs.declared.Target.{Target}
-use Rattle.translation.specs.Faithful.{Faithful}
-use Rattle.translation.specs.Translation.{whole, lastClauses, clausesOfAll, sizeOf}
-use Rattle.translation.proofs.Demand.{faithful}
+use Rattle.meaning.specs.Faithful.{Faithful}
+use Rattle.meaning.specs.Translation.{whole, lastClauses, clausesOfAll, sizeOf}
+use Rattle.meaning.proofs.Demand.{faithful}
 use Rattle.proof.specs.Check.{checkProof}
 use Rattle.proof.proofs.Soundness.{sound}
 use Rattle.step.specs.declared.Verdict.{Verdict}

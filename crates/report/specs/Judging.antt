@@ -13,7 +13,7 @@ use Rattle.witness.specs.Lead.{decisionsIn, proofAt}
 use Rattle.witness.specs.Witness.{witnessOf}
 use Rattle.witness.specs.declared.Refusal as witness
 use Rattle.witness.specs.declared.Witness.{Witness}
-use Rattle.translation.specs.Translation.{whole}
+use Rattle.meaning.specs.Translation.{whole}
 use Rattle.proving.specs.Proving.{Room, provedBy}
 use Rattle.proving.specs.declared.Refusal.{Refusal}
 use Rattle.proving.specs.declared.Proved.{Proved}

@@ -11,10 +11,10 @@ use Rattle.lead.specs.Lead.{Admission, refused, translates, byLead, admission, 
 use Rattle.lead.specs.declared.Target.{Target}
 use Rattle.lead.proofs.Leads.{lead-range}
 use Rattle.translation.specs.Answer.{answerBy, answer, Answers, Demand2}
-use Rattle.translation.specs.Faithful.{Faithful}
-use Rattle.translation.specs.declared.Size.{Size}
+use Rattle.meaning.specs.Faithful.{Faithful}
+use Rattle.meaning.specs.declared.Size.{Size}
 use Rattle.translation.specs.declared.Translated.{Translated}
-use Rattle.translation.proofs.Demand.{faithful}
+use Rattle.meaning.proofs.Demand.{faithful}
 
 module _ (bs : List ℕ) (t : Target) (ds words starts : List ℕ) (size : Size) where
   -- the answer to an admission is that a translation was made

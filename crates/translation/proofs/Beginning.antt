@@ -17,7 +17,7 @@ use Rattle.bits.specs.Bits.{tabulate}
 use Rattle.bits.specs.Input.{inputs, inBit, TakesInputs}
 use Rattle.bits.proofs.Input.{length-inputs}
 use Rattle.bits.proofs.Laws.{sized-table}
-use Rattle.translation.specs.Translation.{parameterNodes, parameterLits}
+use Rattle.meaning.specs.Translation.{parameterNodes, parameterLits}
 use Rattle.wiring.proofs.Ranges.{ranged}
 
 pub some-few : (bs : List ℕ) (h : Header) → Fine bs h → (p : ℕ) → p ≤ h .parameters → length (parameterNodes bs p) ≤ 32 * p

@@ -1,23 +1,6 @@
--- What the proofs of several functions use, and the laws for the layers above.
+-- What the proofs of several functions use.
 mod Admitting
-pub mod Places
-pub mod Stretches
-pub mod Gates
-pub mod Dead
-pub mod Numbers
-pub mod Claimed
-pub mod Fitting
-pub mod Formed
-pub mod Worth
-pub mod Sides
-pub mod Tally
-pub mod Simples
-pub mod Forks
-pub mod Alive
-pub mod Demand
-pub mod Answered
-pub mod Counted
-pub mod Bound
+mod Answered
 mod Beginning
 mod Translating
 mod Parting

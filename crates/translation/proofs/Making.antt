@@ -21,15 +21,15 @@ use Rattle.netlist.specs.Emit.{Emitted, Ready}
 use Rattle.netlist.specs.declared.Net.{Net}
 use Rattle.netlist.proofs.Emitting.{emitted-then, emitted-words-length, emitted-starts-length, ready-after, ready-room}
 use Rattle.wiring.specs.Command.{Stretch, after}
-use Rattle.translation.specs.Walk.{armOf}
-use Rattle.translation.specs.Translation.{parameterNodes, start, whole, lastClauses, clausesOfAll, sizeOf}
+use Rattle.meaning.specs.Walk.{armOf}
+use Rattle.meaning.specs.Translation.{parameterNodes, start, whole, lastClauses, clausesOfAll, sizeOf}
 use Rattle.translation.specs.Walker.{wiresAt, beginning, Arrives, Roomy, ArmMade, ArmRoom, Begun, WholeMade}
-use Rattle.translation.specs.declared.Size.{Size}
+use Rattle.meaning.specs.declared.Size.{Size}
 use Rattle.lead.specs.declared.Target.{Target}
 use Rattle.translation.specs.declared.Walk.{Walk}
 use Rattle.wiring.specs.declared.Claim.{Claim}
 use Rattle.translation.proofs.Beginning.{parameters-length}
-use Rattle.translation.proofs.Bound.{parameters-few, roomy}
+use Rattle.meaning.proofs.Bound.{parameters-few, roomy}
 
 -- nothing is stored yet
 abbrev pub noStore : Store

@@ -19,7 +19,7 @@ use Rattle.netlist.specs.declared.Net.{Net}
 use Rattle.netlist.proofs.Emitting.{emitted-then, ready-after}
 use Rattle.wiring.specs.Wires.{Wires, arriving, isMade}
 use Rattle.wiring.specs.Command.{Stretch, after}
-use Rattle.translation.specs.Walk.{forked, armOf}
+use Rattle.meaning.specs.Walk.{forked, armOf}
 use Rattle.wiring.specs.Branch.{conditionNodes, conditionLit, branchNodes, joined}
 use Rattle.translation.specs.Walker.{wiresAt, inFirst, inElse, Arrives, Roomy, ArmMade, ArmRoom, ifOf, IfMade}
 use Rattle.wiring.specs.Makes.{Branched}
@@ -28,7 +28,7 @@ use Rattle.translation.specs.declared.Walk.{Walk}
 use Rattle.wiring.specs.declared.Branches.{Branches}
 use Rattle.command.proofs.Tests.{not-both}
 use Rattle.translation.proofs.Translating.{same-arm, over}
-use Rattle.translation.proofs.Stretches.{fork-by, frontOf, firstFrom, firstOf, secondFrom, secondOf, joinFrom, joinOf}
+use Rattle.meaning.proofs.Stretches.{fork-by, frontOf, firstFrom, firstOf, secondFrom, secondOf, joinFrom, joinOf}
 
 -- what was told of the arms of i is told of whatever arms stand there
 pub if-told : {bs : List ℕ} {h : Header} {t : Target} {ds : List ℕ} {depth : ℕ} {c : Condition} {w u l w₁ u₁ l₁ : List ℕ} {p r : Walk}

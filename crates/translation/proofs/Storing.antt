@@ -12,13 +12,13 @@ use Rattle.header.specs.declared.Header.{Header}
 use Rattle.command.specs.declared.Counts.{Counts}
 use Rattle.clauses.specs.Clause.{flatten, offsets}
 use Rattle.clauses.proofs.Appending.{length-offsets}
-use Rattle.translation.specs.Translation.{whole, clausesOfAll, sizeOf}
+use Rattle.meaning.specs.Translation.{whole, clausesOfAll, sizeOf}
 use Rattle.translation.specs.Walker.{WholeMade}
 use Rattle.slices.specs.Lent.{usable}
 use Rattle.translation.specs.Answer.{Fitted}
 use Rattle.translation.specs.declared.Buffer.{Buffer}
 use Rattle.translation.specs.declared.Refusal.{Refusal}
-use Rattle.translation.specs.declared.Size.{Size}
+use Rattle.meaning.specs.declared.Size.{Size}
 use Rattle.lead.specs.declared.Target.{Target}
 use Rattle.translation.specs.declared.Translated.{Translated}
 

@@ -22,7 +22,7 @@ use Rattle.netlist.specs.declared.Net.{Net}
 use Rattle.netlist.proofs.Emitting.{emitted-none, emitted-then, ready-after, ready-weaken}
 use Rattle.wiring.specs.Wires.{Wires, isMade}
 use Rattle.wiring.specs.Command.{Stretch, after, still, simple}
-use Rattle.translation.specs.Walk.{andThen, armOf}
+use Rattle.meaning.specs.Walk.{andThen, armOf}
 use Rattle.translation.specs.Walker.{wiresAt, Arrives, Roomy, ArmMade, ifOf, IfMade, IfRoom}
 use Rattle.wiring.specs.Makes.{Makes, Branched}
 use Rattle.lead.specs.declared.Target.{Target}
@@ -30,7 +30,7 @@ use Rattle.translation.specs.declared.Walk.{Walk}
 use Rattle.wiring.specs.declared.Branches.{Branches}
 use Rattle.wiring.specs.declared.Made.{Made}
 use Rattle.command.proofs.Tests.{not-both}
-use Rattle.translation.proofs.Stretches.{then-by}
+use Rattle.meaning.proofs.Stretches.{then-by}
 
 -- ---- stretches
 

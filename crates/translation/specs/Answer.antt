@@ -14,11 +14,11 @@ use Rattle.clauses.specs.Clause.{flatten, offsets}
 use Rattle.lead.specs.Lead.{Admission, refused, translates, admission}
 use Rattle.lead.specs.declared.Target.{Target}
 use Rattle.wiring.specs.Command.{Stretch}
-use Rattle.translation.specs.Translation.{whole, clausesOfAll, sizeOf}
-use Rattle.translation.specs.Faithful.{Faithful}
+use Rattle.meaning.specs.Translation.{whole, clausesOfAll, sizeOf}
+use Rattle.meaning.specs.Faithful.{Faithful}
 use Rattle.translation.specs.declared.Buffer.{Buffer}
 use Rattle.translation.specs.declared.Refusal.{Refusal}
-use Rattle.translation.specs.declared.Size.{Size}
+use Rattle.meaning.specs.declared.Size.{Size}
 use Rattle.translation.specs.declared.Translated.{Translated}
 
 -- the answer, and both buffers

@@ -18,13 +18,13 @@ use Rattle.netlist.specs.Emit.{Emitted, Ready}
 use Rattle.netlist.specs.declared.Net.{Net}
 use Rattle.wiring.specs.Command.{Stretch}
 use Rattle.wiring.specs.Wires.{Wires, wiresOf, reaching, isMade}
-use Rattle.translation.specs.Walk.{forked, armOf}
-use Rattle.translation.specs.Translation.{parameterNodes, parameterLits, whole, clausesOfAll, sizeOf}
+use Rattle.meaning.specs.Walk.{forked, armOf}
+use Rattle.meaning.specs.Translation.{parameterNodes, parameterLits, whole, clausesOfAll, sizeOf}
 use Rattle.lead.specs.declared.Target.{Target}
 use Rattle.translation.specs.declared.Walk.{Walk}
 use Rattle.wiring.specs.declared.Branches.{Branches}
 use Rattle.wiring.specs.declared.Claim.{Claim}
-use Rattle.translation.specs.declared.Size.{Size}
+use Rattle.meaning.specs.declared.Size.{Size}
 
 -- the wires where a walk is, the lent literals being lits
 abbrev pub wiresAt : (lits : List ℕ) → Walk → Wires

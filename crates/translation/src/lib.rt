@@ -9,6 +9,7 @@ use command::Counts;
 use lead::Admitted;
 use lead::Target;
 use lead::admit;
+use meaning::Size;
 use netlist::Net;
 use wiring::Reach;
 ghost use Rattle.lead.specs.Lead.{targetOf};
@@ -33,13 +34,6 @@ pub enum Buffer {
 pub enum Refusal {
     Lead(lead::Refusal),
     TooSmall(Buffer),
-}
-
-// What a translation takes.
-pub struct Size {
-    pub clauses: u32,
-    pub words: u32,
-    pub variables: u32,
 }
 
 // What a translation answers.

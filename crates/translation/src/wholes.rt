@@ -1,7 +1,6 @@
 // The whole translation: counted over empty slices, and written where it fits.
 use crate::Buffer;
 use crate::Refusal;
-use crate::Size;
 use crate::Translated;
 use crate::parameters::begin;
 use crate::parameters::first_walk;
@@ -11,13 +10,14 @@ use clauses::append1;
 use header::Header;
 use header::first_command;
 use lead::Target;
+use meaning::Size;
 use netlist::Net;
 use netlist::opposite;
 use slices::usable;
 use wiring::Claim;
 ghost use Rattle.routine.specs.Decode.{IsRoutine};
 ghost use Rattle.clauses.specs.Clause.{Appended, Room};
-ghost use Rattle.translation.specs.Translation.{lastClauses};
+ghost use Rattle.meaning.specs.Translation.{lastClauses};
 ghost use Rattle.translation.specs.Walker.{WholeMade};
 ghost use Rattle.translation.specs.Answer.{Fitted};
 

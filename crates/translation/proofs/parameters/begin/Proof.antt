@@ -5,7 +5,7 @@ use lib.ListN.{length, length-replicate}
 use Rattle.bits.proofs.Laws.{table-length}
 use Rattle.netlist.specs.Emit.{Emitted}
 use Rattle.netlist.proofs.Emitting.{emitted-none, ready-after, ready-weaken}
-use Rattle.translation.specs.Translation.{parameterNodes, parameterLits}
+use Rattle.meaning.specs.Translation.{parameterNodes, parameterLits}
 use Rattle.wiring.proofs.Ranges.{ranged}
 use Rattle.translation.proofs.Beginning.{some-few, parameter-made, parameter-wired, parameters-length}
 use borrow.Author.Needs.{needs}

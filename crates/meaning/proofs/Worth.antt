@@ -27,9 +27,9 @@ use Rattle.bits.proofs.Input.{input-word}
 use Rattle.circuits.proofs.Join.{join-value}
 use Rattle.wiring.specs.Wires.{bitsIn, bitsPut}
 use Rattle.wiring.specs.Branch.{joinNodes, joinLits}
-use Rattle.translation.specs.Translation.{parameterNodes, parameterLits}
-use Rattle.translation.specs.Faithful.{bitsOfList}
-use Rattle.translation.proofs.Places.{bits-place, put-length, put-same, put-other}
+use Rattle.meaning.specs.Translation.{parameterNodes, parameterLits}
+use Rattle.meaning.specs.Faithful.{bitsOfList}
+use Rattle.meaning.proofs.Places.{bits-place, put-length, put-same, put-other}
 
 -- equal truth of the bits is equal worth
 value-like : (ρ : Assign) (a b : Bits) (w : ℕ) → ((j : ℕ) → j < w → lit ρ (a j) ≡ lit ρ (b j)) → value ρ a w ≡ value ρ b w

@@ -40,13 +40,13 @@ use Rattle.relations.proofs.Relating.{relation-formed, relation-before}
 use Rattle.wiring.specs.Wires.{Wires, bitsIn, bitsPut, bitsOf, put, arriving}
 use Rattle.wiring.specs.Command.{Stretch, after, still, access, readInto, simple}
 use Rattle.operands.specs.Operation.{convertBits, computeNodes, computeBits, top, accessNodes, accessArrival, claimNodes, claimLit}
-use Rattle.translation.specs.Walk.{andThen, forked, armOf}
+use Rattle.meaning.specs.Walk.{andThen, forked, armOf}
 use Rattle.wiring.specs.Branch.{conditionNodes, conditionLit, armNodes, armLit, branchNodes, firstLit, elseLit, joinNodes, joinLits, joined}
-use Rattle.translation.specs.Translation.{parameterNodes, parameterLits, start, whole}
+use Rattle.meaning.specs.Translation.{parameterNodes, parameterLits, start, whole}
 use Rattle.wiring.specs.declared.Claim.{Claim}
 use Rattle.lead.specs.declared.Target.{Target}
-use Rattle.translation.proofs.Places.{bits-place, put-length, put-keeps}
-use Rattle.translation.proofs.Stretches.{by-cond, then-by, access-by, fork-by, firstFrom, firstWires, firstOf, secondFrom, secondWires, secondOf, joinFrom, joinOf}
+use Rattle.meaning.proofs.Places.{bits-place, put-length, put-keeps}
+use Rattle.meaning.proofs.Stretches.{by-cond, then-by, access-by, fork-by, firstFrom, firstWires, firstOf, secondFrom, secondWires, secondOf, joinFrom, joinOf}
 
 -- all literals in the places are of variables before g
 pub record Held (g : ℕ) (lits : List ℕ) : Type 0 where

@@ -23,7 +23,7 @@ use Rattle.machine.specs.declared.State.{State}
 use Rattle.course.specs.Course.{keeps, course}
 use Rattle.course.specs.declared.Course.{Course}
 use Rattle.course.proofs.Laws.{onward, course-append}
-use Rattle.translation.proofs.Stretches.{by-cond}
+use Rattle.meaning.proofs.Stretches.{by-cond}
 
 -- ---- a course that goes on
 

@@ -19,10 +19,10 @@ use Rattle.bits.specs.Input.{inBit}
 use Rattle.wiring.specs.Wires.{Wires, bitsOf, arriving, claiming, isMade}
 use Rattle.wiring.specs.Command.{Stretch, after, still, access, simple, readInto}
 use Rattle.operands.specs.Operation.{accessNodes, accessArrival, claimNodes, claimLit, convertBits, computeBits}
-use Rattle.translation.specs.Walk.{andThen, forked, armOf}
+use Rattle.meaning.specs.Walk.{andThen, forked, armOf}
 use Rattle.wiring.specs.Branch.{joinLits, joined, conditionNodes, conditionLit, branchNodes, firstLit, elseLit}
 use Rattle.lead.specs.declared.Target.{Target}
-use Rattle.translation.proofs.Places.{put-length}
+use Rattle.meaning.proofs.Places.{put-length}
 
 -- ---- by cases
 

@@ -21,15 +21,15 @@ use Rattle.course.specs.declared.Course.{Course}
 use Rattle.clauses.specs.Meaning.{Assign, lit}
 use Rattle.wiring.specs.Command.{Stretch, after}
 use Rattle.wiring.specs.Wires.{Wires, isMade}
-use Rattle.translation.specs.Walk.{andThen}
+use Rattle.meaning.specs.Walk.{andThen}
 use Rattle.machine.specs.Side.{sideOf}
 use Rattle.wiring.specs.declared.Claim.{Claim}
 use Rattle.lead.specs.declared.Target.{Target}
-use Rattle.translation.proofs.Claimed.{open-of}
+use Rattle.meaning.proofs.Claimed.{open-of}
 use Rattle.course.proofs.Laws.{onward, course-append}
-use Rattle.translation.proofs.Numbers.{Elsewhere, elsewhere-then, run-then-by}
+use Rattle.meaning.proofs.Numbers.{Elsewhere, elsewhere-then, run-then-by}
 use Rattle.command.proofs.Tests.{not-both}
-use Rattle.translation.proofs.Worth.{Worth}
+use Rattle.meaning.proofs.Worth.{Worth}
 
 -- the run took another arm than was decided, at some if
 pub record Strays (c : Course) : Type 0 where

@@ -11,9 +11,9 @@ use Rattle.netlist.specs.Node.{Node, one, clausesOf}
 use Rattle.bits.specs.Input.{inputs, inBit}
 use Rattle.wiring.specs.Wires.{Wires, bitsPut}
 use Rattle.wiring.specs.Command.{Stretch, after}
-use Rattle.translation.specs.Walk.{armOf}
+use Rattle.meaning.specs.Walk.{armOf}
 use Rattle.wiring.specs.declared.Claim.{Claim}
-use Rattle.translation.specs.declared.Size.{Size}
+use Rattle.meaning.specs.declared.Size.{Size}
 use Rattle.lead.specs.declared.Target.{Target}
 
 -- the bits of the first n parameters take the next variables

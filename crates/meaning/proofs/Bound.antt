@@ -3,7 +3,7 @@ use Rattle.clauses.specs.Clause.{flatten}
 use Rattle.clauses.proofs.Appending.{flatten-append}
 use Rattle.netlist.specs.Node.{nodeClauses, clausesOf, Node}
 use Rattle.netlist.proofs.Nodes.{clausesOf-few, clausesOf-short}
-use Rattle.translation.specs.Translation.{lastClauses, clausesOfAll, parameterNodes, start, whole}
+use Rattle.meaning.specs.Translation.{lastClauses, clausesOfAll, parameterNodes, start, whole}
 use Rattle.wiring.specs.declared.Claim.{Claim}
 use mathlib.Core.Path.{_≡_, ap, subst, _∙_}
 use mathlib.Core.List.{List, [], _++_}
@@ -43,11 +43,11 @@ use Rattle.relations.proofs.Relating.{relation-short}
 use Rattle.wiring.specs.Wires.{Wires, bitsIn, bitsOf, arriving}
 use Rattle.wiring.specs.Command.{Stretch, still, access, readInto, simple}
 use Rattle.operands.specs.Operation.{computeNodes, accessNodes, accessArrival, claimNodes}
-use Rattle.translation.specs.Walk.{andThen, forked, armOf}
+use Rattle.meaning.specs.Walk.{andThen, forked, armOf}
 use Rattle.wiring.specs.Branch.{conditionNodes, conditionLit, armNodes, branchNodes, joinNodes, joined}
 use Rattle.lead.specs.declared.Target.{Target}
-use Rattle.translation.proofs.Stretches.{by-cond, then-by, access-by, fork-by, frontOf, firstFrom, firstWires, firstOf, secondFrom, secondWires, secondOf, joinFrom, joinOf}
-use Rattle.translation.proofs.Counted.{commandsIn, ifsIn, all-ifs, few-commands}
+use Rattle.meaning.proofs.Stretches.{by-cond, then-by, access-by, fork-by, frontOf, firstFrom, firstWires, firstOf, secondFrom, secondWires, secondOf, joinFrom, joinOf}
+use Rattle.meaning.proofs.Counted.{commandsIn, ifsIn, all-ifs, few-commands}
 
 -- m variables are enough for every command with operands of at most w bits
 record Enough (w m : ℕ) : Type 0 where

@@ -44,15 +44,15 @@ use Rattle.bits.proofs.Input.{input-word}
 use Rattle.wiring.specs.Wires.{Wires, bitsOf, put, arriving, claiming}
 use Rattle.wiring.specs.Command.{Stretch, still, access, readInto, simple}
 use Rattle.operands.specs.Operation.{convertBits, computeNodes, computeBits, accessNodes, accessArrival, claimNodes, claimLit}
-use Rattle.translation.specs.Faithful.{bitsOfList}
+use Rattle.meaning.specs.Faithful.{bitsOfList}
 use Rattle.wiring.specs.declared.Claim.{Claim}
 use Rattle.lead.specs.declared.Target.{Target}
-use Rattle.translation.proofs.Fitting.{FitSimple}
-use Rattle.translation.proofs.Gates.{access-lit, access-above}
-use Rattle.translation.proofs.Sides.{Entered, within, outside, inside-says, side-says}
-use Rattle.translation.proofs.Stretches.{access-by}
-use Rattle.translation.proofs.Tally.{Tally, through, here, Tallies, not-here}
-use Rattle.translation.proofs.Worth.{Worth, put-worth}
+use Rattle.meaning.proofs.Fitting.{FitSimple}
+use Rattle.meaning.proofs.Gates.{access-lit, access-above}
+use Rattle.meaning.proofs.Sides.{Entered, within, outside, inside-says, side-says}
+use Rattle.meaning.proofs.Stretches.{access-by}
+use Rattle.meaning.proofs.Tally.{Tally, through, here, Tallies, not-here}
+use Rattle.meaning.proofs.Worth.{Worth, put-worth}
 
 -- ---- copy, cut and the extensions
 

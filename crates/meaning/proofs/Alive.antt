@@ -23,19 +23,19 @@ use Rattle.netlist.specs.Meaning.{Inputs}
 use Rattle.netlist.proofs.Truth.{Models, models-append}
 use Rattle.wiring.specs.Command.{Stretch, simple}
 use Rattle.wiring.specs.Wires.{Wires, isMade}
-use Rattle.translation.specs.Walk.{andThen, forked, armOf}
-use Rattle.translation.specs.Faithful.{bitsOfList}
+use Rattle.meaning.specs.Walk.{andThen, forked, armOf}
+use Rattle.meaning.specs.Faithful.{bitsOfList}
 use Rattle.wiring.specs.declared.Claim.{Claim}
 use Rattle.lead.specs.declared.Target.{Target}
-use Rattle.translation.proofs.Claimed.{simple-claims, fork-claims, arm-claims}
-use Rattle.translation.proofs.Dead.{Deadens, arm-dead}
-use Rattle.translation.proofs.Fitting.{Fit}
-use Rattle.translation.proofs.Forks.{Runs, Arms, fork-alive}
-use Rattle.translation.proofs.Numbers.{Elsewhere, accesses-grow, misses}
-use Rattle.translation.proofs.Simples.{alive-through, simple-alive}
+use Rattle.meaning.proofs.Claimed.{simple-claims, fork-claims, arm-claims}
+use Rattle.meaning.proofs.Dead.{Deadens, arm-dead}
+use Rattle.meaning.proofs.Fitting.{Fit}
+use Rattle.meaning.proofs.Forks.{Runs, Arms, fork-alive}
+use Rattle.meaning.proofs.Numbers.{Elsewhere, accesses-grow, misses}
+use Rattle.meaning.proofs.Simples.{alive-through, simple-alive}
 use Rattle.command.proofs.Tests.{not-both}
-use Rattle.translation.proofs.Stretches.{then-by, arm-length}
-use Rattle.translation.proofs.Tally.{Tallies, tally-then}
+use Rattle.meaning.proofs.Stretches.{then-by, arm-length}
+use Rattle.meaning.proofs.Tally.{Tallies, tally-then}
 
 module _ (bs ins : List ℕ) (h : Header) (fine : Fine bs h) (t : Target) (ds : List ℕ) (ρ : Assign) (o : ρ 1 ≡ true) where
   abbrev I : Inputs

@@ -17,13 +17,13 @@ use Rattle.command.specs.declared.Simple.{Simple}
 use Rattle.routine.proofs.Views.{induction}
 use Rattle.wiring.specs.Wires.{Wires, claiming, isMade}
 use Rattle.wiring.specs.Command.{Stretch, still, readInto, simple}
-use Rattle.translation.specs.Walk.{andThen, forked, armOf}
+use Rattle.meaning.specs.Walk.{andThen, forked, armOf}
 use Rattle.wiring.specs.Branch.{joined}
 use Rattle.wiring.specs.declared.Claim.{Claim}
 use Rattle.lead.specs.declared.Target.{Target}
-use Rattle.translation.proofs.Numbers.{after-grows, accesses-grow}
+use Rattle.meaning.proofs.Numbers.{after-grows, accesses-grow}
 use Rattle.command.proofs.Tests.{not-both}
-use Rattle.translation.proofs.Stretches.{then-by, access-by, fork-by, firstFrom, firstWires, firstOf, secondFrom, secondWires, secondOf}
+use Rattle.meaning.proofs.Stretches.{then-by, access-by, fork-by, firstFrom, firstWires, firstOf, secondFrom, secondWires, secondOf}
 
 pub open-of : (c : Claim) → isMade c ≡ false → c ≡ Claim.Open
 open-of Claim.Open e = refl

@@ -34,21 +34,21 @@ use Rattle.netlist.proofs.Model.{WellFormed, valueAt, eval, satisfied-iff, eval
 use Rattle.netlist.proofs.Truth.{Models, models-iff, models-append}
 use Rattle.wiring.specs.Command.{Stretch}
 use Rattle.wiring.specs.Wires.{Wires, isMade}
-use Rattle.translation.specs.Walk.{armOf}
-use Rattle.translation.specs.Translation.{parameterNodes, start, whole}
+use Rattle.meaning.specs.Walk.{armOf}
+use Rattle.meaning.specs.Translation.{parameterNodes, start, whole}
 use Rattle.machine.specs.Side.{sideOf}
-use Rattle.translation.specs.Faithful.{bitsOfList, Solves, courseOf, Arrives, Faithful}
+use Rattle.meaning.specs.Faithful.{bitsOfList, Solves, courseOf, Arrives, Faithful}
 use Rattle.wiring.specs.declared.Claim.{Claim}
 use Rattle.lead.specs.declared.Target.{Target}
-use Rattle.translation.proofs.Alive.{arm-alive}
-use Rattle.translation.proofs.Claimed.{MadeBy, made-by, arm-claims, arm-settled}
-use Rattle.translation.proofs.Fitting.{Fitting, fitting}
-use Rattle.translation.proofs.Formed.{whole-formed}
-use Rattle.translation.proofs.Numbers.{Elsewhere}
-use Rattle.translation.proofs.Simples.{Alive}
+use Rattle.meaning.proofs.Alive.{arm-alive}
+use Rattle.meaning.proofs.Claimed.{MadeBy, made-by, arm-claims, arm-settled}
+use Rattle.meaning.proofs.Fitting.{Fitting, fitting}
+use Rattle.meaning.proofs.Formed.{whole-formed}
+use Rattle.meaning.proofs.Numbers.{Elsewhere}
+use Rattle.meaning.proofs.Simples.{Alive}
 use Rattle.command.proofs.Tests.{not-both}
-use Rattle.translation.proofs.Tally.{Tally, through, lost, missed, here}
-use Rattle.translation.proofs.Worth.{parameters-worth}
+use Rattle.meaning.proofs.Tally.{Tally, through, lost, missed, here}
+use Rattle.meaning.proofs.Worth.{parameters-worth}
 
 -- ---- what a tally with the claim made says
 

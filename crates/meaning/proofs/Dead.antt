@@ -18,11 +18,11 @@ use Rattle.netlist.proofs.Truth.{Models, models-append}
 use Rattle.wiring.specs.Wires.{Wires, bitsOf}
 use Rattle.wiring.specs.Command.{Stretch, still, readInto, simple}
 use Rattle.operands.specs.Operation.{accessNodes, accessArrival}
-use Rattle.translation.specs.Walk.{forked, armOf}
+use Rattle.meaning.specs.Walk.{forked, armOf}
 use Rattle.wiring.specs.Branch.{conditionNodes, conditionLit, branchNodes}
 use Rattle.lead.specs.declared.Target.{Target}
-use Rattle.translation.proofs.Gates.{models-three, access-lit, first-lit, else-lit, joined-lit}
-use Rattle.translation.proofs.Stretches.{then-by, access-by, fork-by, firstFrom, firstWires, firstOf, secondFrom, secondWires, secondOf, joinFrom, joinOf}
+use Rattle.meaning.proofs.Gates.{models-three, access-lit, first-lit, else-lit, joined-lit}
+use Rattle.meaning.proofs.Stretches.{then-by, access-by, fork-by, firstFrom, firstWires, firstOf, secondFrom, secondWires, secondOf, joinFrom, joinOf}
 
 -- an arm that was not decided, or whose if is not come to
 pub not-come : (b x y : Bool) → x ≡ false → cond b false (x && y) ≡ false

@@ -23,7 +23,7 @@ use Rattle.netlist.specs.Node.{clausesOf}
 use Rattle.clauses.specs.Meaning.{Assign, lit, sat}
 use Rattle.netlist.specs.Meaning.{Inputs, Extends, Agree}
 use Rattle.wiring.specs.Command.{Stretch}
-use Rattle.translation.specs.Translation.{whole}
+use Rattle.meaning.specs.Translation.{whole}
 use Rattle.machine.specs.Side.{sideOf}
 use Rattle.wiring.specs.declared.Claim.{Claim}
 use Rattle.lead.specs.declared.Target.{Target}

@@ -29,18 +29,18 @@ use Rattle.relations.proofs.Relating.{relation-value}
 use Rattle.wiring.specs.Wires.{Wires, bitsOf, arriving, isMade}
 use Rattle.wiring.specs.Command.{Stretch}
 use Rattle.wiring.specs.Branch.{conditionNodes, conditionLit, branchNodes, firstLit, elseLit, joined}
-use Rattle.translation.specs.Walk.{forked}
-use Rattle.translation.specs.Faithful.{bitsOfList}
+use Rattle.meaning.specs.Walk.{forked}
+use Rattle.meaning.specs.Faithful.{bitsOfList}
 use Rattle.wiring.specs.declared.Claim.{Claim}
 use Rattle.lead.specs.declared.Target.{Target}
-use Rattle.translation.proofs.Dead.{Deadens}
-use Rattle.translation.proofs.Gates.{models-three, first-lit, else-lit, joined-lit, joined-gates}
-use Rattle.translation.proofs.Numbers.{Elsewhere}
-use Rattle.translation.proofs.Simples.{Alive}
+use Rattle.meaning.proofs.Dead.{Deadens}
+use Rattle.meaning.proofs.Gates.{models-three, first-lit, else-lit, joined-lit, joined-gates}
+use Rattle.meaning.proofs.Numbers.{Elsewhere}
+use Rattle.meaning.proofs.Simples.{Alive}
 use Rattle.command.proofs.Tests.{not-both}
-use Rattle.translation.proofs.Stretches.{by-cond, fork-by, afterCondition, firstFrom, firstWires, firstOf, secondFrom, secondWires, secondOf, joinFrom, joinOf}
-use Rattle.translation.proofs.Tally.{Tally, through, lost, missed, here, Ended, Tallies, not-here, ended-elsewhere}
-use Rattle.translation.proofs.Worth.{Worth, join-first, join-second}
+use Rattle.meaning.proofs.Stretches.{by-cond, fork-by, afterCondition, firstFrom, firstWires, firstOf, secondFrom, secondWires, secondOf, joinFrom, joinOf}
+use Rattle.meaning.proofs.Tally.{Tally, through, lost, missed, here, Ended, Tallies, not-here, ended-elsewhere}
+use Rattle.meaning.proofs.Worth.{Worth, join-first, join-second}
 
 -- an arm is followed, unless the other one was decided
 follows-first : (d : ℕ) → d ≤ 2 → follows d 0 ≡ not (eqb d 1)

@@ -1,0 +1,3 @@
+pub mod Walk
+pub mod Translation
+pub mod Faithful
