@@ -16,7 +16,7 @@ use Rattle.bitvec.specs.Word.{add, subtract}
 use Rattle.bits.proofs.Values.{AllBefore, bit, order, value, value-lt}
 use Rattle.adders.specs.Adder.{adder, carryAt, fullAdder, oppBits, subtractor, sumBit}
 use Rattle.bits.specs.Bits.{Bits}
-use Rattle.netlist.proofs.Emitting.{emitted-then}
+use Rattle.netlist.proofs.Emitting.{emitted-then, nodes-then}
 use Rattle.netlist.proofs.Formed.{before-later, before-opp, before-pos, formed-append}
 use Rattle.netlist.proofs.Literals.{lit-false, lit-opp, lit-pos, lit-true}
 use Rattle.netlist.proofs.Model.{Before, WellFormed}
@@ -24,9 +24,10 @@ use Rattle.netlist.proofs.Nodes.{Sized, maj-sized, none-sized, sized-then, xor-
 use Rattle.netlist.proofs.Truth.{Models, models-append}
 use Rattle.netlist.specs.Emit.{Emitted}
 use Rattle.netlist.specs.Literal.{opp}
+use Rattle.clauses.specs.Clause.{Written}
 use Rattle.clauses.specs.Meaning.{Assign, lit}
 use Rattle.netlist.specs.Meaning.{Inputs, majB, nodeVal, xorB}
-use Rattle.netlist.specs.Node.{Node}
+use Rattle.netlist.specs.Node.{Node, clausesOf}
 use Rattle.netlist.specs.declared.Net.{Net}
 
 pub length-adder : (g : ℕ) (a b : Bits) (c w : ℕ) → length (adder g a b c w) ≡ 3 * w
@@ -35,7 +36,7 @@ length-adder g a b c zero = refl
 length-adder g a b c (suc j) = simp length-append (omega (arith, length-adder g a b c j))
 
 -- a place takes 3 nodes, 14 clauses and 56 words
-place-sized : (g a b c : ℕ) → Sized (fullAdder g a b c) 3 14 56
+pub place-sized : (g a b c : ℕ) → Sized (fullAdder g a b c) 3 14 56
 place-sized g a b c = sized-then (xor-sized a b) (sized-then (xor-sized (2 * g) c) (maj-sized a b c) refl refl refl) refl refl refl
 
 pub adder-sized : (g : ℕ) (a b : Bits) (c w : ℕ) → Sized (adder g a b c w) (3 * w) (14 * w) (56 * w)
@@ -194,6 +195,19 @@ module _ {w t w₁ t₁ w₂ t₂ : List ℕ} {n n₁ n₂ : Net} (a b : Bits) (
 
   pub carry-turn : 2 * (n₂ .next - 1) ≡ carryAt (n .next) c (j + 1)
   carry-turn = rw (add-one j) (omega (arith, here, q .next))
+
+-- a turn of the loop that writes
+pub adder-written : {w t w₁ t₁ w₂ t₂ : List ℕ} {i₀ k₀ i k : ℕ} (g₀ g : ℕ) (a b : Bits) (c x j : ℕ)
+    → Written w t i₀ k₀ (clausesOf g₀ (adder g₀ a b c j)) w₁ t₁ → Written w₁ t₁ i k (clausesOf g (fullAdder g (a j) (b j) x)) w₂ t₂
+    → i ≡ i₀ + 56 * j → k ≡ k₀ + 14 * j → g ≡ g₀ + 3 * j → x ≡ carryAt g₀ c j → Written w t i₀ k₀ (clausesOf g₀ (adder g₀ a b c (j + 1))) w₂ t₂
+unfolding adder
+adder-written {w₁ = w₁} {t₁} {w₂} {t₂} {i = i} {k} g₀ g a b c x j p q ei ek eg ex =
+    rw (add-one j)
+    (nodes-then g₀ (fullAdder (g₀ + 3 * j) (a j) (b j) (carryAt g₀ c j)) p (adder-sized g₀ a b c j)
+    (subst (λ (ns : List Node). Written w₁ t₁ i k (clausesOf g ns) w₂ t₂) (λ z. fullAdder (eg z) (a j) (b j) (ex z)) q) ei ek eg)
+
+pub carry-written : (g₀ g c j : ℕ) → g ≡ g₀ + 3 * j → 2 * g + 4 ≡ carryAt g₀ c (j + 1)
+carry-written g₀ g c j e = rw (add-one j) (omega arith)
 
 pub sum-before : (g w : ℕ) → 0 < g → AllBefore (g + 3 * w) (sumBit g) w
 sum-before g w z j h = before-pos _ _ (omega arith) (omega arith)

@@ -16,7 +16,7 @@ use Rattle.bits.proofs.Values.{AllBefore, bit, high-part, scaled, value, value-
 use Rattle.adders.specs.Adder.{adder, sumBit}
 use Rattle.bits.specs.Bits.{Bits, tabulate}
 use Rattle.circuits.specs.Product.{accBit, addRow, product, row, rowBit, rowStart}
-use Rattle.netlist.proofs.Emitting.{emitted-then}
+use Rattle.netlist.proofs.Emitting.{emitted-then, nodes-then}
 use Rattle.netlist.proofs.Formed.{before-later, before-neg, before-pos, formed-append}
 use Rattle.netlist.proofs.Literals.{lit-false, lit-pos}
 use Rattle.netlist.proofs.Model.{Before, WellFormed}
@@ -24,9 +24,10 @@ use Rattle.netlist.proofs.Nodes.{Sized, and-sized, none-sized, sized-then}
 use Rattle.netlist.proofs.Truth.{Models, models-append}
 use Rattle.netlist.specs.Emit.{Emitted}
 use Rattle.netlist.specs.Literal.{pos}
+use Rattle.clauses.specs.Clause.{Written}
 use Rattle.clauses.specs.Meaning.{Assign, lit}
 use Rattle.netlist.specs.Meaning.{Inputs, nodeVal}
-use Rattle.netlist.specs.Node.{Node, and}
+use Rattle.netlist.specs.Node.{Node, and, clausesOf}
 use Rattle.netlist.specs.declared.Net.{Net}
 
 pub rowBit-low : (g k j : ℕ) → j < k → rowBit g k j ≡ 3
@@ -217,6 +218,13 @@ product-formed g s t w (suc k) z h hs ht =
     (λ j l. before-later (r + m) (omega arith) (acc-before g w k z j l))
     (row-before r k m w (omega arith) (omega arith))
     (before-neg (r + m) 1 (omega arith) (omega arith))))))
+
+-- a turn of the loop that writes
+pub row-written : {w t w₁ t₁ w₂ t₂ : List ℕ} {i₀ k₀ i k : ℕ} (g₀ g : ℕ) (s : Bits) (l j : ℕ)
+    → Written w t i₀ k₀ (clausesOf g₀ (row s l j)) w₁ t₁ → Written w₁ t₁ i k (clausesOf g (and (s j) l ∷ [])) w₂ t₂
+    → i ≡ i₀ + 10 * j → k ≡ k₀ + 3 * j → g ≡ g₀ + j → Written w t i₀ k₀ (clausesOf g₀ (row s l (j + 1))) w₂ t₂
+unfolding row
+row-written g₀ g s l j p q ei ek eg = rw (add-one j) (nodes-then g₀ (and (s j) l ∷ []) p (row-sized s l j) q ei ek eg)
 
 pub row-turn : {w t w₁ t₁ w₂ t₂ : List ℕ} {n n₁ n₂ : Net} (s : Bits) (l i : ℕ)
     → Emitted w t n (row s l i) w₁ t₁ n₁ → Emitted w₁ t₁ n₁ (and (s i) l ∷ []) w₂ t₂ n₂ → Emitted w t n (row s l (i + 1)) w₂ t₂ n₂

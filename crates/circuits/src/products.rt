@@ -3,14 +3,46 @@ use crate::Bundle;
 use adders::add;
 use adders::sum_bits;
 use clauses::counts;
+use clauses::fits;
 use netlist::Net;
 use netlist::counted;
+use netlist::roomy;
 ghost use mathlib.Core.Path.{_≡_};
 ghost use Prim.Native.Nat.{_*_, _+_, _/_, _^_, _≤_};
 ghost use lib.ListN.{length};
 ghost use Rattle.bits.specs.Bits.{litAt, tabulate};
 ghost use Rattle.circuits.specs.Product.{accBit, addRow, product, row, rowBit};
+ghost use Rattle.clauses.specs.Clause.{Lent, Written};
 ghost use Rattle.netlist.specs.Emit.{Counted, Emitted, Ready};
+ghost use Rattle.netlist.specs.Node.{clausesOf};
+
+// Writes the AND of the first m bits of s with t, for which there is room.
+fn write_row(
+    words: &mut [u32],
+    starts: &mut [u32],
+    at: u32,
+    start: u32,
+    first: u32,
+    s: &[u32],
+    t: u32,
+    m: usize,
+)
+    requires { ⌜ Lent (length (now words)) (length (now starts)) at start (3 * m) ⌝ }
+    requires { ⌜ (first + m ≤ 2 ^ 26) × (m ≤ length (now s)) ⌝ }
+    ensures { λ _. ⌜ Written (now (words .entry)) (now (starts .entry)) at start (clausesOf first (row (litAt (now (s .entry))) t m)) (now (words .exit)) (now (starts .exit)) ⌝ }
+{
+    let mut i = at;
+    let mut k = start;
+    let mut g = first;
+    let mut j = 0;
+    while j < m {
+        roomy::and_gate(words, starts, i, k, g, s[j], t);
+        i += 10;
+        k += 3;
+        g += 1;
+        j += 1;
+    }
+}
 
 // The AND of the first m bits of s with t.
 fn and_row(words: &mut [u32], starts: &mut [u32], n: Net, s: &[u32], t: u32, m: usize) -> Net
@@ -18,6 +50,12 @@ fn and_row(words: &mut [u32], starts: &mut [u32], n: Net, s: &[u32], t: u32, m: 
     requires { ⌜ m ≤ length (now s) ⌝ }
     ensures { λ r. ⌜ Emitted (now (words .entry)) (now (starts .entry)) n (row (litAt (now (s .entry))) t m) (now (words .exit)) (now (starts .exit)) r ⌝ }
 {
+    let store = n.store;
+    let ands = m as u32;
+    if fits(words.len(), starts.len(), store, 3 * ands) {
+        write_row(words, starts, store.words, store.clauses, n.next, s, t, m);
+        return counted(n, ands, 3 * ands, 10 * ands);
+    }
     let mut net = n;
     let mut i = 0;
     while i < m {

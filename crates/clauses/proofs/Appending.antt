@@ -9,7 +9,7 @@ use lib.ListN.{drop, length, length-append, length-take, set, take}
 use lib.Seq.{drop-at, length-sets, set-comm, set-getD, set-out, sets, sets-eq, slice, slice-cons, slice-empty, take-set-le, take-set-lt}
 use lib.Dec.{eqb, leb, ltb}
 use borrow.Author.Tests.{eqb-true, leb-true, ltb-false, ltb-true}
-use Rattle.clauses.specs.Clause.{Appended, Clause, Lent, Room, flatten, offsets}
+use Rattle.clauses.specs.Clause.{Appended, Clause, Lent, Room, Written, flatten, offsets}
 use Rattle.clauses.specs.declared.Store.{Store}
 
 -- ---- runs of stores
@@ -111,44 +111,72 @@ room-after {s = s} {c} k p h r = record {
 pub room-weaken : {s : Store} {j k : ℕ} → j ≤ k → Room s k → Room s j
 room-weaken h r = record { words = omega (arith, r .words); clauses = omega (arith, r .clauses) }
 
--- ---- buffers that suffice, and empty ones
+-- ---- writing at given entries: buffers that suffice, and empty ones
 
 both : (a b : Bool) → (a && b) ≡ true → (a ≡ true) × (b ≡ true)
 both true b h = (refl, h)
 both false b h = (h, absurd (let y : _≡_ {A = ℕ} 0 1 = cc in omega arith))
 
 -- what the test of the room says
-pub lent-of : (w t : ℕ) {s : Store} (n : ℕ) → Room s n → (leb (s .words + 4 * n) w && leb (s .clauses + n) t) ≡ true → Lent w t s n
-lent-of w t n r h = let p = both _ _ h in record { room = r; words = leb-true _ _ (p .0); starts = leb-true _ _ (p .1) }
+pub lent-of : (w t : ℕ) {s : Store} (n : ℕ) → Room s n → (leb (s .words + 4 * n) w && leb (s .clauses + n) t) ≡ true → Lent w t (s .words) (s .clauses) n
+lent-of w t n r h =
+    let p = both _ _ h in
+    record { words = leb-true _ _ (p .0); starts = leb-true _ _ (p .1); word-count = r .words; count = r .clauses }
 
--- after some clauses there is room for the others
-pub lent-after : {w t : List ℕ} {s : Store} {a : List Clause} {w₁ t₁ : List ℕ} {s₁ : Store} (k : ℕ) {j : ℕ}
-    → Appended w t s a w₁ t₁ s₁ → Lent (length w) (length t) s j → length (flatten a) ≤ 4 * length a → length a + k ≤ j
-    → Lent (length w₁) (length t₁) s₁ k
-lent-after k p l h e = record {
-  room = record { words = omega (arith, p .used, l .room .words); clauses = omega (arith, p .count, l .room .clauses) };
-  words = rw (appended-words-length p) (omega (arith, p .used, l .words));
-  starts = rw (appended-starts-length p) (omega (arith, p .count, l .starts));
+-- a part of what is lent
+pub lent-within : {w t i k n i₁ k₁ m : ℕ} → Lent w t i k n → i₁ + 4 * m ≤ i + 4 * n → k₁ + m ≤ k + n → Lent w t i₁ k₁ m
+lent-within l h e = record {
+  words = omega (arith, l .words);
+  starts = omega (arith, l .starts);
+  word-count = omega (arith, l .word-count);
+  count = omega (arith, l .count);
 }
+
+pub written-words-length : {w t : List ℕ} {i k : ℕ} {cs : List Clause} {w₁ t₁ : List ℕ} → Written w t i k cs w₁ t₁ → length w₁ ≡ length w
+written-words-length {w} {i = i} {cs = cs} p = ap length (p .words) ∙ length-sets w i (flatten cs)
+
+pub written-starts-length : {w t : List ℕ} {i k : ℕ} {cs : List Clause} {w₁ t₁ : List ℕ} → Written w t i k cs w₁ t₁ → length t₁ ≡ length t
+written-starts-length {t = t} {i} {k} {cs} p = ap length (p .starts) ∙ length-sets t k (offsets i cs)
+
+-- writing leaves the room as it is
+pub lent-kept : {w t : List ℕ} {i k : ℕ} {cs : List Clause} {w₁ t₁ : List ℕ} {j l n : ℕ}
+    → Written w t i k cs w₁ t₁ → Lent (length w) (length t) j l n → Lent (length w₁) (length t₁) j l n
+lent-kept p l = rw (written-words-length p, written-starts-length p) l
+
+-- one list of clauses is written, and then another
+pub written-then : {w t : List ℕ} {i k : ℕ} {a : List Clause} {w₁ t₁ : List ℕ} {j l : ℕ} {b : List Clause} {w₂ t₂ : List ℕ}
+    → Written w t i k a w₁ t₁ → Written w₁ t₁ j l b w₂ t₂ → j ≡ i + length (flatten a) → l ≡ k + length a → Written w t i k (a ++ b) w₂ t₂
+written-then {w} {t} {i} {k} {a} {w₁} {t₁} {j} {l} {b} {w₂} {t₂} p q e f = record {
+  words = q .words
+      ∙ ap₂ (λ (x : List ℕ) (n : ℕ). sets x n (flatten b)) (p .words) e
+      ∙ sets-append w i (flatten a) (flatten b)
+      ∙ ap (sets w i) (sym (flatten-append a b));
+  starts = q .starts
+      ∙ ap₂ (λ (x : List ℕ) (n : ℕ). sets x n (offsets j b)) (p .starts) (f ∙ ap (λ (n : ℕ). k + n) (sym (length-offsets i a)))
+      ∙ sets-append t k (offsets i a) (offsets j b)
+      ∙ ap (λ (n : ℕ). sets t k (offsets i a ++ offsets n b)) e
+      ∙ ap (sets t k) (sym (offsets-append i a b));
+}
+
+pub written-none : (w t : List ℕ) (i k : ℕ) → Written w t i k [] w t
+written-none w t i k = record { words = refl; starts = refl }
 
 empty : (l : List ℕ) → eqb (length l) 0 ≡ true → l ≡ []
 empty [] h = refl
 empty (x ∷ l) h = absurd (let z : suc (length l) ≡ 0 = eqb-true _ _ h in omega arith)
 
-sets-empty : (i : ℕ) (vs : List ℕ) → sets [] i vs ≡ []
-sets-empty i [] = refl
-sets-empty i (v ∷ vs) = sets-empty (suc i) vs
+sets-empty : (l : List ℕ) (i : ℕ) (vs : List ℕ) → l ≡ [] → l ≡ sets l i vs
+sets-empty l i [] e = refl
+sets-empty l i (v ∷ vs) e = e ∙ sets-empty [] (suc i) vs refl ∙ ap (λ (x : List ℕ). sets (set x i v) (suc i) vs) (sym e)
 
--- in empty buffers clauses are counted only
-pub appended-counted : (w t : List ℕ) {s : Store} (a : List Clause) {s₁ : Store} → (eqb (length w) 0 && eqb (length t) 0) ≡ true
-    → s₁ .words ≡ s .words + length (flatten a) → s₁ .clauses ≡ s .clauses + length a → Appended w t s a w t s₁
-appended-counted w t {s} a h u k =
+-- in empty buffers nothing is written
+pub written-empty : (w t : List ℕ) (i k : ℕ) (cs : List Clause) → (eqb (length w) 0 && eqb (length t) 0) ≡ true → Written w t i k cs w t
+written-empty w t i k cs h =
     let p = both _ _ h in
-    let e = empty w (p .0) in
-    let f = empty t (p .1) in
-    record {
-      words = e ∙ sym (sets-empty (s .words) (flatten a)) ∙ ap (λ (l : List ℕ). sets l (s .words) (flatten a)) (sym e);
-      starts = f ∙ sym (sets-empty (s .clauses) (offsets (s .words) a)) ∙ ap (λ (l : List ℕ). sets l (s .clauses) (offsets (s .words) a)) (sym f);
-      used = u;
-      count = k;
-    }
+    record { words = sets-empty w i (flatten cs) (empty w (p .0)); starts = sets-empty t k (offsets i cs) (empty t (p .1)) }
+
+-- what is written at the counts is appended
+pub appended-written : {w t : List ℕ} {s : Store} {a : List Clause} {w₁ t₁ : List ℕ} {s₁ : Store}
+    → Written w t (s .words) (s .clauses) a w₁ t₁ → s₁ .words ≡ s .words + length (flatten a) → s₁ .clauses ≡ s .clauses + length a
+    → Appended w t s a w₁ t₁ s₁
+appended-written p u k = record { words = p .words; starts = p .starts; used = u; count = k }

@@ -35,8 +35,14 @@ pub record Room (s : Store) (n : ℕ) : Type 0 where
   pub words : s .words + 4 * n < 2 ^ 32
   pub clauses : s .clauses + n < 2 ^ 32
 
--- Buffers of w words and t starts, and the counts, have room for n more clauses of at most three literals.
-pub record Lent (w t : ℕ) (s : Store) (n : ℕ) : Type 0 where
-  pub room : Room s n
-  pub words : s .words + 4 * n ≤ w
-  pub starts : s .clauses + n ≤ t
+-- Buffers w and t become w′ and t′ by the clauses cs, from entry i of w and entry k of t on, and nothing else.
+pub record Written (w t : List ℕ) (i k : ℕ) (cs : List Clause) (w′ t′ : List ℕ) : Type 0 where
+  pub words : w′ ≡ sets w i (flatten cs)
+  pub starts : t′ ≡ sets t k (offsets i cs)
+
+-- From entries i and k on, buffers of w words and t starts have room for n clauses of at most three literals, and so have the counts.
+pub record Lent (w t i k n : ℕ) : Type 0 where
+  pub words : i + 4 * n ≤ w
+  pub starts : k + n ≤ t
+  pub word-count : i + 4 * n < 2 ^ 32
+  pub count : k + n < 2 ^ 32

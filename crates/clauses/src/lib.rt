@@ -7,7 +7,7 @@ ghost use mathlib.Core.List.{[], _∷_};
 ghost use Prim.Native.Nat.{_*_, _+_};
 ghost use lib.Dec.{eqb, leb};
 ghost use lib.ListN.{length, set};
-ghost use Rattle.clauses.specs.Clause.{Appended, Lent, Room};
+ghost use Rattle.clauses.specs.Clause.{Appended, Lent, Room, Written};
 
 // How much of the two buffers is used: entries of words, entries of starts.
 pub struct Store {
@@ -90,37 +90,29 @@ pub fn counts(words: usize, starts: usize) -> bool
     words == 0 && starts == 0
 }
 
-// Appends a clause of two literals, for which there is room.
-pub fn write2(words: &mut [u32], starts: &mut [u32], s: Store, a: u32, b: u32) -> Store
-    requires { ⌜ Lent (length (now words)) (length (now starts)) s 1 ⌝ }
-    ensures { λ r. ⌜ Appended (now (words .entry)) (now (starts .entry)) s ((a ∷ b ∷ []) ∷ []) (now (words .exit)) (now (starts .exit)) r ⌝ }
+// Writes a clause of two literals, for which there is room, from entry i of words and entry k of starts on.
+pub fn write2(words: &mut [u32], starts: &mut [u32], i: u32, k: u32, a: u32, b: u32)
+    requires { ⌜ Lent (length (now words)) (length (now starts)) i k 1 ⌝ }
+    ensures { λ _. ⌜ Written (now (words .entry)) (now (starts .entry)) i k ((a ∷ b ∷ []) ∷ []) (now (words .exit)) (now (starts .exit)) ⌝ }
 {
-    let i = s.words as usize;
-    let k = s.clauses as usize;
-    starts[k] = s.words;
-    words[i] = 2;
-    words[i + 1] = a;
-    words[i + 2] = b;
-    Store {
-        words: s.words + 3,
-        clauses: s.clauses + 1,
-    }
+    let at = i as usize;
+    let start = k as usize;
+    starts[start] = i;
+    words[at] = 2;
+    words[at + 1] = a;
+    words[at + 2] = b;
 }
 
-// Appends a clause of three literals, for which there is room.
-pub fn write3(words: &mut [u32], starts: &mut [u32], s: Store, a: u32, b: u32, c: u32) -> Store
-    requires { ⌜ Lent (length (now words)) (length (now starts)) s 1 ⌝ }
-    ensures { λ r. ⌜ Appended (now (words .entry)) (now (starts .entry)) s ((a ∷ b ∷ c ∷ []) ∷ []) (now (words .exit)) (now (starts .exit)) r ⌝ }
+// Writes a clause of three literals, for which there is room, from entry i of words and entry k of starts on.
+pub fn write3(words: &mut [u32], starts: &mut [u32], i: u32, k: u32, a: u32, b: u32, c: u32)
+    requires { ⌜ Lent (length (now words)) (length (now starts)) i k 1 ⌝ }
+    ensures { λ _. ⌜ Written (now (words .entry)) (now (starts .entry)) i k ((a ∷ b ∷ c ∷ []) ∷ []) (now (words .exit)) (now (starts .exit)) ⌝ }
 {
-    let i = s.words as usize;
-    let k = s.clauses as usize;
-    starts[k] = s.words;
-    words[i] = 3;
-    words[i + 1] = a;
-    words[i + 2] = b;
-    words[i + 3] = c;
-    Store {
-        words: s.words + 4,
-        clauses: s.clauses + 1,
-    }
+    let at = i as usize;
+    let start = k as usize;
+    starts[start] = i;
+    words[at] = 3;
+    words[at + 1] = a;
+    words[at + 2] = b;
+    words[at + 3] = c;
 }

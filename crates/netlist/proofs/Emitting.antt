@@ -8,9 +8,9 @@ use native.Mathlib.Omega.{arith}
 use lib.Dec.{eqb, leb}
 use lib.ListN.{length, length-append}
 use borrow.Author.Tests.{leb-true}
-use Rattle.clauses.proofs.Appending.{appended-counted, appended-none, appended-starts-length, appended-then, appended-words-length, lent-after}
-use Rattle.clauses.specs.Clause.{Appended, Clause, Lent, Room}
-use Rattle.netlist.proofs.Nodes.{Sized, clausesOf-append, clausesOf-few, clausesOf-narrow, clausesOf-short}
+use Rattle.clauses.proofs.Appending.{appended-none, appended-starts-length, appended-then, appended-words-length, appended-written, written-empty, written-then}
+use Rattle.clauses.specs.Clause.{Appended, Clause, Room, Written}
+use Rattle.netlist.proofs.Nodes.{Sized, clausesOf-append, clausesOf-few, clausesOf-short}
 use Rattle.netlist.specs.Emit.{Counted, Emitted, Ready}
 use Rattle.netlist.specs.Node.{Node, clausesOf}
 use Rattle.netlist.specs.declared.Net.{Net}
@@ -80,18 +80,27 @@ ready-two {k = k} p q r h = ready-after k (emitted-then p q) r (leb-true _ _ h)
 pub ready-weaken : {n : Net} {j k : ℕ} → j ≤ k → Ready n k → Ready n j
 ready-weaken l r = record { words = r .words; clauses = r .clauses; next = omega (arith, r .next) }
 
+-- what is written at the counts is emitted
+pub emitted-written : {w t : List ℕ} {n : Net} {ns : List Node} {v c k : ℕ} {w₁ t₁ : List ℕ} {n₁ : Net}
+    → Written w t (n .store .words) (n .store .clauses) (clausesOf (n .next) ns) w₁ t₁ → Counted n v c k n₁ → Sized ns v c k
+    → Emitted w t n ns w₁ t₁ n₁
+emitted-written {n = n} p q z = record {
+  store = appended-written p
+      (q .words ∙ ap (λ (i : ℕ). n .store .words + i) (sym (z .words (n .next))))
+      (q .clauses ∙ ap (λ (i : ℕ). n .store .clauses + i) (sym (z .clauses (n .next))));
+  next = q .next ∙ ap (λ (i : ℕ). n .next + i) (sym (z .nodes));
+}
+
 -- in empty buffers nodes are counted only
 pub emitted-counted : (w t : List ℕ) {n : Net} {ns : List Node} {v c k : ℕ} {n₁ : Net} → (eqb (length w) 0 && eqb (length t) 0) ≡ true
     → Counted n v c k n₁ → Sized ns v c k → Emitted w t n ns w t n₁
-emitted-counted w t {n} {ns} h p q = record {
-  store = appended-counted w t (clausesOf (n .next) ns) h
-      (p .words ∙ ap (λ (i : ℕ). n .store .words + i) (sym (q .words (n .next))))
-      (p .clauses ∙ ap (λ (i : ℕ). n .store .clauses + i) (sym (q .clauses (n .next))));
-  next = p .next ∙ ap (λ (i : ℕ). n .next + i) (sym (q .nodes));
-}
+emitted-counted w t {n} {ns} h q z = emitted-written (written-empty w t (n .store .words) (n .store .clauses) (clausesOf (n .next) ns) h) q z
 
--- after some nodes the buffers have room for the clauses of the others
-pub lent-beyond : {w t : List ℕ} {n : Net} {a : List Node} {w₁ t₁ : List ℕ} {n₁ : Net} (k : ℕ) {j : ℕ}
-    → Emitted w t n a w₁ t₁ n₁ → Lent (length w) (length t) (n .store) j → length (clausesOf (n .next) a) + k ≤ j
-    → Lent (length w₁) (length t₁) (n₁ .store) k
-lent-beyond {n = n} {a} k p l h = lent-after k (p .store) l (clausesOf-narrow (n .next) a) h
+-- one list of nodes is written, and then another
+pub nodes-then : {w t : List ℕ} {i k : ℕ} (g : ℕ) {a : List Node} {v c m : ℕ} {w₁ t₁ : List ℕ} {i₁ k₁ g₁ : ℕ} (b : List Node) {w₂ t₂ : List ℕ}
+    → Written w t i k (clausesOf g a) w₁ t₁ → Sized a v c m → Written w₁ t₁ i₁ k₁ (clausesOf g₁ b) w₂ t₂
+    → i₁ ≡ i + m → k₁ ≡ k + c → g₁ ≡ g + v → Written w t i k (clausesOf g (a ++ b)) w₂ t₂
+nodes-then {w} {t} {i} {k} g {a} b {w₂} {t₂} p z q e f h =
+    subst (λ (cs : List Clause). Written w t i k cs w₂ t₂)
+    (ap (λ (x : ℕ). clausesOf g a ++ clausesOf x b) (h ∙ ap (λ (x : ℕ). g + x) (sym (z .nodes))) ∙ sym (clausesOf-append g a b))
+    (written-then p q (e ∙ ap (λ (x : ℕ). i + x) (sym (z .words g))) (f ∙ ap (λ (x : ℕ). k + x) (sym (z .clauses g))))

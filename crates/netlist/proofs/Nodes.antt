@@ -47,22 +47,6 @@ clausesOf-short g [] = omega arith
 clausesOf-short g (n ∷ ns) =
     simp (flatten-append, length-append) (omega (arith, nodeClauses-short g n, clausesOf-short (suc g) ns))
 
--- a clause takes at most 4 words
-nodeClauses-narrow : (g : ℕ) (n : Node) → length (flatten (nodeClauses g n)) ≤ 4 * length (nodeClauses g n)
-unfolding nodeClauses
-nodeClauses-narrow g one = omega arith
-nodeClauses-narrow g (input k j) = omega arith
-nodeClauses-narrow g (and a b) = omega arith
-nodeClauses-narrow g (xor a b) = omega arith
-nodeClauses-narrow g (maj a b c) = omega arith
-nodeClauses-narrow g (mux c a b) = omega arith
-
-pub clausesOf-narrow : (g : ℕ) (ns : List Node) → length (flatten (clausesOf g ns)) ≤ 4 * length (clausesOf g ns)
-unfolding clausesOf
-clausesOf-narrow g [] = omega arith
-clausesOf-narrow g (n ∷ ns) =
-    simp (flatten-append, length-append) (omega (arith, nodeClauses-narrow g n, clausesOf-narrow (suc g) ns))
-
 -- nodes that are v in number, with c clauses and k words, whatever their first variable
 pub record Sized (ns : List Node) (v c k : ℕ) : Type 0 where
   pub nodes : length ns ≡ v

@@ -49,7 +49,8 @@ pub fn and_gate(words: &mut [u32], starts: &mut [u32], n: Net, a: u32, b: u32) -
 {
     let s = n.store;
     if fits(words.len(), starts.len(), s, 3) {
-        return roomy::and_gate(words, starts, n, a, b);
+        roomy::and_gate(words, starts, s.words, s.clauses, n.next, a, b);
+        return counted(n, 1, 3, 10);
     }
     if counts(words.len(), starts.len()) {
         return counted(n, 1, 3, 10);
@@ -64,7 +65,8 @@ pub fn xor_gate(words: &mut [u32], starts: &mut [u32], n: Net, a: u32, b: u32) -
 {
     let s = n.store;
     if fits(words.len(), starts.len(), s, 4) {
-        return roomy::xor_gate(words, starts, n, a, b);
+        roomy::xor_gate(words, starts, s.words, s.clauses, n.next, a, b);
+        return counted(n, 1, 4, 16);
     }
     if counts(words.len(), starts.len()) {
         return counted(n, 1, 4, 16);
@@ -79,7 +81,8 @@ pub fn maj_gate(words: &mut [u32], starts: &mut [u32], n: Net, a: u32, b: u32, c
 {
     let s = n.store;
     if fits(words.len(), starts.len(), s, 6) {
-        return roomy::maj_gate(words, starts, n, a, b, c);
+        roomy::maj_gate(words, starts, s.words, s.clauses, n.next, a, b, c);
+        return counted(n, 1, 6, 24);
     }
     if counts(words.len(), starts.len()) {
         return counted(n, 1, 6, 24);
@@ -94,7 +97,8 @@ pub fn mux_gate(words: &mut [u32], starts: &mut [u32], n: Net, c: u32, a: u32, b
 {
     let s = n.store;
     if fits(words.len(), starts.len(), s, 4) {
-        return roomy::mux_gate(words, starts, n, c, a, b);
+        roomy::mux_gate(words, starts, s.words, s.clauses, n.next, c, a, b);
+        return counted(n, 1, 4, 16);
     }
     if counts(words.len(), starts.len()) {
         return counted(n, 1, 4, 16);

@@ -1,105 +1,80 @@
-use mathlib.Core.Path.{_∙_, _≡_, refl, sym}
-use Prim.Native.Nat.{_≤_, _-_}
+use mathlib.Core.Path.{_∙_, sym}
+use Prim.Native.Nat.{_*_}
 use native.Mathlib.Omega.{arith}
 use borrow.Author.Needs.{needs}
-use lib.ListN.{length}
 use denote.Ref.{now}
-use Rattle.adders.proofs.Adder.{adder-sized, adder-turn, carry-turn, length-adder}
+use lib.ListN.{length}
+use Rattle.clauses.proofs.Appending.{lent-of}
+use Rattle.netlist.proofs.Emitting.{emitted-counted, emitted-written, ready-clauses}
+use Rattle.adders.proofs.Adder.{adder-sized}
 use Rattle.adders.proofs.add.Statement.{statement}
-use Rattle.adders.specs.Adder.{adder, carryAt}
-use Rattle.bits.specs.Bits.{litAt}
-use Rattle.netlist.proofs.Emitting.{emitted-counted, emitted-none, emitted-starts-length, emitted-words-length, ready-after}
-use Rattle.netlist.specs.Emit.{Emitted, Ready}
 use Rattle.adders.proofs.add.Tie as tie
 
-abbrev Inv-loop : tie.InvT-loop
-Inv-loop words₀ starts₀ a b c net₀ carry₀ j₀ words starts net carry j =
-    (j ≤ length a) × Emitted words₀ starts₀ net₀ (adder (net₀ .next) (litAt a) (litAt b) carry₀ j) words starts net
-    × (carry ≡ carryAt (net₀ .next) carry₀ j)
+cast-fits : tie.Need-cast-fits
+cast-fits c = search needs
 
-abbrev μ-loop : tie.MeasureT-loop
-μ-loop words₀ starts₀ a b c net₀ carry₀ j₀ words starts net carry j = length a - j
+mul-fits : tie.Need-mul-fits
+mul-fits c = search needs
 
-counts-requires : tie.Need-counts-requires Inv-loop μ-loop
-counts-requires c κs = search needs
+fits-requires : tie.Need-fits-requires
+fits-requires c κs = search needs
 
-count-sum-requires : tie.Need-count-sum-requires Inv-loop μ-loop
+write-sum-requires : tie.Need-write-sum-requires
+write-sum-requires c κs =
+    let f = c .before .before .before in
+    let p = f .before .before .before .before .before .before .pre in
+    let w = length (now (f .before .before .before .before .before .before .args .a)) in
+    (lent-of _ _ _ (ready-clauses (3 * w) (p .0) (omega arith)) (sym (f .fits2 .ensures) ∙ c .before .before .if1 .taken), (p .0 .next, p .1))
+
+count-sum-requires : tie.Need-count-sum-requires
 count-sum-requires c κs = search needs
 
-returns : tie.Need-returns Inv-loop μ-loop
-returns c = emitted-counted _ _ (sym (c .before .before .counts .ensures) ∙ c .before .if1 .taken) (c .count-sum .ensures) (adder-sized _ _ _ _ _)
+same-length : tie.Need-same-length
+same-length c = search needs
 
-loop-holds : tie.Need-loop-holds Inv-loop μ-loop
-unfolding adder
-loop-holds c = (search needs, emitted-none _ _ _, refl)
+same-length-2 : tie.Need-same-length-2
+same-length-2 c = search needs
 
-mul-full-adder : tie.Need-mul-full-adder Inv-loop μ-loop
-mul-full-adder c = search needs
+returns : tie.Need-returns
+returns c = emitted-written (c .before .before .before .before .before .write-sum .ensures) (c .count-sum .ensures) (adder-sized _ _ _ _ _)
 
-shared-slice-read-full-adder : tie.Need-shared-slice-read-full-adder Inv-loop μ-loop
-shared-slice-read-full-adder c = search needs
+counts-requires : tie.Need-counts-requires
+counts-requires c κs = search needs
 
-mul-full-adder-2 : tie.Need-mul-full-adder-2 Inv-loop μ-loop
-mul-full-adder-2 c = search needs
+count-sum-requires-2 : tie.Need-count-sum-requires-2
+count-sum-requires-2 c κs = search needs
 
-shared-slice-read-full-adder-2 : tie.Need-shared-slice-read-full-adder-2 Inv-loop μ-loop
-shared-slice-read-full-adder-2 c = search needs
+returns-2 : tie.Need-returns-2
+returns-2 c = emitted-counted _ _ (sym (c .before .before .counts .ensures) ∙ c .before .if2 .taken) (c .count-sum2 .ensures) (adder-sized _ _ _ _ _)
 
-ready : (c : tie.After-shared-slice-known4 Inv-loop μ-loop) → Ready (c .before .before .before .before .before .loop .net) 3
-ready c = ready-after 3 (c .before .before .before .before .before .loop .inv .1) (c .before .before .before .before .before .before .before .before .before .before .before .before .pre .0) (simp length-adder (omega arith))
+add-tight-requires : tie.Need-add-tight-requires
+add-tight-requires c κs = search needs
 
-full-adder-requires : tie.Need-full-adder-requires Inv-loop μ-loop
-full-adder-requires c κs = ready c
+same-length-3 : tie.Need-same-length-3
+same-length-3 c = search needs
 
-sub-carry : tie.Need-sub-carry Inv-loop μ-loop
-sub-carry c = search needs
+same-length-4 : tie.Need-same-length-4
+same-length-4 c = search needs
 
-mul-carry : tie.Need-mul-carry Inv-loop μ-loop
-mul-carry c = omega (arith, c .before .before .before .before .before .full-adder .ensures .next, ready (c .before .before .before .before .before .before) .next)
-
-add-j : tie.Need-add-j Inv-loop μ-loop
-add-j c = search needs
-
-loop-less : tie.Need-loop-less Inv-loop μ-loop
-loop-less c = search needs
-
-loop-again : tie.Need-loop-again Inv-loop μ-loop
-loop-again c =
-    let l = c .before .before .before .before .before .before .before .before .before .before .before .loop in
-    let f = c .before .before .before .before .before .full-adder .ensures in
-    (search needs, adder-turn _ _ _ _ _ (l .inv .1) (l .inv .2) f, carry-turn _ _ _ _ _ (l .inv .1) (l .inv .2) f)
-
-same-length : tie.Need-same-length Inv-loop μ-loop
-same-length c = emitted-words-length (c .before .loop .inv .1)
-
-same-length-2 : tie.Need-same-length-2 Inv-loop μ-loop
-same-length-2 c = emitted-starts-length (c .before .loop .inv .1)
-
-returns-2 : tie.Need-returns-2 Inv-loop μ-loop
-returns-2 c =
-    let e : c .before .loop .j ≡ length (now (c .before .before .before .before .before .before .before .before .args .a)) = omega arith in
-    rw (← e) (c .before .loop .inv .1)
+returns-3 : tie.Need-returns-3
+returns-3 c = search needs
 
 pub add-spec : {M : Type 1} → statement M
 add-spec =
     tie.close
     (tie.spec
-    Inv-loop
-    μ-loop
-    counts-requires
+    cast-fits
+    mul-fits
+    fits-requires
+    write-sum-requires
     count-sum-requires
-    returns
-    loop-holds
-    mul-full-adder
-    shared-slice-read-full-adder
-    mul-full-adder-2
-    shared-slice-read-full-adder-2
-    full-adder-requires
-    sub-carry
-    mul-carry
-    add-j
-    loop-less
-    loop-again
     same-length
     same-length-2
-    returns-2)
+    returns
+    counts-requires
+    count-sum-requires-2
+    returns-2
+    add-tight-requires
+    same-length-3
+    same-length-4
+    returns-3)

@@ -1,19 +1,19 @@
-use mathlib.Core.Path.{_∙_, sym}
-use native.Mathlib.Omega.{arith}
 use borrow.Author.Needs.{needs}
-use Rattle.clauses.proofs.Appending.{lent-of}
-use Rattle.netlist.proofs.Emitting.{ready-clauses}
 use Rattle.adders.proofs.full_adder.Statement.{statement}
+use Rattle.netlist.proofs.Emitting.{emitted-three, ready-one, ready-two}
 use Rattle.adders.proofs.full_adder.Tie as tie
 
-fits-requires : tie.Need-fits-requires
-fits-requires c κs = search needs
+mul-h : tie.Need-mul-h
+mul-h c = search needs
 
-full-adder-roomy-requires : tie.Need-full-adder-roomy-requires
-full-adder-roomy-requires c κs =
-    let f = c .before .before .before in
-    let start = f .before .before .before .before in
-    (start .pre, lent-of _ _ _ (ready-clauses 3 (start .pre) (omega arith)) (sym (f .fits2 .ensures) ∙ c .before .before .if1 .taken))
+xor-gate-requires : tie.Need-xor-gate-requires
+xor-gate-requires c κs = search needs
+
+xor-gate-requires-2 : tie.Need-xor-gate-requires-2
+xor-gate-requires-2 c κs = search ready-one
+
+maj-gate-requires : tie.Need-maj-gate-requires
+maj-gate-requires c κs = search ready-two
 
 same-length : tie.Need-same-length
 same-length c = search needs
@@ -22,30 +22,16 @@ same-length-2 : tie.Need-same-length-2
 same-length-2 c = search needs
 
 returns : tie.Need-returns
-returns c = search needs
-
-full-adder-tight-requires : tie.Need-full-adder-tight-requires
-full-adder-tight-requires c κs = search needs
-
-same-length-3 : tie.Need-same-length-3
-same-length-3 c = search needs
-
-same-length-4 : tie.Need-same-length-4
-same-length-4 c = search needs
-
-returns-2 : tie.Need-returns-2
-returns-2 c = search needs
+returns c = search emitted-three
 
 pub full-adder-spec : {M : Type 1} → statement M
 full-adder-spec =
     tie.close
     (tie.spec
-    fits-requires
-    full-adder-roomy-requires
+    mul-h
+    xor-gate-requires
+    xor-gate-requires-2
+    maj-gate-requires
     same-length
     same-length-2
-    returns
-    full-adder-tight-requires
-    same-length-3
-    same-length-4
-    returns-2)
+    returns)

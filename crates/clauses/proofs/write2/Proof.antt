@@ -5,12 +5,6 @@ use borrow.Author.Needs.{needs}
 use Rattle.clauses.proofs.write2.Statement.{statement}
 use Rattle.clauses.proofs.write2.Tie as tie
 
-cast-i : tie.Need-cast-i
-cast-i c = search needs
-
-cast-k : tie.Need-cast-k
-cast-k c = search needs
-
 mul-starts : tie.Need-mul-starts
 mul-starts c = search needs
 
@@ -41,12 +35,6 @@ mul-words-3 c = search needs
 slice-write-words-3 : tie.Need-slice-write-words-3
 slice-write-words-3 c = simp length-set (omega arith)
 
-add-t14 : tie.Need-add-t14
-add-t14 c = search needs
-
-add-t15 : tie.Need-add-t15
-add-t15 c = search needs
-
 same-length : tie.Need-same-length
 same-length c = search needs
 
@@ -54,14 +42,12 @@ same-length-2 : tie.Need-same-length-2
 same-length-2 c = search needs
 
 returns : tie.Need-returns
-returns c = record { words = simp towards-numerals; starts = search needs; used = search needs; count = search needs }
+returns c = record { words = simp towards-numerals; starts = search needs }
 
 pub write2-spec : {M : Type 1} → statement M
 write2-spec =
     tie.close
     (tie.spec
-    cast-i
-    cast-k
     mul-starts
     slice-write-starts
     mul-words
@@ -72,8 +58,6 @@ write2-spec =
     add-words-2
     mul-words-3
     slice-write-words-3
-    add-t14
-    add-t15
     same-length
     same-length-2
     returns)

@@ -5,12 +5,6 @@ use borrow.Author.Needs.{needs}
 use Rattle.clauses.proofs.write3.Statement.{statement}
 use Rattle.clauses.proofs.write3.Tie as tie
 
-cast-i : tie.Need-cast-i
-cast-i c = search needs
-
-cast-k : tie.Need-cast-k
-cast-k c = search needs
-
 mul-starts : tie.Need-mul-starts
 mul-starts c = search needs
 
@@ -50,12 +44,6 @@ mul-words-4 c = search needs
 slice-write-words-4 : tie.Need-slice-write-words-4
 slice-write-words-4 c = simp length-set (omega arith)
 
-add-t16 : tie.Need-add-t16
-add-t16 c = search needs
-
-add-t17 : tie.Need-add-t17
-add-t17 c = search needs
-
 same-length : tie.Need-same-length
 same-length c = search needs
 
@@ -63,14 +51,12 @@ same-length-2 : tie.Need-same-length-2
 same-length-2 c = search needs
 
 returns : tie.Need-returns
-returns c = record { words = simp towards-numerals; starts = search needs; used = search needs; count = search needs }
+returns c = record { words = simp towards-numerals; starts = search needs }
 
 pub write3-spec : {M : Type 1} → statement M
 write3-spec =
     tie.close
     (tie.spec
-    cast-i
-    cast-k
     mul-starts
     slice-write-starts
     mul-words
@@ -84,8 +70,6 @@ write3-spec =
     add-words-3
     mul-words-4
     slice-write-words-4
-    add-t16
-    add-t17
     same-length
     same-length-2
     returns)

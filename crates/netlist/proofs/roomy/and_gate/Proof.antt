@@ -1,12 +1,9 @@
-use mathlib.Core.Path.{refl}
+use native.Mathlib.Omega.{arith}
 use borrow.Author.Needs.{needs}
-use Rattle.clauses.proofs.Appending.{appended-then}
+use Rattle.clauses.proofs.Appending.{lent-kept, lent-within, written-starts-length, written-then, written-words-length}
 use Rattle.netlist.proofs.roomy.and_gate.Statement.{statement}
 use Rattle.netlist.specs.Node.{clausesOf, nodeClauses}
 use Rattle.netlist.proofs.roomy.and_gate.Tie as tie
-
-add-next : tie.Need-add-next
-add-next c = search needs
 
 mul-p : tie.Need-mul-p
 mul-p c = search needs
@@ -23,17 +20,26 @@ opposite-requires-2 c κs = search needs
 write2-requires : tie.Need-write2-requires
 write2-requires c κs = search needs
 
+add-write2 : tie.Need-add-write2
+add-write2 c = search needs
+
+add-write2-2 : tie.Need-add-write2-2
+add-write2-2 c = search needs
+
 write2-requires-2 : tie.Need-write2-requires-2
 write2-requires-2 c κs = search needs
 
+add-write3 : tie.Need-add-write3
+add-write3 c = search needs
+
+add-write3-2 : tie.Need-add-write3-2
+add-write3-2 c = search needs
+
 write3-requires : tie.Need-write3-requires
-write3-requires c κs = search needs
-
-same-length : tie.Need-same-length
-same-length c = search needs
-
-same-length-2 : tie.Need-same-length-2
-same-length-2 c = search needs
+write3-requires c κs =
+    let c2 = c .before .before .before .before .before .before in
+    let c1 = c2 .before .before .before .before .before .before .before in
+    lent-kept (c2 .write22 .ensures) (lent-kept (c1 .write2 .ensures) (lent-within (c1 .before .before .before .before .before .before .before .pre .0) (omega arith) (omega arith)))
 
 returns : tie.Need-returns
 unfolding clausesOf nodeClauses
@@ -41,24 +47,29 @@ returns c =
     let c3 = c .before .before .before .before in
     let c2 = c3 .before .before .before .before .before .before .before in
     let c1 = c2 .before .before .before .before .before .before .before in
-    let o2 = c1 .before .before .before .before in
-    record {
-      store = rw (← o2 .before .opposite .ensures, ← o2 .opposite2 .ensures)
-          (appended-then (appended-then (c1 .write2 .ensures) (c2 .write22 .ensures)) (c3 .write3 .ensures));
-      next = refl;
-    }
+    rw (← c1 .before .before .before .before .opposite .ensures, ← c1 .before .before .before .opposite2 .ensures)
+    (written-then (written-then (c1 .write2 .ensures) (c2 .write22 .ensures) (omega arith) (omega arith)) (c3 .write3 .ensures) (omega arith) (omega arith))
+
+same-length : tie.Need-same-length
+same-length c = written-words-length (returns c)
+
+same-length-2 : tie.Need-same-length-2
+same-length-2 c = written-starts-length (returns c)
 
 pub and-gate-spec : {M : Type 1} → statement M
 and-gate-spec =
     tie.close
     (tie.spec
-    add-next
     mul-p
     add-m
     opposite-requires
     opposite-requires-2
     write2-requires
+    add-write2
+    add-write2-2
     write2-requires-2
+    add-write3
+    add-write3-2
     write3-requires
     same-length
     same-length-2
