@@ -77,23 +77,6 @@ length-offsets n (c ∷ a) = ap suc (length-offsets (n + suc (length c)) a)
 pub appended-none : (w t : List ℕ) (s : Store) → Appended w t s [] w t s
 appended-none w t s = record { words = refl; starts = refl; used = sym (add-zero _); count = sym (add-zero _) }
 
--- one list of clauses, and then another
-pub appended-then : {w t : List ℕ} {s : Store} {a : List Clause} {w₁ t₁ : List ℕ} {s₁ : Store} {b : List Clause} {w₂ t₂ : List ℕ} {s₂ : Store}
-    → Appended w t s a w₁ t₁ s₁ → Appended w₁ t₁ s₁ b w₂ t₂ s₂ → Appended w t s (a ++ b) w₂ t₂ s₂
-appended-then {w} {t} {s} {a} {w₁} {t₁} {s₁} {b} {w₂} {t₂} {s₂} p q = record {
-  words = q .words
-      ∙ ap₂ (λ (l : List ℕ) (i : ℕ). sets l i (flatten b)) (p .words) (p .used)
-      ∙ sets-append w (s .words) (flatten a) (flatten b)
-      ∙ ap (sets w (s .words)) (sym (flatten-append a b));
-  starts = q .starts
-      ∙ ap₂ (λ (l : List ℕ) (i : ℕ). sets l i (offsets (s₁ .words) b)) (p .starts) (p .count ∙ ap (λ (k : ℕ). s .clauses + k) (sym (length-offsets (s .words) a)))
-      ∙ sets-append t (s .clauses) (offsets (s .words) a) (offsets (s₁ .words) b)
-      ∙ ap (λ (k : ℕ). sets t (s .clauses) (offsets (s .words) a ++ offsets k b)) (p .used)
-      ∙ ap (sets t (s .clauses)) (sym (offsets-append (s .words) a b));
-  used = rw (flatten-append, length-append) (omega (arith, p .used, q .used));
-  count = rw length-append (omega (arith, p .count, q .count));
-}
-
 pub appended-words-length : {w t : List ℕ} {s : Store} {a : List Clause} {w₁ t₁ : List ℕ} {s₁ : Store} → Appended w t s a w₁ t₁ s₁ → length w₁ ≡ length w
 appended-words-length {w} {s = s} {a} p = ap length (p .words) ∙ length-sets w (s .words) (flatten a)
 
@@ -180,3 +163,12 @@ pub appended-written : {w t : List ℕ} {s : Store} {a : List Clause} {w₁ t₁
     → Written w t (s .words) (s .clauses) a w₁ t₁ → s₁ .words ≡ s .words + length (flatten a) → s₁ .clauses ≡ s .clauses + length a
     → Appended w t s a w₁ t₁ s₁
 appended-written p u k = record { words = p .words; starts = p .starts; used = u; count = k }
+
+-- one list of clauses is appended, and then another
+pub appended-then : {w t : List ℕ} {s : Store} {a : List Clause} {w₁ t₁ : List ℕ} {s₁ : Store} {b : List Clause} {w₂ t₂ : List ℕ} {s₂ : Store}
+    → Appended w t s a w₁ t₁ s₁ → Appended w₁ t₁ s₁ b w₂ t₂ s₂ → Appended w t s (a ++ b) w₂ t₂ s₂
+appended-then {a = a} {b = b} p q =
+    appended-written
+    (written-then {a = a} {b = b} (record { words = p .words; starts = p .starts }) (record { words = q .words; starts = q .starts }) (p .used) (p .count))
+    (rw (flatten-append, length-append) (omega (arith, p .used, q .used)))
+    (rw length-append (omega (arith, p .count, q .count)))

@@ -25,7 +25,7 @@ pub fn opposite(l: u32) -> u32
     l ^ 1
 }
 
-// The state after nodes that are only counted: how many there are, and their clauses and words.
+// The state after nodes of which only the numbers are told: how many there are, and their clauses and words.
 pub fn counted(n: Net, nodes: u32, clauses: u32, words: u32) -> Net
     requires { ⌜ Ready n nodes ⌝ }
     requires { ⌜ (clauses ≤ 6 * nodes) × (words ≤ 24 * nodes) ⌝ }
