@@ -38,7 +38,7 @@ join-variable-requires c κs = let a = c .before .before .before .before .before
     let r = ranged (now (a .bytes)) (a .h) (l .v) (p .1 .1) (omega arith) in
     let e = c .before .before .before .width-of .ensures in (
       ready-after 32 (l .inv .2) (p .0) (omega (arith, join-few (now (a .bytes)) (a .h) (p .1 .1) (a .c) (now (a .lits)) (now (a .other)) (l .v) (l .inv .0), p .1 .1 .few)),
-      ((l .inv .1, p .1 .0 .1), (r .variable, omega (arith, r .few, e))),
+      ((omega (arith, l .inv .1, p .1 .0 .1), omega (arith, l .inv .1, p .1 .0 .1)), (r .variable, omega (arith, r .few, e))),
     )
 
 slice-aggregate-store-bits : tie.Need-slice-aggregate-store-bits Inv-loop μ-loop
