@@ -20,7 +20,7 @@ ghost use Rattle.command.specs.Sound.{SoundIf, Fine};
 ghost use Rattle.wiring.specs.Wires.{isMade};
 ghost use Rattle.translation.specs.Walker.{ArmMade, ArmRoom, IfMade, IfRoom};
 
-// Translates the arm that stands where the walk is, inside `depth` ifs and ended by the command byte `close`.
+// Translates the arm that stands where the walk is, inside `depth` ifs and ended by the command byte `close`; ds are the decisions.
 pub fn arm_made(
     words: &mut [u32],
     starts: &mut [u32],
@@ -28,13 +28,13 @@ pub fn arm_made(
     bytes: &[u8],
     h: Header,
     t: Target,
-    decisions: &[u8],
+    ds: &[u8],
     depth: u8,
     close: u8,
     start: Walk,
 ) -> Walk
-    requires { ⌜ ArmRoom (now bytes) h t (now decisions) depth close (now lits) start × Fine (now bytes) h × (isMade (start .reach .claim) ≡ false) ⌝ }
-    ensures { λ r. ⌜ ArmMade (now (bytes .entry)) h t (now (decisions .entry)) depth close (now (words .entry)) (now (starts .entry)) (now (lits .entry)) start (now (words .exit)) (now (starts .exit)) (now (lits .exit)) r ⌝ }
+    requires { ⌜ ArmRoom (now bytes) h t (now ds) depth close (now lits) start × Fine (now bytes) h × (isMade (start .reach .claim) ≡ false) ⌝ }
+    ensures { λ r. ⌜ ArmMade (now (bytes .entry)) h t (now (ds .entry)) depth close (now (words .entry)) (now (starts .entry)) (now (lits .entry)) start (now (words .exit)) (now (starts .exit)) (now (lits .exit)) r ⌝ }
 {
     let mut p = start;
     loop {
@@ -45,7 +45,7 @@ pub fn arm_made(
                 return p;
             }
             Command::If(c) => {
-                p = if_made(words, starts, lits, bytes, h, t, decisions, depth, c, p);
+                p = if_made(words, starts, lits, bytes, h, t, ds, depth, c, p);
                 if is_over(p) {
                     return p;
                 }
@@ -68,50 +68,28 @@ fn if_made(
     bytes: &[u8],
     h: Header,
     t: Target,
-    decisions: &[u8],
+    ds: &[u8],
     depth: u8,
     c: Condition,
     start: Walk,
 ) -> Walk
-    requires { ⌜ IfRoom (now bytes) h t (now decisions) depth c (now lits) start × (start .counts .ifs < 32) × SoundIf (now bytes) h c × Fine (now bytes) h × (isMade (start .reach .claim) ≡ false) ⌝ }
-    ensures { λ r. ⌜ IfMade (now (bytes .entry)) h t (now (decisions .entry)) depth c (now (words .entry)) (now (starts .entry)) (now (lits .entry)) start (now (words .exit)) (now (starts .exit)) (now (lits .exit)) r ⌝ }
+    requires { ⌜ IfRoom (now bytes) h t (now ds) depth c (now lits) start × (start .counts .ifs < 32) × SoundIf (now bytes) h c × Fine (now bytes) h × (isMade (start .reach .claim) ≡ false) ⌝ }
+    ensures { λ r. ⌜ IfMade (now (bytes .entry)) h t (now (ds .entry)) depth c (now (words .entry)) (now (starts .entry)) (now (lits .entry)) start (now (words .exit)) (now (starts .exit)) (now (lits .exit)) r ⌝ }
 {
     let n = start.net;
     let s = start.reach;
     let k = start.counts;
     let deep = depth + 1;
     let mut other = copied(lits);
-    let d = byte_at(decisions, k.ifs as usize);
+    let d = byte_at(ds, k.ifs as usize);
     let b = branch(words, starts, lits, n, bytes, h, c, d, s);
-    let first = in_first(start.next + 4, start, b);
-    let x = arm_made(
-        words,
-        starts,
-        lits,
-        bytes,
-        h,
-        t,
-        decisions,
-        deep,
-        0x0C,
-        first,
-    );
+    let p = in_first(start.next + 4, start, b);
+    let x = arm_made(words, starts, lits, bytes, h, t, ds, deep, 0x0C, p);
     if is_over(x) {
         return x;
     }
-    let second = in_else(start, b, x);
-    let y = arm_made(
-        words,
-        starts,
-        &mut other,
-        bytes,
-        h,
-        t,
-        decisions,
-        deep,
-        0x0D,
-        second,
-    );
+    let q = in_else(start, b, x);
+    let y = arm_made(words, starts, &mut other, bytes, h, t, ds, deep, 0x0D, q);
     if is_over(y) {
         return y;
     }

@@ -59,19 +59,8 @@ fn make(
         next: 2,
     };
     let net = begin(&mut lits, n, bytes, h);
-    let start = first_walk(first_command(h), net);
-    let r = arm_made(
-        words,
-        starts,
-        &mut lits,
-        bytes,
-        h,
-        t,
-        decisions,
-        0,
-        0x00,
-        start,
-    );
+    let p = first_walk(first_command(h), net);
+    let r = arm_made(words, starts, &mut lits, bytes, h, t, decisions, 0, 0x00, p);
     let last = r.net;
     let store = last.store;
     let reach = r.reach;

@@ -326,7 +326,7 @@ if-made-arm-made-requires t c κs =
     let a = c .before .before .before .before .before .before .before .before .before .before .before .before .before .before .before .before .before .before .before .before .before .before .before .before .before .args in
     let b = branched-at _ (c .before .before .before .before .before .before .before .before .before .before .before .before .before .byte-at .ensures) (c .before .before .before .before .before .before .before .before .before .branch .ensures) in
     let r = else-room _ _ _ _ _ i in
-    rw (c .before .before .before .in-first .ensures) (omega (arith, r .0, r .1, c .before .before .before .before .before .before .before .before .before .before .before .before .before .before .before .before .before .before .before .before .before .before .before .before .before .pre .0), (first-room (now (a .bytes)) (a .h) (a .t) (now (a .decisions)) (a .depth) (a .c) (now (a .lits)) (a .start) i b (p .0 .room) (p .0 .places), p .3, p .4))
+    rw (c .before .before .before .in-first .ensures) (omega (arith, r .0, r .1, c .before .before .before .before .before .before .before .before .before .before .before .before .before .before .before .before .before .before .before .before .before .before .before .before .before .pre .0), (first-room (now (a .bytes)) (a .h) (a .t) (now (a .ds)) (a .depth) (a .c) (now (a .lits)) (a .start) i b (p .0 .room) (p .0 .places), p .3, p .4))
 
 if-made-is-over-requires : (t : ℕ) → if-made-lts.Need-is-over-requires (if-made-calls t) (if-made-at t) if-made.Post
 if-made-is-over-requires t c κs = search needs
@@ -338,7 +338,7 @@ if-made-same-length t c =
     let a = c .before .before .before .before .before .before .before .before .before .before .before .before .before .before .before .before .before .before .before .before .before .before .before .before .before .before .before .before .before .before .before .before .before .before .args in
     let b = branched-at _ (c .before .before .before .before .before .before .before .before .before .before .before .before .before .before .before .before .before .before .before .before .before .before .byte-at .ensures) (c .before .before .before .before .before .before .before .before .before .before .before .before .before .before .before .before .before .before .branch .ensures) in
     let x = arm-from _ _ refl (c .before .before .before .before .before .before .before .before .before .before .before .before .in-first .ensures) (c .before .before .before .before .before .before .before .before .arm-made .ensures) in
-    emitted-words-length (first-stops (now (a .bytes)) (a .h) (a .t) (now (a .decisions)) (a .depth) (a .c) (now (a .lits)) (a .start) i b x (sym (c .before .is-over .ensures) ∙ c .if1 .taken) .emitted)
+    emitted-words-length (first-stops (now (a .bytes)) (a .h) (a .t) (now (a .ds)) (a .depth) (a .c) (now (a .lits)) (a .start) i b x (sym (c .before .is-over .ensures) ∙ c .if1 .taken) .emitted)
 
 if-made-same-length-2 : (t : ℕ) → if-made-lts.Need-same-length-2 (if-made-calls t) (if-made-at t) if-made.Post
 if-made-same-length-2 t c =
@@ -347,7 +347,7 @@ if-made-same-length-2 t c =
     let a = c .before .before .before .before .before .before .before .before .before .before .before .before .before .before .before .before .before .before .before .before .before .before .before .before .before .before .before .before .before .before .before .before .before .before .args in
     let b = branched-at _ (c .before .before .before .before .before .before .before .before .before .before .before .before .before .before .before .before .before .before .before .before .before .before .byte-at .ensures) (c .before .before .before .before .before .before .before .before .before .before .before .before .before .before .before .before .before .before .branch .ensures) in
     let x = arm-from _ _ refl (c .before .before .before .before .before .before .before .before .before .before .before .before .in-first .ensures) (c .before .before .before .before .before .before .before .before .arm-made .ensures) in
-    emitted-starts-length (first-stops (now (a .bytes)) (a .h) (a .t) (now (a .decisions)) (a .depth) (a .c) (now (a .lits)) (a .start) i b x (sym (c .before .is-over .ensures) ∙ c .if1 .taken) .emitted)
+    emitted-starts-length (first-stops (now (a .bytes)) (a .h) (a .t) (now (a .ds)) (a .depth) (a .c) (now (a .lits)) (a .start) i b x (sym (c .before .is-over .ensures) ∙ c .if1 .taken) .emitted)
 
 if-made-same-length-3 : (t : ℕ) → if-made-lts.Need-same-length-3 (if-made-calls t) (if-made-at t) if-made.Post
 if-made-same-length-3 t c = c .before .before .before .before .before .before .before .before .arm-made .kept .1 .1 .0
@@ -359,7 +359,7 @@ if-made-returns t c =
     let a = c .before .before .before .before .before .before .before .before .before .before .before .before .before .before .before .before .before .before .before .before .before .before .before .before .before .before .before .before .before .before .before .before .before .before .args in
     let b = branched-at _ (c .before .before .before .before .before .before .before .before .before .before .before .before .before .before .before .before .before .before .before .before .before .before .byte-at .ensures) (c .before .before .before .before .before .before .before .before .before .before .before .before .before .before .before .before .before .before .branch .ensures) in
     let x = arm-from _ _ refl (c .before .before .before .before .before .before .before .before .before .before .before .before .in-first .ensures) (c .before .before .before .before .before .before .before .before .arm-made .ensures) in
-    if-told i (first-stops (now (a .bytes)) (a .h) (a .t) (now (a .decisions)) (a .depth) (a .c) (now (a .lits)) (a .start) i b x (sym (c .before .is-over .ensures) ∙ c .if1 .taken))
+    if-told i (first-stops (now (a .bytes)) (a .h) (a .t) (now (a .ds)) (a .depth) (a .c) (now (a .lits)) (a .start) i b x (sym (c .before .is-over .ensures) ∙ c .if1 .taken))
 
 if-made-in-else-requires : (t : ℕ) → if-made-lts.Need-in-else-requires (if-made-calls t) (if-made-at t) if-made.Post
 if-made-in-else-requires t c κs = search needs
@@ -381,8 +381,8 @@ if-made-arm-made-requires-2 t c κs =
     let o = sym (c .before .before .before .before .before .is-over .ensures) ∙ c .before .before .before .before .if1 .left in
     let r = else-room _ _ _ _ _ i in
     rw (c .before .before .before .in-else .ensures, c .before .before .before .before .before .before .before .before .before .before .before .before .before .before .before .before .before .before .before .before .before .before .before .before .before .before .before .before .copied .ensures) (
-      second-falls _ _ _ _ _ (c .before .before .before .before .before .before .before .before .before .before .before .before .before .before .before .before .before .before .before .before .before .before .before .before .before .before .before .before .before .before .before .before .before .before .before .before .before .before .pre .0) (r .0) (r .1) (at-else (now (a .bytes)) (a .h) (a .t) (now (a .decisions)) (a .depth) (a .c) (now (a .lits)) (a .start) i b x o),
-      (second-room (now (a .bytes)) (a .h) (a .t) (now (a .decisions)) (a .depth) (a .c) (now (a .lits)) (a .start) i b x o (p .0 .room) (p .0 .places), p .3, p .4),
+      second-falls _ _ _ _ _ (c .before .before .before .before .before .before .before .before .before .before .before .before .before .before .before .before .before .before .before .before .before .before .before .before .before .before .before .before .before .before .before .before .before .before .before .before .before .before .pre .0) (r .0) (r .1) (at-else (now (a .bytes)) (a .h) (a .t) (now (a .ds)) (a .depth) (a .c) (now (a .lits)) (a .start) i b x o),
+      (second-room (now (a .bytes)) (a .h) (a .t) (now (a .ds)) (a .depth) (a .c) (now (a .lits)) (a .start) i b x o (p .0 .room) (p .0 .places), p .3, p .4),
     )
 
 if-made-is-over-requires-2 : (t : ℕ) → if-made-lts.Need-is-over-requires-2 (if-made-calls t) (if-made-at t) if-made.Post
@@ -397,7 +397,7 @@ if-made-same-length-4 t c =
     let x = arm-from _ _ refl (c .before .before .before .before .before .before .before .before .before .before .before .before .before .before .before .before .before .before .before .before .before .before .before .before .in-first .ensures) (c .before .before .before .before .before .before .before .before .before .before .before .before .before .before .before .before .before .before .before .before .arm-made .ensures) in
     let o = sym (c .before .before .before .before .before .before .before .before .before .before .before .before .before .is-over .ensures) ∙ c .before .before .before .before .before .before .before .before .before .before .before .before .if1 .left in
     let y = arm-from _ _ (c .before .before .before .before .before .before .before .before .before .before .before .before .before .before .before .before .before .before .before .before .before .before .before .before .before .before .before .before .before .before .before .before .before .before .before .before .copied .ensures) (c .before .before .before .before .before .before .before .before .before .before .before .in-else .ensures) (c .before .before .before .before .before .before .before .arm-made2 .ensures) in
-    emitted-words-length (second-stops (now (a .bytes)) (a .h) (a .t) (now (a .decisions)) (a .depth) (a .c) (now (a .lits)) (a .start) i b x o y (sym (c .before .is-over2 .ensures) ∙ c .if2 .taken) (now (a .lits)) .emitted)
+    emitted-words-length (second-stops (now (a .bytes)) (a .h) (a .t) (now (a .ds)) (a .depth) (a .c) (now (a .lits)) (a .start) i b x o y (sym (c .before .is-over2 .ensures) ∙ c .if2 .taken) (now (a .lits)) .emitted)
 
 if-made-same-length-5 : (t : ℕ) → if-made-lts.Need-same-length-5 (if-made-calls t) (if-made-at t) if-made.Post
 if-made-same-length-5 t c =
@@ -408,7 +408,7 @@ if-made-same-length-5 t c =
     let x = arm-from _ _ refl (c .before .before .before .before .before .before .before .before .before .before .before .before .before .before .before .before .before .before .before .before .before .before .before .before .in-first .ensures) (c .before .before .before .before .before .before .before .before .before .before .before .before .before .before .before .before .before .before .before .before .arm-made .ensures) in
     let o = sym (c .before .before .before .before .before .before .before .before .before .before .before .before .before .is-over .ensures) ∙ c .before .before .before .before .before .before .before .before .before .before .before .before .if1 .left in
     let y = arm-from _ _ (c .before .before .before .before .before .before .before .before .before .before .before .before .before .before .before .before .before .before .before .before .before .before .before .before .before .before .before .before .before .before .before .before .before .before .before .before .copied .ensures) (c .before .before .before .before .before .before .before .before .before .before .before .in-else .ensures) (c .before .before .before .before .before .before .before .arm-made2 .ensures) in
-    emitted-starts-length (second-stops (now (a .bytes)) (a .h) (a .t) (now (a .decisions)) (a .depth) (a .c) (now (a .lits)) (a .start) i b x o y (sym (c .before .is-over2 .ensures) ∙ c .if2 .taken) (now (a .lits)) .emitted)
+    emitted-starts-length (second-stops (now (a .bytes)) (a .h) (a .t) (now (a .ds)) (a .depth) (a .c) (now (a .lits)) (a .start) i b x o y (sym (c .before .is-over2 .ensures) ∙ c .if2 .taken) (now (a .lits)) .emitted)
 
 if-made-same-length-6 : (t : ℕ) → if-made-lts.Need-same-length-6 (if-made-calls t) (if-made-at t) if-made.Post
 if-made-same-length-6 t c = c .before .before .before .before .before .before .before .before .before .before .before .before .before .before .before .before .before .before .before .before .arm-made .kept .1 .1 .0
@@ -422,7 +422,7 @@ if-made-returns-2 t c =
     let x = arm-from _ _ refl (c .before .before .before .before .before .before .before .before .before .before .before .before .before .before .before .before .before .before .before .before .before .before .before .before .in-first .ensures) (c .before .before .before .before .before .before .before .before .before .before .before .before .before .before .before .before .before .before .before .before .arm-made .ensures) in
     let o = sym (c .before .before .before .before .before .before .before .before .before .before .before .before .before .is-over .ensures) ∙ c .before .before .before .before .before .before .before .before .before .before .before .before .if1 .left in
     let y = arm-from _ _ (c .before .before .before .before .before .before .before .before .before .before .before .before .before .before .before .before .before .before .before .before .before .before .before .before .before .before .before .before .before .before .before .before .before .before .before .before .copied .ensures) (c .before .before .before .before .before .before .before .before .before .before .before .in-else .ensures) (c .before .before .before .before .before .before .before .arm-made2 .ensures) in
-    if-told i (second-stops (now (a .bytes)) (a .h) (a .t) (now (a .decisions)) (a .depth) (a .c) (now (a .lits)) (a .start) i b x o y (sym (c .before .is-over2 .ensures) ∙ c .if2 .taken) _)
+    if-told i (second-stops (now (a .bytes)) (a .h) (a .t) (now (a .ds)) (a .depth) (a .c) (now (a .lits)) (a .start) i b x o y (sym (c .before .is-over2 .ensures) ∙ c .if2 .taken) _)
 
 if-made-slice-aggregate-arms-walked : (t : ℕ) → if-made-lts.Need-slice-aggregate-arms-walked (if-made-calls t) (if-made-at t) if-made.Post
 if-made-slice-aggregate-arms-walked t c =
@@ -441,7 +441,7 @@ if-made-arms-walked-requires t c κs =
     let o = sym (c .before .before .before .before .before .before .before .before .before .before .before .before .before .before .before .before .before .is-over .ensures) ∙ c .before .before .before .before .before .before .before .before .before .before .before .before .before .before .before .before .if1 .left in
     let y = arm-from _ _ (c .before .before .before .before .before .before .before .before .before .before .before .before .before .before .before .before .before .before .before .before .before .before .before .before .before .before .before .before .before .before .before .before .before .before .before .before .before .before .before .before .copied .ensures) (c .before .before .before .before .before .before .before .before .before .before .before .before .before .before .before .in-else .ensures) (c .before .before .before .before .before .before .before .before .before .before .before .arm-made2 .ensures) in
     let o₁ = sym (c .before .before .before .before .before .is-over2 .ensures) ∙ c .before .before .before .before .if2 .left in
-    (join-ready (now (a .bytes)) (a .h) (a .t) (now (a .decisions)) (a .depth) (a .c) (now (a .lits)) (a .start) i b x o y o₁ (p .0 .room), c .before .before .before .before .before .before .before .before .before .before .before .before .before .before .before .before .before .before .before .before .before .before .before .before .arm-made .kept .1 .1 .0 ∙ p .0 .places, c .before .before .before .before .before .before .before .before .before .before .before .arm-made2 .kept .1 .1 .0 ∙ ap length (c .before .before .before .before .before .before .before .before .before .before .before .before .before .before .before .before .before .before .before .before .before .before .before .before .before .before .before .before .before .before .before .before .before .before .before .before .before .before .before .before .copied .ensures) ∙ p .0 .places, p .3)
+    (join-ready (now (a .bytes)) (a .h) (a .t) (now (a .ds)) (a .depth) (a .c) (now (a .lits)) (a .start) i b x o y o₁ (p .0 .room), c .before .before .before .before .before .before .before .before .before .before .before .before .before .before .before .before .before .before .before .before .before .before .before .before .arm-made .kept .1 .1 .0 ∙ p .0 .places, c .before .before .before .before .before .before .before .before .before .before .before .arm-made2 .kept .1 .1 .0 ∙ ap length (c .before .before .before .before .before .before .before .before .before .before .before .before .before .before .before .before .before .before .before .before .before .before .before .before .before .before .before .before .before .before .before .before .before .before .before .before .before .before .before .before .copied .ensures) ∙ p .0 .places, p .3)
 
 if-made-same-length-7 : (t : ℕ) → if-made-lts.Need-same-length-7 (if-made-calls t) (if-made-at t) if-made.Post
 if-made-same-length-7 t c =
@@ -453,7 +453,7 @@ if-made-same-length-7 t c =
     let o = sym (c .before .before .before .before .before .before .before .before .before .before .before .before .before .before .before .before .before .before .before .before .before .before .before .before .is-over .ensures) ∙ c .before .before .before .before .before .before .before .before .before .before .before .before .before .before .before .before .before .before .before .before .before .before .before .if1 .left in
     let y = arm-from _ _ (c .before .before .before .before .before .before .before .before .before .before .before .before .before .before .before .before .before .before .before .before .before .before .before .before .before .before .before .before .before .before .before .before .before .before .before .before .before .before .before .before .before .before .before .before .before .before .before .copied .ensures) (c .before .before .before .before .before .before .before .before .before .before .before .before .before .before .before .before .before .before .before .before .before .before .in-else .ensures) (c .before .before .before .before .before .before .before .before .before .before .before .before .before .before .before .before .before .before .arm-made2 .ensures) in
     let o₁ = sym (c .before .before .before .before .before .before .before .before .before .before .before .before .is-over2 .ensures) ∙ c .before .before .before .before .before .before .before .before .before .before .before .if2 .left in
-    emitted-words-length (arms-join (now (a .bytes)) (a .h) (a .t) (now (a .decisions)) (a .depth) (a .c) (now (a .lits)) (a .start) i b x o y o₁ (c .before .before .before .before .before .before .arms-walked .ensures) .emitted)
+    emitted-words-length (arms-join (now (a .bytes)) (a .h) (a .t) (now (a .ds)) (a .depth) (a .c) (now (a .lits)) (a .start) i b x o y o₁ (c .before .before .before .before .before .before .arms-walked .ensures) .emitted)
 
 if-made-same-length-8 : (t : ℕ) → if-made-lts.Need-same-length-8 (if-made-calls t) (if-made-at t) if-made.Post
 if-made-same-length-8 t c =
@@ -465,7 +465,7 @@ if-made-same-length-8 t c =
     let o = sym (c .before .before .before .before .before .before .before .before .before .before .before .before .before .before .before .before .before .before .before .before .before .before .before .before .is-over .ensures) ∙ c .before .before .before .before .before .before .before .before .before .before .before .before .before .before .before .before .before .before .before .before .before .before .before .if1 .left in
     let y = arm-from _ _ (c .before .before .before .before .before .before .before .before .before .before .before .before .before .before .before .before .before .before .before .before .before .before .before .before .before .before .before .before .before .before .before .before .before .before .before .before .before .before .before .before .before .before .before .before .before .before .before .copied .ensures) (c .before .before .before .before .before .before .before .before .before .before .before .before .before .before .before .before .before .before .before .before .before .before .in-else .ensures) (c .before .before .before .before .before .before .before .before .before .before .before .before .before .before .before .before .before .before .arm-made2 .ensures) in
     let o₁ = sym (c .before .before .before .before .before .before .before .before .before .before .before .before .is-over2 .ensures) ∙ c .before .before .before .before .before .before .before .before .before .before .before .if2 .left in
-    emitted-starts-length (arms-join (now (a .bytes)) (a .h) (a .t) (now (a .decisions)) (a .depth) (a .c) (now (a .lits)) (a .start) i b x o y o₁ (c .before .before .before .before .before .before .arms-walked .ensures) .emitted)
+    emitted-starts-length (arms-join (now (a .bytes)) (a .h) (a .t) (now (a .ds)) (a .depth) (a .c) (now (a .lits)) (a .start) i b x o y o₁ (c .before .before .before .before .before .before .arms-walked .ensures) .emitted)
 
 if-made-same-length-9 : (t : ℕ) → if-made-lts.Need-same-length-9 (if-made-calls t) (if-made-at t) if-made.Post
 if-made-same-length-9 t c = c .before .before .before .before .before .before .arms-walked .kept .1 .1 .0 ∙ c .before .before .before .before .before .before .before .before .before .before .before .before .before .before .before .before .before .before .before .before .before .before .before .before .before .before .before .before .before .before .before .arm-made .kept .1 .1 .0
@@ -480,7 +480,7 @@ if-made-returns-3 t c =
     let o = sym (c .before .before .before .before .before .before .before .before .before .before .before .before .before .before .before .before .before .before .before .before .before .before .before .before .is-over .ensures) ∙ c .before .before .before .before .before .before .before .before .before .before .before .before .before .before .before .before .before .before .before .before .before .before .before .if1 .left in
     let y = arm-from _ _ (c .before .before .before .before .before .before .before .before .before .before .before .before .before .before .before .before .before .before .before .before .before .before .before .before .before .before .before .before .before .before .before .before .before .before .before .before .before .before .before .before .before .before .before .before .before .before .before .copied .ensures) (c .before .before .before .before .before .before .before .before .before .before .before .before .before .before .before .before .before .before .before .before .before .before .in-else .ensures) (c .before .before .before .before .before .before .before .before .before .before .before .before .before .before .before .before .before .before .arm-made2 .ensures) in
     let o₁ = sym (c .before .before .before .before .before .before .before .before .before .before .before .before .is-over2 .ensures) ∙ c .before .before .before .before .before .before .before .before .before .before .before .if2 .left in
-    if-told i (arms-join (now (a .bytes)) (a .h) (a .t) (now (a .decisions)) (a .depth) (a .c) (now (a .lits)) (a .start) i b x o y o₁ (c .before .before .before .before .before .before .arms-walked .ensures))
+    if-told i (arms-join (now (a .bytes)) (a .h) (a .t) (now (a .ds)) (a .depth) (a .c) (now (a .lits)) (a .start) i b x o y o₁ (c .before .before .before .before .before .before .arms-walked .ensures))
 
 pub +arm-made+if-made-spec : {M : Type 1} → statement M
 +arm-made+if-made-spec = close μ-arm-made μ-if-made (λ t. arm-made-lts.spec (arm-made-calls t)
