@@ -5,8 +5,9 @@ use crate::Simple;
 use slices::byte_at;
 use slices::word_at;
 ghost use mathlib.Core.Path.{_≡_};
-ghost use Prim.Native.Nat.{_<_};
+ghost use Prim.Native.Nat.{_+_, _<_};
 ghost use lib.ListN.{length};
+ghost use Rattle.slices.specs.Bytes.{entry};
 ghost use Rattle.command.specs.Command.{commandBy, commandOf, commandAt, sizeOf, sizeOfSimple};
 
 pub fn simple_size(c: Simple) -> usize
@@ -65,19 +66,45 @@ fn command_by(op: u8, a: u8, b: u8, c: u8, constant: u32) -> Command
     }
 }
 
+// A command's byte and the three bytes after it, 0 for those past the end.
+struct Front {
+    op: u8,
+    a: u8,
+    b: u8,
+    c: u8,
+}
+
+// The front at `at`. Only near the end of the bytes can some of it be missing, so there is one test for all of it.
+fn front_at(bytes: &[u8], at: usize) -> Front
+    requires { ⌜ at < length (now bytes) ⌝ }
+    ensures { λ r. ⌜ (r .op ≡ entry (now (bytes .entry)) at) × (r .a ≡ entry (now (bytes .entry)) (at + 1)) × (r .b ≡ entry (now (bytes .entry)) (at + 2)) × (r .c ≡ entry (now (bytes .entry)) (at + 3)) ⌝ }
+{
+    if bytes.len() - at < 4 {
+        return Front {
+            op: byte_at(bytes, at),
+            a: byte_at(bytes, at + 1),
+            b: byte_at(bytes, at + 2),
+            c: byte_at(bytes, at + 3),
+        };
+    }
+    Front {
+        op: bytes[at],
+        a: bytes[at + 1],
+        b: bytes[at + 2],
+        c: bytes[at + 3],
+    }
+}
+
 // The command that begins at `at`, with 0 for the bytes past the end. Only a set has a constant, of four bytes, so for no other are they read.
 fn command_of(bytes: &[u8], at: usize) -> Command
     requires { ⌜ at < length (now bytes) ⌝ }
     ensures { λ r. ⌜ r ≡ commandOf (now (bytes .entry)) at ⌝ }
 {
-    let op = byte_at(bytes, at);
-    let a = byte_at(bytes, at + 1);
-    if op == 0x01 {
-        return command_by(op, a, 0, 0, word_at(bytes, at + 2));
+    let f = front_at(bytes, at);
+    if f.op == 0x01 {
+        return command_by(f.op, f.a, 0, 0, word_at(bytes, at + 2));
     }
-    let b = byte_at(bytes, at + 2);
-    let c = byte_at(bytes, at + 3);
-    command_by(op, a, b, c, 0)
+    command_by(f.op, f.a, f.b, f.c, 0)
 }
 
 // The whole command at `at`.

@@ -16,14 +16,8 @@ module _ (op a b c k : ℕ) where
   unfolding commandBy
   other-by n = rw (ne-eqb op 1 n)
 
-byte-at-requires : tie.Need-byte-at-requires
-byte-at-requires c κs = search needs
-
-add-byte-at : tie.Need-add-byte-at
-add-byte-at c = search needs
-
-byte-at-requires-2 : tie.Need-byte-at-requires-2
-byte-at-requires-2 c κs = search needs
+front-at-requires : tie.Need-front-at-requires
+front-at-requires c κs = search needs
 
 add-word-at : tie.Need-add-word-at
 add-word-at c = search needs
@@ -36,47 +30,26 @@ command-by-requires c κs = search needs
 
 returns : tie.Need-returns
 returns c =
-    let o = c .before .before .before .before in
+    let f = c .before .before .before .before .front-at .ensures in
     c .command-by .ensures
-    ∙ rw (c .before .word-at .ensures, o .byte-at .ensures, c .before .before .before .byte-at2 .ensures)
-    (set-by _ _ _ _ _ (sym (o .byte-at .ensures) ∙ c .before .before .if1 .taken))
-
-add-byte-at-2 : tie.Need-add-byte-at-2
-add-byte-at-2 c = search needs
-
-byte-at-requires-3 : tie.Need-byte-at-requires-3
-byte-at-requires-3 c κs = search needs
-
-add-byte-at-3 : tie.Need-add-byte-at-3
-add-byte-at-3 c = search needs
-
-byte-at-requires-4 : tie.Need-byte-at-requires-4
-byte-at-requires-4 c κs = search needs
+    ∙ rw (c .before .word-at .ensures, f .0, f .1) (set-by _ _ _ _ _ (sym (f .0) ∙ c .before .before .if1 .taken))
 
 command-by-requires-2 : tie.Need-command-by-requires-2
 command-by-requires-2 c κs = search needs
 
 returns-2 : tie.Need-returns-2
 returns-2 c =
-    let o = c .before .before .before .before .before in
-    c .command-by2 .ensures
-    ∙ rw (c .before .byte-at4 .ensures, c .before .before .byte-at3 .ensures, o .byte-at .ensures, c .before .before .before .before .byte-at2 .ensures)
-    (other-by _ _ _ _ _ (λ e. c .before .before .before .if1 .left (o .byte-at .ensures ∙ e)))
+    let f = c .before .before .before .front-at .ensures in
+    c .command-by2 .ensures ∙ rw (f .0, f .1, f .2, f .3) (other-by _ _ _ _ _ (λ e. c .before .if1 .left (f .0 ∙ e)))
 
 pub command-of-spec : {M : Type 1} → statement M
 command-of-spec =
     tie.close
     (tie.spec
-    byte-at-requires
-    add-byte-at
-    byte-at-requires-2
+    front-at-requires
     add-word-at
     word-at-requires
     command-by-requires
     returns
-    add-byte-at-2
-    byte-at-requires-3
-    add-byte-at-3
-    byte-at-requires-4
     command-by-requires-2
     returns-2)
