@@ -72,6 +72,35 @@ fn long_proof_and_one_bad_step() {
     assert_eq!(agreed(&long, words, starts), refused(20, place));
 }
 
+/// A chain of implications. The first step follows it as far as its last
+/// variable, so that all but one are decided, and the second follows it again
+/// from its beginning, which it can only if none is decided any more. The
+/// library keeps a list of 4,096 decided literals, and steps decide fewer, as
+/// many, and more.
+#[test]
+fn steps_that_decide_thousands() {
+    for decided in [1, 4095, 4096, 4097, 10_000] {
+        let last = decided + 1;
+        let mut clauses = vec![vec![2]];
+        clauses.extend((1..last).map(|variable| vec![2 * variable + 1, 2 * variable + 2]));
+        clauses.push(vec![2 * last + 1]);
+        let mut commands = vec![Command::Literal(2 * last)];
+        commands.extend((0..last).map(Command::Hint));
+        commands.push(Command::Close);
+        commands.extend((0..=last).map(Command::Hint));
+        commands.extend([Command::Close, Command::End]);
+        let given = Refutation {
+            clauses,
+            variables: last,
+            commands,
+            lead: vec![0, 0],
+        };
+        let (words, starts) = given.needed();
+        let hints = 2 * last as usize + 1;
+        assert_eq!(agreed(&given, words, starts), done(2, hints));
+    }
+}
+
 /// One clause takes nearly all words that are ever used, and more are lent:
 /// two steps of one and no literal find room for exactly their three words.
 #[test]
