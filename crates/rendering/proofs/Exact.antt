@@ -1,0 +1,125 @@
+-- What is accepted is what a well-formed routine renders to. Assumes nothing.
+use mathlib.Core.Path.{_≡_, refl, sym, ap, _∙_}
+use mathlib.Core.List.{List, [], _∷_, _++_}
+use mathlib.Core.Logic.{inl}
+use Prim.Native.Nat.{ℕ, _+_, _≤_}
+use native.Mathlib.Omega.{arith}
+use lib.ListN.{length, drop}
+use lib.Seq.{drop-length}
+use borrow.Author.Tests.{le-leb, eq-eqb}
+use Rattle.header.specs.Header.{firstCommand}
+use Rattle.command.specs.Sound.{Fine}
+use Rattle.routine.specs.Routine.{Arm}
+use Rattle.routine.specs.Decode.{noCounts, routine, decode}
+use Rattle.rendering.specs.Syntax.{Syntax}
+use Rattle.rendering.specs.Render.{textBytes, render}
+use Rattle.rendering.specs.WellFormed.{depth, ifs, accesses, WellFormed}
+use Rattle.rendering.specs.Exactly.{AreBytes, Accepted, Rendered, headOf, text, Decodes, Exactly}
+use Rattle.header.specs.declared.Header.{Header}
+use Rattle.command.specs.declared.Counts.{Counts}
+use Rattle.command.proofs.Fine.{fine}
+use Rattle.routine.proofs.Views.{onward}
+use Rattle.routine.proofs.Accepted.{Whole, decoded}
+use Rattle.routine.proofs.Counting.{few-ifs, few-accesses}
+use Rattle.rendering.proofs.Bytes.{bytes-left}
+use Rattle.rendering.proofs.Heads.{length-sizes, size-from, syntaxOf, many-widths, same-told, header-bytes, from-commands, header-read, same-read, read-back}
+use Rattle.rendering.proofs.Written.{Written, written}
+use Rattle.rendering.proofs.Readings.{reads}
+
+-- ---- the bytes of a well-formed routine decode to it
+
+pub rendered-decodes : (p : Syntax) → WellFormed p → Decodes p
+unfolding render decode
+rendered-decodes p w =
+    let bs = render p in
+    let h = headOf p in
+    let t = p .commands in
+    let e = header-read bs p (textBytes t ++ (0 ∷ [])) refl (w .variables) (w .widths) (w .parameters) (w .arrays) (w .sizes) in
+    let d : 0 + depth t ≤ 8 = omega (arith, w .deep) in
+    let i : 0 + ifs t ≤ 32 = omega (arith, w .few-ifs) in
+    let a : 0 + 0 + accesses t ≤ 64 = omega (arith, w .few-accesses) in
+    let r = reads bs h p (same-read bs p (textBytes t ++ (0 ∷ [])) refl) (λ v l. w .widths v l .high) t 0 0 (firstCommand h) noCounts []
+    (inl refl) (from-commands bs p (textBytes t ++ (0 ∷ [])) refl) (w .commands) d i a in
+    let l = w .short in
+    let o = onward bs h 0 0 (firstCommand h) noCounts (r .arm) (r .end) (r .after) (r .stands) in
+    let q : r .end ≡ length bs = omega (arith, bytes-left bs (r .end) [] (r .follows)) in
+    record {
+      arm = r .arm;
+      counts = r .after;
+      decodes = simp (le-leb 1 (length bs) (omega arith), le-leb (length bs) 4096 l, e, r .stands .reads, eq-eqb (r .end) (length bs) q);
+      commands = r .commands;
+    }
+
+pub rendered-accepted : (p : Syntax) → WellFormed p → Accepted (render p)
+rendered-accepted p w =
+    let d = rendered-decodes p w in
+    record { header = headOf p; routine = record { commands = d .arm; counts = d .counts; decodes = d .decodes } }
+
+-- ---- what decodes is the bytes of a well-formed routine
+
+module _ (bs : List ℕ) (f : AreBytes bs) (h : Header) (a : Arm) (k : Counts) (e : decode bs ≡ routine h a k) where
+  abbrev told : Syntax
+  told = syntaxOf bs h (text a)
+
+  told-whole : Whole bs h a k
+  told-whole = decoded bs h a k e
+
+  told-fine : Fine bs h
+  told-fine = fine bs h (told-whole .header)
+
+  told-written : Written bs told 0 0 (firstCommand h) noCounts a (length bs) k
+  told-written = written bs f h told (same-told bs h told-fine (text a)) a 0 0 (firstCommand h) noCounts (length bs) k (told-whole .stands) (omega arith)
+
+  told-same : bs ≡ render told
+  unfolding render
+  told-same =
+      let c : drop (firstCommand h) bs ≡ textBytes (text a) ++ (0 ∷ []) = rw drop-length at (told-written .bytes) in
+      rw c at (header-bytes bs h told-fine f (told-whole .header) (text a))
+
+  told-formed : WellFormed told
+  told-formed =
+      let g = told-fine in
+      let b = told-written in
+      let n = many-widths bs h g in
+      let m = length-sizes bs (h .variables + 4) (h .arrays) in
+      record {
+        variables = rw n (record { low = g .some; high = g .few });
+        widths = λ v l. let x = g .widths v (rw n at l) in rw (← same-told bs h g (text a) .widths v l) (record { low = x .0; high = x .1 });
+        parameters = rw n (g .parameters);
+        arrays = rw m (g .arrays);
+        sizes = λ i l. let x = g .sizes i (rw m at l) in rw (size-from bs (h .arrays) (h .variables + 4) i (rw m at l)) (record { low = x .0; high = x .1 });
+        commands = b .good;
+        deep = omega (arith, b .deep);
+        few-ifs = omega (arith, b .counted, few-ifs bs h a k e);
+        few-accesses = omega (arith, b .accessed, few-accesses bs h a k e);
+        short = rw (← told-same) (told-whole .short);
+      }
+
+pub accepted-rendered : (bs : List ℕ) → AreBytes bs → (h : Header) (a : Arm) (k : Counts) → decode bs ≡ routine h a k → Rendered bs
+accepted-rendered bs f h a k e = record { syntax = told bs f h a k e; formed = told-formed bs f h a k e; same = told-same bs f h a k e }
+
+-- ---- both, and no two well-formed routines have the same bytes
+
+back : (p : Syntax) → WellFormed p → syntaxOf (render p) (headOf p) (p .commands) ≡ p
+unfolding render
+back p w = read-back (render p) p (textBytes (p .commands) ++ (0 ∷ [])) refl (w .sizes)
+
+render-once : (p q : Syntax) → WellFormed p → WellFormed q → render p ≡ render q → p ≡ q
+render-once p q v w e =
+    let x = rendered-decodes p v in
+    let y = rendered-decodes q w in
+    let d : routine (headOf p) (x .arm) (x .counts) ≡ routine (headOf q) (y .arm) (y .counts) = sym (x .decodes) ∙ ap decode e ∙ y .decodes in
+    let h : headOf p ≡ headOf q = cc in
+    let a : x .arm ≡ y .arm = cc in
+    let t : p .commands ≡ q .commands = sym (x .commands) ∙ ap text a ∙ y .commands in
+    sym (back p v) ∙ (λ i. syntaxOf (e i) (h i) (t i)) ∙ back q w
+
+pub exactly : Exactly
+exactly = record {
+  accepted = λ bs f. (
+    λ a. accepted-rendered bs f (a .header) (a .routine .commands) (a .routine .counts) (a .routine .decodes),
+    λ r. rw (r .same) (rendered-accepted (r .syntax) (r .formed)),
+  );
+  decoded = rendered-decodes;
+  once = render-once;
+}

@@ -1,0 +1,4 @@
+pub mod Syntax
+pub mod Render
+pub mod WellFormed
+pub mod Exactly
