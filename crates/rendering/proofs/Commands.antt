@@ -35,13 +35,17 @@ whole-here ys c e l = let m : sizeOf c ≤ length ys - 0 = omega arith in sym (w
 
 -- ---- from the bytes to the command
 
--- the byte of a command that converts, or computes, is one of its kind
+-- what the bytes can hold: a constant of four bytes, and a command byte that is one of its kind
 abbrev pub Kind : Simple → Type 0
 Kind (Simple.Set d c) = c < 4294967296
 Kind (Simple.Convert op d s) = (op ≡ 0x02) ⊎ Between 0x06 0x08 op
 Kind (Simple.Compute op d s t) = Between 0x03 0x05 op
 Kind (Simple.Read d array i) = Unit {0}
 Kind (Simple.Write array i s) = Unit {0}
+
+-- the marks: end, else, end of if
+abbrev pub Mark : ℕ → Type 0
+Mark m = (m ≡ 0x00) ⊎ Between 0x0C 0x0D m
 
 module _ (op a b c k : ℕ) where
   by-convert : (op ≡ 0x02) ⊎ Between 0x06 0x08 op → commandBy op a b c k ≡ Command.Simple (Simple.Convert op a b)
@@ -54,7 +58,7 @@ module _ (op a b c k : ℕ) where
   by-compute l =
       simp (ne-eqb op 1 (λ e. omega arith), ne-eqb op 2 (λ e. omega arith), lt-leb 6 op (omega arith), le-leb 3 op (l .low), le-leb op 5 (l .high))
 
-  by-close : (op ≡ 0x00) ⊎ Between 0x0C 0x0D op → commandBy op a b c k ≡ Command.Close op
+  by-close : Mark op → commandBy op a b c k ≡ Command.Close op
   unfolding commandBy
   by-close (inl e) = rw e
   by-close (inr l) =
@@ -72,10 +76,6 @@ module _ (op a b c k : ℕ) where
         le-leb 12 op (l .low),
         le-leb op 13 (l .high),
       )
-
--- the marks: end, else, end of if
-abbrev pub Mark : ℕ → Type 0
-Mark m = (m ≡ 0x00) ⊎ Between 0x0C 0x0D m
 
 -- a command stands where its bytes do
 simple-bytes : (c : Simple) (tail : List ℕ) → Kind c → commandAt (simpleBytes c ++ tail) 0 ≡ Command.Simple c

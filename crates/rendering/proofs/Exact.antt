@@ -10,13 +10,14 @@ use borrow.Author.Tests.{le-leb, eq-eqb}
 use Rattle.header.specs.Header.{firstCommand}
 use Rattle.command.specs.Sound.{Fine}
 use Rattle.routine.specs.Routine.{Arm}
-use Rattle.routine.specs.Decode.{noCounts, routine, decode}
+use Rattle.routine.specs.Decode.{noCounts, routine, decode, answer, checked}
 use Rattle.rendering.specs.Syntax.{Syntax}
 use Rattle.rendering.specs.Render.{textBytes, render}
-use Rattle.rendering.specs.WellFormed.{depth, ifs, accesses, WellFormed}
-use Rattle.rendering.specs.Exactly.{AreBytes, Accepted, Rendered, headOf, text, Decodes, Exactly}
+use Rattle.rendering.specs.WellFormed.{depth, ifs, reads, writes, accesses, WellFormed}
+use Rattle.rendering.specs.Exactly.{AreBytes, Accepted, Rendered, headOf, countsOf, text, Decodes, Exactly}
 use Rattle.header.specs.declared.Header.{Header}
 use Rattle.command.specs.declared.Counts.{Counts}
+use Rattle.routine.specs.declared.Checked.{Checked}
 use Rattle.command.proofs.Fine.{fine}
 use Rattle.routine.proofs.Views.{onward}
 use Rattle.routine.proofs.Accepted.{Whole, decoded}
@@ -24,7 +25,7 @@ use Rattle.routine.proofs.Counting.{few-ifs, few-accesses}
 use Rattle.rendering.proofs.Bytes.{bytes-left}
 use Rattle.rendering.proofs.Heads.{length-sizes, size-from, syntaxOf, many-widths, same-told, header-bytes, from-commands, header-read, same-read, read-back}
 use Rattle.rendering.proofs.Written.{Written, written}
-use Rattle.rendering.proofs.Readings.{reads}
+use Rattle.rendering.proofs.Readings.{all-read}
 
 -- ---- the bytes of a well-formed routine decode to it
 
@@ -34,26 +35,34 @@ rendered-decodes p w =
     let bs = render p in
     let h = headOf p in
     let t = p .commands in
-    let e = header-read bs p (textBytes t ++ (0 ∷ [])) refl (w .variables) (w .widths) (w .parameters) (w .arrays) (w .sizes) in
+    let e = header-read bs p (textBytes t ++ (0 ∷ [])) refl (w .variables) (w .widths) (omega (arith, w .parameters)) (omega (arith, w .arrays)) (w .sizes) in
     let d : 0 + depth t ≤ 8 = omega (arith, w .deep) in
     let i : 0 + ifs t ≤ 32 = omega (arith, w .few-ifs) in
     let a : 0 + 0 + accesses t ≤ 64 = omega (arith, w .few-accesses) in
-    let r = reads bs h p (same-read bs p (textBytes t ++ (0 ∷ [])) refl) (λ v l. w .widths v l .high) t 0 0 (firstCommand h) noCounts []
+    let r = all-read bs h p (same-read bs p (textBytes t ++ (0 ∷ [])) refl) (λ v l. w .widths v l .high) t 0 0 (firstCommand h) noCounts []
     (inl refl) (from-commands bs p (textBytes t ++ (0 ∷ [])) refl) (w .commands) d i a in
     let l = w .short in
     let o = onward bs h 0 0 (firstCommand h) noCounts (r .arm) (r .end) (r .after) (r .stands) in
     let q : r .end ≡ length bs = omega (arith, bytes-left bs (r .end) [] (r .follows)) in
+    let i₁ : r .after .ifs ≡ ifs t = omega (arith, r .some-ifs) in
+    let r₁ : r .after .reads ≡ reads t = omega (arith, r .some-reads) in
+    let w₁ : r .after .writes ≡ writes t = omega (arith, r .some-writes) in
     record {
       arm = r .arm;
-      counts = r .after;
-      decodes = simp (le-leb 1 (length bs) (omega arith), le-leb (length bs) 4096 l, e, r .stands .reads, eq-eqb (r .end) (length bs) q);
+      decodes =
+          simp (le-leb 1 (length bs) (omega arith), le-leb (length bs) 4096 l, e, r .stands .reads, eq-eqb (r .end) (length bs) q)
+          (λ j. routine h (r .arm) (record { ifs = i₁ j; reads = r₁ j; writes = w₁ j }));
       commands = r .commands;
     }
 
 pub rendered-accepted : (p : Syntax) → WellFormed p → Accepted (render p)
 rendered-accepted p w =
     let d = rendered-decodes p w in
-    record { header = headOf p; routine = record { commands = d .arm; counts = d .counts; decodes = d .decodes } }
+    record { header = headOf p; routine = record { commands = d .arm; counts = countsOf p; decodes = d .decodes } }
+
+rendered-answered : (p : Syntax) → WellFormed p → checked (render p) ≡ Checked.Accepted (headOf p) (countsOf p)
+unfolding checked
+rendered-answered p w = ap answer (rendered-decodes p w .decodes)
 
 -- ---- what decodes is the bytes of a well-formed routine
 
@@ -108,7 +117,7 @@ render-once : (p q : Syntax) → WellFormed p → WellFormed q → render p ≡ 
 render-once p q v w e =
     let x = rendered-decodes p v in
     let y = rendered-decodes q w in
-    let d : routine (headOf p) (x .arm) (x .counts) ≡ routine (headOf q) (y .arm) (y .counts) = sym (x .decodes) ∙ ap decode e ∙ y .decodes in
+    let d : routine (headOf p) (x .arm) (countsOf p) ≡ routine (headOf q) (y .arm) (countsOf q) = sym (x .decodes) ∙ ap decode e ∙ y .decodes in
     let h : headOf p ≡ headOf q = cc in
     let a : x .arm ≡ y .arm = cc in
     let t : p .commands ≡ q .commands = sym (x .commands) ∙ ap text a ∙ y .commands in
@@ -121,5 +130,6 @@ exactly = record {
     λ r. rw (r .same) (rendered-accepted (r .syntax) (r .formed)),
   );
   decoded = rendered-decodes;
+  answered = rendered-answered;
   once = render-once;
 }

@@ -55,7 +55,7 @@ converts-kind op w x (inr (inr e)) = inr (record { low = omega arith; high = ome
 pub good-kind : (p : Syntax) → ((v : ℕ) → Variable p v → widthOf p v ≤ 32) → (c : Simple) → Good p c → Kind c
 good-kind p f (Simple.Set d c) g = lt-of-lt-of-le (g .1) (pow-mono (f d (g .0)))
 good-kind p f (Simple.Convert op d s) g = converts-kind op (widthOf p d) (widthOf p s) (g .2)
-good-kind p f (Simple.Compute op d s t) g = g .0
+good-kind p f (Simple.Compute op d s t) g = record { low = omega (arith, g .0 .low); high = omega (arith, g .0 .high) }
 good-kind p f (Simple.Read d array i) g = tt
 good-kind p f (Simple.Write array i s) g = tt
 

@@ -16,7 +16,7 @@ use Rattle.routine.specs.Routine.{Arm, done, plain, fork, armStep, stepAt, arm}
 use Rattle.routine.specs.Stands.{Stands}
 use Rattle.rendering.specs.Syntax.{Text, none, simple, branch, Syntax}
 use Rattle.rendering.specs.Render.{four, simpleBytes, textBytes}
-use Rattle.rendering.specs.WellFormed.{Variable, widthOf, AllGood, access, depth, ifs, accesses}
+use Rattle.rendering.specs.WellFormed.{Variable, widthOf, AllGood, depth, ifs, oneRead, oneWrite, reads, writes, accesses}
 use Rattle.rendering.specs.Exactly.{text}
 use Rattle.header.specs.declared.Header.{Header}
 use Rattle.command.specs.declared.Counts.{Counts}
@@ -29,7 +29,7 @@ use Rattle.routine.proofs.Counting.{same-ifs}
 use Rattle.rendering.proofs.Bytes.{further}
 use Rattle.rendering.proofs.Commands.{Mark, simple-here, if-here, close-here}
 use Rattle.rendering.proofs.Operands.{Same, good-kind, sound, sound-if}
-use Rattle.rendering.proofs.Written.{one-access}
+use Rattle.rendering.proofs.Written.{reads-after, writes-after}
 
 -- else and end of if
 else-mark : Mark 12
@@ -48,7 +48,7 @@ after-simple (Simple.Read d a i) tail = refl
 after-simple (Simple.Write a i s) tail = refl
 
 -- it is not the 65th access
-not-many : (c : Simple) (k : Counts) → step.accesses k + access c ≤ 64 → tooMany c k ≡ false
+not-many : (c : Simple) (k : Counts) → step.accesses k + (oneRead c + oneWrite c) ≤ 64 → tooMany c k ≡ false
 unfolding tooMany
 not-many (Simple.Set d x) k l = refl
 not-many (Simple.Convert op d s) k l = refl
@@ -109,8 +109,11 @@ total k x y z k₁ k₂ k₃ e f g = omega arith
 ifs-grouped : (k x y z : ℕ) → k + (1 + x + y + z) ≡ k + 1 + x + y + z
 ifs-grouped k x y z = omega arith
 
-accesses-grouped : (k x y z : ℕ) → k + (x + y + z) ≡ k + x + y + z
-accesses-grouped k x y z = omega arith
+reads-grouped : (k x y z : ℕ) → k + (x + y + z) ≡ k + x + y + z
+reads-grouped k x y z = omega arith
+
+accesses-grouped : (k x y z u v w : ℕ) → k + (x + y + z + (u + v + w)) ≡ k + (x + u) + (y + v) + (z + w)
+accesses-grouped k x y z u v w = omega arith
 
 positive : (k x m : ℕ) → k + 1 + x ≤ m → k < m
 positive k x m l = omega arith
@@ -125,8 +128,16 @@ pub record Read (bs : List ℕ) (h : Header) (n close at : ℕ) (k : Counts) (t 
   pub stands : Stands bs h n close at k arm end after
   pub follows : drop end bs ≡ tail
   pub commands : text arm ≡ t
-  pub counted : after .ifs ≡ k .ifs + ifs t
-  pub accessed : step.accesses after ≡ step.accesses k + accesses t
+  pub some-ifs : after .ifs ≡ k .ifs + ifs t
+  pub some-reads : after .reads ≡ k .reads + reads t
+  pub some-writes : after .writes ≡ k .writes + writes t
+
+both-counts : (k w x y k₁ w₁ : ℕ) → k₁ ≡ k + x → w₁ ≡ w + y → k₁ + w₁ ≡ k + w + (x + y)
+both-counts k w x y k₁ w₁ e f = omega arith
+
+accessed : {bs : List ℕ} {h : Header} {n close at : ℕ} {k : Counts} {t : Text} {tail : List ℕ} (r : Read bs h n close at k t tail)
+    → step.accesses (r .after) ≡ step.accesses k + accesses t
+accessed r = both-counts _ _ _ _ _ _ (r .some-reads) (r .some-writes)
 
 module _ (bs : List ℕ) (h : Header) (p : Syntax) (same : Same bs h p) (narrow : (v : ℕ) → Variable p v → widthOf p v ≤ 32) where
   -- wherever the bytes of t stand before a mark, within the limits, they are read
@@ -135,7 +146,7 @@ module _ (bs : List ℕ) (h : Header) (p : Syntax) (same : Same bs h p) (narrow 
       → AllGood p t → n + depth t ≤ 8 → k .ifs + ifs t ≤ 32 → step.accesses k + accesses t ≤ 64 → Read bs h n close at k t tail
 
   reads-none : Reads none
-  unfolding text textBytes ifs accesses
+  unfolding text textBytes ifs reads writes
   reads-none n close at k tail m e g d i a = record {
     arm = done;
     end = at + 1;
@@ -143,15 +154,17 @@ module _ (bs : List ℕ) (h : Header) (p : Syntax) (same : Same bs h p) (narrow 
     stands = stands-done bs h n close at k (close-here bs at tail close m e);
     follows = further bs at (close ∷ tail) e 1;
     commands = refl;
-    counted = omega arith;
-    accessed = omega arith;
+    some-ifs = omega arith;
+    some-reads = omega arith;
+    some-writes = omega arith;
   }
 
   reads-simple : (c : Simple) (rest : Text) → Reads rest → Reads (simple c rest)
-  unfolding text textBytes depth ifs accesses
+  unfolding text textBytes depth ifs reads writes
   reads-simple c rest go n close at k tail m e g d i a =
       let b : drop at bs ≡ simpleBytes c ++ (textBytes rest ++ (close ∷ tail)) = rw append-assoc at e in
-      let o = one-access c k in
+      let o = reads-after c k in
+      let u = writes-after c k in
       let s = same-ifs c k in
       let r = go n close (at + sizeOfSimple c) (after c k) tail m (further bs at _ b (sizeOfSimple c) ∙ after-simple c _) (g .1) d (omega arith) (omega arith) in
       record {
@@ -163,8 +176,9 @@ module _ (bs : List ℕ) (h : Header) (p : Syntax) (same : Same bs h p) (narrow 
             (r .arm) (r .end) (r .after) (r .stands);
         follows = r .follows;
         commands = ap (simple c) (r .commands);
-        counted = omega (arith, r .counted);
-        accessed = omega (arith, r .accessed);
+        some-ifs = omega (arith, r .some-ifs);
+        some-reads = omega (arith, r .some-reads);
+        some-writes = omega (arith, r .some-writes);
       }
 
   module _ (c : Condition) (first second rest : Text) (n close at : ℕ) (k : Counts) (tail : List ℕ) (m : Mark close)
@@ -182,7 +196,7 @@ module _ (bs : List ℕ) (h : Header) (p : Syntax) (same : Same bs h p) (narrow 
 
     join : commandAt bs at ≡ Command.If c → (r₁ : First) (r₂ : Read bs h (n + 1) 13 (r₁ .end) (r₁ .after) second Rest)
         → Read bs h n close (r₂ .end) (r₂ .after) rest tail → Read bs h n close at k (branch c first second rest) tail
-    unfolding text ifs accesses
+    unfolding text ifs reads writes
     join e r₁ r₂ r₃ = record {
       arm = fork at c k (r₁ .arm) (r₂ .arm) (r₃ .arm);
       end = r₃ .end;
@@ -193,20 +207,21 @@ module _ (bs : List ℕ) (h : Header) (p : Syntax) (same : Same bs h p) (narrow 
           (r₁ .arm) (r₁ .end) (r₁ .after) (r₁ .stands) (r₂ .arm) (r₂ .end) (r₂ .after) (r₂ .stands) (r₃ .arm) (r₃ .end) (r₃ .after) (r₃ .stands);
       follows = r₃ .follows;
       commands = λ j. branch c (r₁ .commands j) (r₂ .commands j) (r₃ .commands j);
-      counted = rw ifs-grouped (total _ _ _ _ _ _ _ (r₁ .counted) (r₂ .counted) (r₃ .counted));
-      accessed = rw accesses-grouped (total _ _ _ _ _ _ _ (r₁ .accessed) (r₂ .accessed) (r₃ .accessed));
+      some-ifs = rw ifs-grouped (total _ _ _ _ _ _ _ (r₁ .some-ifs) (r₂ .some-ifs) (r₃ .some-ifs));
+      some-reads = rw reads-grouped (total _ _ _ _ _ _ _ (r₁ .some-reads) (r₂ .some-reads) (r₃ .some-reads));
+      some-writes = rw reads-grouped (total _ _ _ _ _ _ _ (r₁ .some-writes) (r₂ .some-writes) (r₃ .some-writes));
     }
 
     after-second : Reads rest → commandAt bs at ≡ Command.If c → (r₁ : First) → Read bs h (n + 1) 13 (r₁ .end) (r₁ .after) second Rest
         → Read bs h n close at k (branch c first second rest) tail
     after-second go e r₁ r₂ =
         join e r₁ r₂ (go n close (r₂ .end) (r₂ .after) tail m (r₂ .follows) (g .3) (inside n _ _ _ d .3)
-        (rest-fits 32 _ _ _ _ i _ _ (r₁ .counted) (r₂ .counted)) (rest-fits 64 _ _ _ _ a _ _ (r₁ .accessed) (r₂ .accessed)))
+        (rest-fits 32 _ _ _ _ i _ _ (r₁ .some-ifs) (r₂ .some-ifs)) (rest-fits 64 _ _ _ _ a _ _ (accessed r₁) (accessed r₂)))
 
     after-first : Reads second → Reads rest → commandAt bs at ≡ Command.If c → First → Read bs h n close at k (branch c first second rest) tail
     after-first go₂ go₃ e r₁ =
         after-second go₃ e r₁ (go₂ (n + 1) 13 (r₁ .end) (r₁ .after) Rest end-mark (r₁ .follows) (g .2) (inside n _ _ _ d .2)
-        (second-fits 32 _ _ _ _ i _ (r₁ .counted)) (second-fits 64 _ _ _ _ a _ (r₁ .accessed)))
+        (second-fits 32 _ _ _ _ i _ (r₁ .some-ifs)) (second-fits 64 _ _ _ _ a _ (accessed r₁)))
 
     whole-if : Reads first → Reads second → Reads rest → drop at bs ≡ 11 ∷ c .relation ∷ c .s ∷ c .t ∷ textBytes first ++ (12 ∷ Second)
         → Read bs h n close at k (branch c first second rest) tail
@@ -215,11 +230,11 @@ module _ (bs : List ℕ) (h : Header) (p : Syntax) (same : Same bs h p) (narrow 
         (first-fits 32 (k .ifs + 1) (ifs first) (ifs second) (ifs rest) i) (first-fits 64 (step.accesses k) (accesses first) (accesses second) (accesses rest) a))
 
   reads-branch : (c : Condition) (first second rest : Text) → Reads first → Reads second → Reads rest → Reads (branch c first second rest)
-  unfolding textBytes depth ifs accesses
+  unfolding textBytes depth ifs reads writes
   reads-branch c first second rest go₁ go₂ go₃ n close at k tail m e g d i a =
       whole-if c first second rest n close at k tail m g d (rw ifs-grouped at i) (rw accesses-grouped at a) go₁ go₂ go₃ (simp append-assoc at e)
 
-  pub reads : (t : Text) → Reads t
-  reads none = reads-none
-  reads (simple c rest) = reads-simple c rest (reads rest)
-  reads (branch c first second rest) = reads-branch c first second rest (reads first) (reads second) (reads rest)
+  pub all-read : (t : Text) → Reads t
+  all-read none = reads-none
+  all-read (simple c rest) = reads-simple c rest (all-read rest)
+  all-read (branch c first second rest) = reads-branch c first second rest (all-read first) (all-read second) (all-read rest)

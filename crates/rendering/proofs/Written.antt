@@ -14,7 +14,7 @@ use Rattle.routine.specs.Routine.{Arm, done, plain, fork, refused, parsed, armS
 use Rattle.routine.specs.Stands.{Stands}
 use Rattle.rendering.specs.Syntax.{Syntax}
 use Rattle.rendering.specs.Render.{simpleBytes, textBytes}
-use Rattle.rendering.specs.WellFormed.{AllGood, access, depth, ifs, accesses}
+use Rattle.rendering.specs.WellFormed.{AllGood, depth, ifs, oneRead, oneWrite, reads, writes, accesses}
 use Rattle.rendering.specs.Exactly.{AreBytes, text}
 use Rattle.header.specs.declared.Header.{Header}
 use Rattle.command.specs.declared.Counts.{Counts}
@@ -28,13 +28,20 @@ use Rattle.routine.proofs.Counting.{same-ifs}
 use Rattle.rendering.proofs.Commands.{simple-there, if-there, close-there}
 use Rattle.rendering.proofs.Operands.{Same, good, good-if}
 
--- a command adds its access to the count
-pub one-access : (c : Simple) (k : Counts) → step.accesses (after c k) ≡ step.accesses k + access c
-one-access (Simple.Set d x) k = omega arith
-one-access (Simple.Convert op d s) k = omega arith
-one-access (Simple.Compute op d s t) k = omega arith
-one-access (Simple.Read d a i) k = omega arith
-one-access (Simple.Write a i s) k = omega arith
+-- a command adds to the counts
+pub reads-after : (c : Simple) (k : Counts) → after c k .reads ≡ k .reads + oneRead c
+reads-after (Simple.Set d x) k = omega arith
+reads-after (Simple.Convert op d s) k = omega arith
+reads-after (Simple.Compute op d s t) k = omega arith
+reads-after (Simple.Read d a i) k = omega arith
+reads-after (Simple.Write a i s) k = omega arith
+
+pub writes-after : (c : Simple) (k : Counts) → after c k .writes ≡ k .writes + oneWrite c
+writes-after (Simple.Set d x) k = omega arith
+writes-after (Simple.Convert op d s) k = omega arith
+writes-after (Simple.Compute op d s t) k = omega arith
+writes-after (Simple.Read d a i) k = omega arith
+writes-after (Simple.Write a i s) k = omega arith
 
 -- the arm a of p stands from `at` to `end` inside n ifs
 pub record Written (bs : List ℕ) (p : Syntax) (n close at : ℕ) (k : Counts) (a : Arm) (end : ℕ) (k₁ : Counts) : Type 0 where
@@ -62,7 +69,7 @@ module _ (bs : List ℕ) (f : AreBytes bs) (h : Header) (p : Syntax) (same : Sam
   Says n close at k a end k₁ = n ≤ 8 → Stands bs h n close at k a end k₁ → Written bs p n close at k a end k₁
 
   on-done : (n close at : ℕ) (k : Counts) (mark : ℕ) → commandAt bs at ≡ Command.Close mark → at + 1 ≤ length bs → Says n close at k done (at + 1) k
-  unfolding text textBytes depth ifs accesses
+  unfolding text textBytes depth ifs reads writes
   on-done n close at k mark e l d s = record {
     bytes = rw (own-mark bs h n close at k mark done (at + 1) k e s) at (close-there bs at mark e l);
     good = tt;
@@ -73,7 +80,7 @@ module _ (bs : List ℕ) (f : AreBytes bs) (h : Header) (p : Syntax) (same : Sam
 
   on-plain : (n close at : ℕ) (k : Counts) (c : Simple) (rest : Arm) (end : ℕ) (k₁ : Counts) → PlainAt bs h n close at k c rest end k₁
       → Says n close (at + sizeOfSimple c) (after c k) rest end k₁ → Says n close at k (plain at c k rest) end k₁
-  unfolding text textBytes depth ifs accesses
+  unfolding text textBytes depth ifs reads writes
   on-plain n close at k c rest end k₁ v go d s =
       let w = go d (v .stands) in
       let b = simple-there bs at f c (v .command) (v .room) in
@@ -82,14 +89,14 @@ module _ (bs : List ℕ) (f : AreBytes bs) (h : Header) (p : Syntax) (same : Sam
         good = (good bs h p same c (b .1) (v .sound), w .good);
         deep = w .deep;
         counted = w .counted ∙ rw (same-ifs c k);
-        accessed = omega (arith, w .accessed, one-access c k);
+        accessed = omega (arith, w .accessed, reads-after c k, writes-after c k);
       }
 
   on-fork : (n close at : ℕ) (k : Counts) (c : Condition) (first second rest : Arm) (end : ℕ) (k₁ : Counts)
       → (v : ForkAt bs h n close at k c first second rest end k₁)
       → Says (n + 1) 12 (at + 4) (step.oneIf k) first (v .else) (v .k₂) → Says (n + 1) 13 (v .else) (v .k₂) second (v .next) (v .k₃)
       → Says n close (v .next) (v .k₃) rest end k₁ → Says n close at k (fork at c k first second rest) end k₁
-  unfolding text textBytes depth ifs accesses
+  unfolding text textBytes depth ifs reads writes
   on-fork n close at k c first second rest end k₁ v go₁ go₂ go₃ d s =
       let sh = v .shallow in
       let w₁ = go₁ (omega arith) (v .stands-first) in

@@ -64,19 +64,37 @@ ifs none = 0
 ifs (simple c rest) = ifs rest
 ifs (branch c first second rest) = 1 + ifs first + ifs second + ifs rest
 
--- reads and writes are the accesses
-abbrev pub access : Simple → ℕ
-access (Simple.Set d c) = 0
-access (Simple.Convert op d s) = 0
-access (Simple.Compute op d s t) = 0
-access (Simple.Read d array i) = 1
-access (Simple.Write array i s) = 1
+-- a read counts one
+abbrev pub oneRead : Simple → ℕ
+oneRead (Simple.Set d c) = 0
+oneRead (Simple.Convert op d s) = 0
+oneRead (Simple.Compute op d s t) = 0
+oneRead (Simple.Read d array i) = 1
+oneRead (Simple.Write array i s) = 0
 
--- how many accesses there are
-unfoldable pub accesses : Text → ℕ
-accesses none = 0
-accesses (simple c rest) = access c + accesses rest
-accesses (branch c first second rest) = accesses first + accesses second + accesses rest
+-- a write counts one
+abbrev pub oneWrite : Simple → ℕ
+oneWrite (Simple.Set d c) = 0
+oneWrite (Simple.Convert op d s) = 0
+oneWrite (Simple.Compute op d s t) = 0
+oneWrite (Simple.Read d array i) = 0
+oneWrite (Simple.Write array i s) = 1
+
+-- how many reads there are
+unfoldable pub reads : Text → ℕ
+reads none = 0
+reads (simple c rest) = oneRead c + reads rest
+reads (branch c first second rest) = reads first + reads second + reads rest
+
+-- how many writes there are
+unfoldable pub writes : Text → ℕ
+writes none = 0
+writes (simple c rest) = oneWrite c + writes rest
+writes (branch c first second rest) = writes first + writes second + writes rest
+
+-- reads and writes are the accesses
+abbrev pub accesses : Text → ℕ
+accesses t = reads t + writes t
 
 -- a well-formed routine
 pub record WellFormed (p : Syntax) : Type 0 where
