@@ -11,13 +11,13 @@ use Rattle.clauses.specs.Clause.{Clause}
 use Rattle.propagation.specs.Hint.{hintOf}
 use Rattle.propagation.specs.declared.Hint.{Hint}
 use Rattle.propagation.proofs.Cases.{both}
-use Rattle.step.specs.Command.{commandAt}
+use Rattle.reader.specs.Command.{commandAt}
 use Rattle.step.specs.Phase.{going, conflicted, phaseAfter}
 use Rattle.proof.specs.State.{State, Limits, Next, more, stop, begin}
 use Rattle.proof.specs.Check.{onLiteral, afterHint, onHint, onClose, onEnd, obey, step, Outcome, follow, run, checkProof}
 use Rattle.clauses.specs.Meaning.{Assign, satClause, sat}
 use Rattle.proof.specs.Sound.{Refutes}
-use Rattle.step.specs.declared.Command.{Command}
+use Rattle.reader.specs.declared.Command.{Command}
 use Rattle.step.specs.declared.Refusal.{Refusal}
 use Rattle.step.specs.declared.Verdict.{Verdict}
 use Rattle.proof.proofs.Unless.{unless-in}

@@ -7,14 +7,14 @@ use lib.ListN.{length, getD}
 use Rattle.clauses.specs.Clause.{Clause}
 use Rattle.propagation.specs.Hint.{hintOf}
 use Rattle.propagation.specs.declared.Hint.{Hint}
-use Rattle.step.specs.Command.{commandAt}
+use Rattle.reader.specs.Command.{commandAt}
 use Rattle.proof.specs.State.{State, Limits, Next, more, stop, begin}
 use Rattle.proof.specs.Check.{onLiteral, afterHint, onHint, onClose, onEnd, obey, step, Outcome, follow, run, checkProof}
-use Rattle.step.specs.declared.Command.{Command}
+use Rattle.reader.specs.declared.Command.{Command}
 use Rattle.step.specs.declared.Refusal.{Refusal}
 use Rattle.step.specs.declared.Verdict.{Verdict}
 use Rattle.proof.proofs.Unless.{unless-in}
-use Rattle.step.proofs.Reading.{Reads, reads}
+use Rattle.reader.proofs.Reading.{Reads, reads}
 
 -- a command that is gone on from lies in the report, and the next is further on
 Moves : ℕ → ℕ → Next → Type 0

@@ -4,18 +4,18 @@ use mathlib.Core.Path.{_≡_, refl, sym, ap, subst, _∙_}
 use mathlib.Core.List.{List}
 use native.Mathlib.Omega.{arith}
 use lib.ListN.{length}
-use Rattle.step.specs.Command.{commandAt}
+use Rattle.reader.specs.Command.{commandAt}
 use Rattle.step.specs.Refusal.{refusedBy}
 use Rattle.proof.specs.State.{Next, more, stop}
 use Rattle.proof.specs.Check.{onLiteral, onHint, onClose, onEnd, obey, step}
 use Rattle.proof.specs.Answer.{limitsOf}
 use Rattle.proof.specs.Held.{stateOf, nextIs, Did, TrailedAfter, Ready, ReadyAfter, Done}
-use Rattle.step.specs.declared.Command.{Command}
+use Rattle.reader.specs.declared.Command.{Command}
 use Rattle.step.specs.declared.Progress.{Progress}
 use Rattle.step.specs.declared.Refusal.{Refusal}
 use Rattle.step.specs.declared.Turn.{Turn}
 use Rattle.step.specs.declared.Verdict.{Verdict}
-use Rattle.step.proofs.Reading.{Reads, reads}
+use Rattle.reader.proofs.Reading.{Reads, reads}
 use Rattle.proof.proofs.Going.{Goes, literal-goes, hint-goes, close-goes}
 
 done-by : (w s m : List ℕ) (p : Progress) (w′ s′ m′ t′ r : List ℕ) (k to : ℕ) (x : Turn) (n : Next) → Did w s m p w′ s′ m′ k x n → TrailedAfter w′ m′ t′ x → Goes r k to n → p .at < to → to ≤ length r → length r ≤ 16777216

@@ -8,10 +8,10 @@ use Rattle.clauses.specs.Clause.{Clause}
 use Rattle.propagation.specs.Marks.{variableOf, trueMark}
 use Rattle.propagation.specs.Hint.{hintOf}
 use Rattle.propagation.specs.declared.Hint.{Hint}
-use Rattle.step.specs.Command.{commandAt}
+use Rattle.reader.specs.Command.{commandAt}
 use Rattle.step.specs.Phase.{going, inLiterals, conflicted}
 use Rattle.proof.specs.State.{State, Limits, Next, more, stop, unless, size, afterLiteral, hinted, afterClose, begin}
-use Rattle.step.specs.declared.Command.{Command}
+use Rattle.reader.specs.declared.Command.{Command}
 use Rattle.step.specs.declared.Phase.{Phase}
 use Rattle.step.specs.declared.Refusal.{Refusal}
 use Rattle.step.specs.declared.Verdict.{Verdict}

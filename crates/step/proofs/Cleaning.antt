@@ -10,9 +10,9 @@ use Rattle.propagation.specs.Stored.{clauseAt, clausesOf}
 use Rattle.propagation.specs.Clear.{clear}
 use Rattle.propagation.proofs.Standing.{clauses-at, clauses-length}
 use Rattle.propagation.proofs.Clearing.{clear-append, clear-swap, clear-zeros}
-use Rattle.step.specs.Command.{commandAt}
+use Rattle.reader.specs.Command.{commandAt}
 use Rattle.step.specs.Undo.{touches, touched, Clean}
-use Rattle.step.specs.declared.Command.{Command}
+use Rattle.reader.specs.declared.Command.{Command}
 
 -- one command more, the last first
 pub touched-more : (cs : List Clause) (r : List ℕ) (k at : ℕ) (m m′ : List ℕ) → 0 < k → m′ ≡ clear m (touches cs (commandAt r (at - 5)))

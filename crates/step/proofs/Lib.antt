@@ -1,3 +1,2 @@
 -- What the proofs of several functions use, and the laws for the layers above.
-pub mod Reading
 pub mod Cleaning

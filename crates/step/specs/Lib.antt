@@ -1,4 +1,3 @@
 pub mod Refusal
-pub mod Command
 pub mod Phase
 pub mod Undo

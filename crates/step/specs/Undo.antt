@@ -6,8 +6,8 @@ use mathlib.Core.List.{List, [], _∷_, _++_}
 use lib.ListN.{length, getD, replicate}
 use Rattle.clauses.specs.Clause.{Clause}
 use Rattle.propagation.specs.Clear.{clear}
-use Rattle.step.specs.Command.{commandAt}
-use Rattle.step.specs.declared.Command.{Command}
+use Rattle.reader.specs.Command.{commandAt}
+use Rattle.reader.specs.declared.Command.{Command}
 
 -- the literals whose variables a command may have marked
 unfoldable pub touches : List Clause → Command → List ℕ

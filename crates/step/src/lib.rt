@@ -1,20 +1,7 @@
-// A step of a proof: the commands that it is made of, its phases, what is turned down, and the undoing of its marks.
-pub mod commands;
+// A step of a proof: its phases, what is turned down, and the undoing of its marks.
 pub mod phases;
 pub mod refusals;
 pub mod undoing;
-
-// A command of a proof.
-pub enum Command {
-    // of the step's clause
-    Literal(u32),
-    // the number of a clause
-    Hint(u32),
-    Close,
-    End,
-    // unknown, cut short, or missing
-    Unreadable,
-}
 
 // Where a step stands.
 pub enum Phase {

@@ -1,14 +1,14 @@
 // The undoing of a step's marks, in time by what the step named.
-use crate::Command;
-use crate::commands::read_command;
 use propagation::clears::clear_literal;
 use propagation::clears::clear_stored;
+use reader::Command;
+use reader::read_command;
 ghost use mathlib.Core.Path.{_≡_};
 ghost use Prim.Native.Nat.{_*_, _≤_};
 ghost use lib.ListN.{length};
 ghost use Rattle.propagation.specs.Stored.{clausesOf, AllStand};
 ghost use Rattle.propagation.specs.Clear.{clear};
-ghost use Rattle.step.specs.Command.{commandAt};
+ghost use Rattle.reader.specs.Command.{commandAt};
 ghost use Rattle.step.specs.Undo.{touches, touched};
 
 // Clears what the command at an offset may have marked.

@@ -1,5 +1,5 @@
 use mathlib.Core.Path.{sym, _∙_}
-use Rattle.step.specs.Command.{commandAt}
+use Rattle.reader.specs.Command.{commandAt}
 use Rattle.step.proofs.Cleaning.{undo-literal, undo-hint, undo-far, undo-close, undo-end, undo-unreadable}
 use borrow.Author.Needs.{needs}
 use Rattle.step.proofs.undoing.clear_command.Statement.{statement}

@@ -8,8 +8,8 @@ use lib.ListN.{length}
 use lib.Dec.{ltb, leb, eqb}
 use borrow.Author.Tests.{ltb-true, leb-true, lt-ltb, le-ltb, le-leb, lt-leb, eq-eqb, ne-eqb}
 use Rattle.slices.specs.Bytes.{entry, word}
-use Rattle.step.specs.Command.{commandAt}
-use Rattle.step.specs.declared.Command.{Command}
+use Rattle.reader.specs.Command.{commandAt}
+use Rattle.reader.specs.declared.Command.{Command}
 
 module _ (r : List ℕ) (at : ℕ) where
   pub read-missing : length r ≤ at → Command.Unreadable ≡ commandAt r at

@@ -1,0 +1,2 @@
+-- What the layers above know of a command that was read.
+pub mod Reading
