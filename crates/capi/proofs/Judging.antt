@@ -7,15 +7,15 @@ use native.Mathlib.Omega.{arith}
 use lib.ListN.{length}
 use lib.Dec.{ltb}
 use Rattle.command.specs.declared.Fault.{Fault}
-use Rattle.routine.specs.Refusal as routine
+use Rattle.refusals.specs.Routine as routine
 use Rattle.routine.specs.declared.Refusal as unread
-use Rattle.lead.specs.Refusal as lead
+use Rattle.refusals.specs.Lead as lead
 use Rattle.lead.specs.declared.Refusal as misled
-use Rattle.witness.specs.Refusal as witness
+use Rattle.refusals.specs.Witness as witness
 use Rattle.witness.specs.declared.Refusal as unwitnessed
-use Rattle.step.specs.Refusal as step
+use Rattle.refusals.specs.Proof as step
 use Rattle.step.specs.declared.Refusal as unproved
-use Rattle.proving.specs.Refusal.{numberOf}
+use Rattle.refusals.specs.Report.{numberOf}
 use Rattle.report.specs.Zeroed.{Judges}
 use Rattle.report.specs.Demand.{Demand3}
 use Rattle.report.specs.declared.Judged.{Judged}

@@ -1,5 +1,4 @@
 // The lead of a claim: an access, a side and a decision for each if. Whether a routine has such a claim: 1 to 8, then 11 and 12.
-pub mod refusals;
 
 use command::Counts;
 use command::steps::accesses_of;

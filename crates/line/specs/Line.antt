@@ -3,7 +3,7 @@ use Prim.Native.Nat.{ℕ, zero, suc}
 use Prim.Native.String.{String}
 use mathlib.Core.List.{List, _++_}
 use Rattle.bitvec.specs.declared.Whole.{Whole}
-use Rattle.proving.specs.Refusal.{numberOf, placeOf}
+use Rattle.refusals.specs.Report.{numberOf, placeOf}
 use Rattle.proving.specs.declared.Refusal.{Refusal}
 use Rattle.report.specs.declared.Judged.{Judged}
 use Rattle.line.specs.Text.{bytes, decimal}

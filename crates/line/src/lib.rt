@@ -5,8 +5,8 @@ mod texts;
 
 use numbers::put_named;
 use proving::Refusal;
-use proving::refusals::number_of;
-use proving::refusals::place_of;
+use refusals::of_report::number_of;
+use refusals::of_report::place_of;
 use report::Judged;
 pub use texts::put_text;
 ghost use mathlib.Core.Path.{_≡_};

@@ -16,7 +16,7 @@ use Rattle.propagation.specs.Stored.{startOf, clauseAt, clausesOf, Stands}
 use Rattle.propagation.proofs.Cases.{below-or}
 use Rattle.propagation.proofs.Standing.{clauses-length, clauses-same}
 use Rattle.step.specs.Phase.{going, conflicted, phaseAfter}
-use Rattle.step.specs.Refusal.{refusedBy}
+use Rattle.step.specs.Stop.{refusedBy}
 use Rattle.proof.specs.State.{State, Limits, more, unless, size, afterClose}
 use Rattle.proof.specs.Check.{onClose}
 use Rattle.proof.specs.Answer.{limitsOf, Store}

@@ -13,7 +13,7 @@ use Rattle.propagation.specs.Stored.{clauseAt}
 use Rattle.propagation.specs.declared.Hint.{Hint}
 use Rattle.propagation.proofs.Standing.{clauses-length, clauses-at}
 use Rattle.step.specs.Phase.{going, inLiterals, conflicted}
-use Rattle.step.specs.Refusal.{refusedBy}
+use Rattle.step.specs.Stop.{refusedBy}
 use Rattle.proof.specs.State.{State, unless}
 use Rattle.proof.specs.Check.{afterHint, onHint}
 use Rattle.proof.specs.Held.{stateOf, Held, Written, Did, withHint}

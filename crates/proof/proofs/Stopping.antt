@@ -4,7 +4,7 @@ use mathlib.Core.Path.{_≡_, refl, sym, ap, subst, _∙_}
 use mathlib.Core.List.{List}
 use mathlib.Core.Bool.{true}
 use Rattle.step.specs.Phase.{going, inLiterals, conflicted}
-use Rattle.step.specs.Refusal.{refusedBy}
+use Rattle.step.specs.Stop.{refusedBy}
 use Rattle.proof.specs.State.{Next, stop}
 use Rattle.proof.specs.Held.{nextIs, Kept, Did}
 use Rattle.step.specs.declared.Phase.{Phase}

@@ -14,7 +14,7 @@ use Rattle.propagation.specs.Marks.{falseMark, undecided}
 use Rattle.propagation.specs.Stored.{LiteralsIn, clausesOf}
 use Rattle.propagation.proofs.Cases.{both}
 use Rattle.step.specs.Phase.{going, inLiterals}
-use Rattle.step.specs.Refusal.{refusedBy}
+use Rattle.step.specs.Stop.{refusedBy}
 use Rattle.proof.specs.State.{State, Limits, more, unless, size, afterLiteral}
 use Rattle.proof.specs.Check.{ofVariable, fresh, onLiteral}
 use Rattle.proof.specs.Answer.{limitsOf}

@@ -8,7 +8,7 @@ use lib.Seq.{slice}
 use Rattle.propagation.specs.Marks.{trueMark, falseMark}
 use Rattle.propagation.specs.Clear.{clear}
 use Rattle.propagation.proofs.Clearing.{mark-undone-first, mark-undone-second}
-use Rattle.step.specs.Refusal.{refusedBy}
+use Rattle.step.specs.Stop.{refusedBy}
 use Rattle.proof.specs.Held.{literalsOf, Trailed, TrailedAfter, withLiteral, withHint, withClose}
 use Rattle.step.specs.declared.Phase.{Phase}
 use Rattle.step.specs.declared.Progress.{Progress}

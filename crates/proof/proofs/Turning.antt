@@ -5,7 +5,7 @@ use mathlib.Core.List.{List}
 use native.Mathlib.Omega.{arith}
 use lib.ListN.{length}
 use Rattle.reader.specs.Command.{commandAt}
-use Rattle.step.specs.Refusal.{refusedBy}
+use Rattle.step.specs.Stop.{refusedBy}
 use Rattle.proof.specs.State.{Next, more, stop}
 use Rattle.proof.specs.Check.{onLiteral, onHint, onClose, onEnd, obey, step}
 use Rattle.proof.specs.Answer.{limitsOf}

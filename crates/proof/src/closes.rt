@@ -7,7 +7,7 @@ use step::Turn;
 use step::phases::is_conflicted;
 use step::phases::is_going;
 use step::phases::phase_after;
-use step::refusals::refused;
+use step::stops::refused;
 use step::undoing::clear_step;
 ghost use mathlib.Core.Path.{_≡_};
 ghost use Prim.Native.Nat.{_+_, _^_, _≤_, _<_};

@@ -8,7 +8,7 @@ use step::Refusal;
 use step::Turn;
 use step::phases::is_conflicted;
 use step::phases::is_going;
-use step::refusals::refused;
+use step::stops::refused;
 ghost use mathlib.Core.Path.{_≡_};
 ghost use Prim.Native.Nat.{_+_, _/_, _^_, _≤_, _<_};
 ghost use lib.ListN.{length, set};

@@ -6,7 +6,7 @@ use step::Refusal;
 use step::Turn;
 use step::phases::is_going;
 use step::phases::is_in_literals;
-use step::refusals::refused;
+use step::stops::refused;
 ghost use mathlib.Core.Path.{_≡_};
 ghost use mathlib.Core.List.{List};
 ghost use Prim.Native.Nat.{ℕ, _+_, _^_, _≤_, _<_};

@@ -8,7 +8,7 @@ use reader::read_command;
 use step::Progress;
 use step::Refusal;
 use step::Turn;
-use step::refusals::refused;
+use step::stops::refused;
 ghost use Rattle.proof.specs.Answer.{limitsOf};
 ghost use Rattle.proof.specs.Check.{step};
 ghost use Rattle.proof.specs.Held.{stateOf, Ready, Done};

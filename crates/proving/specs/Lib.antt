@@ -1,3 +1,2 @@
-pub mod Refusal
 pub mod Proving
 pub mod Parts

@@ -1,5 +1,4 @@
 // The claim of a report, proved: 16, then the proof.
-pub mod refusals;
 
 use command::Counts;
 use header::Header;

@@ -5,17 +5,17 @@ use mathlib.Core.List.{List, [], _∷_}
 use lib.ListN.{set}
 use lib.Seq.{sets}
 use Rattle.entries.specs.Entry.{countsOf, stoppedOf, sizesOf, judgedOf, answerNumber}
-use Rattle.routine.specs.Refusal as routine
+use Rattle.refusals.specs.Routine as routine
 use Rattle.routine.specs.declared.Checked.{Checked}
-use Rattle.run.specs.Refusal as run
+use Rattle.refusals.specs.Run as run
 use Rattle.run.specs.declared.Ran.{Ran}
-use Rattle.translation.specs.Refusal as translation
+use Rattle.refusals.specs.Translation as translation
 use Rattle.translation.specs.declared.Translated.{Translated}
-use Rattle.step.specs.Refusal as proof
+use Rattle.refusals.specs.Proof as proof
 use Rattle.checker.specs.declared.Checked as proved
 use Rattle.checker.specs.declared.Checked.the-variants.{Accepted, Refused, Unfit}
-use Rattle.witness.specs.Refusal as witness
-use Rattle.proving.specs.Refusal as proving
+use Rattle.refusals.specs.Witness as witness
+use Rattle.refusals.specs.Report as proving
 use Rattle.report.specs.declared.Judged.{Judged}
 use Rattle.comparing.specs.declared.Compared.{Compared}
 

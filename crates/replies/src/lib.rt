@@ -26,8 +26,8 @@ pub fn fill_check(checked: Checked, answer: &mut [u64]) -> u8
             0
         }
         Checked::Refused(refusal) => {
-            fill_place(routine::refusals::place_of(refusal), answer);
-            routine::refusals::number_of(refusal)
+            fill_place(refusals::of_routine::place_of(refusal), answer);
+            refusals::of_routine::number_of(refusal)
         }
     }
 }
@@ -51,8 +51,8 @@ pub fn fill_run(ran: Ran, answer: &mut [u64]) -> u8
             0
         }
         Ran::Refused(refusal) => {
-            fill_place(run::refusals::place_of(refusal), answer);
-            run::refusals::number_of(refusal)
+            fill_place(refusals::of_run::place_of(refusal), answer);
+            refusals::of_run::number_of(refusal)
         }
     }
 }
@@ -68,8 +68,8 @@ pub fn fill_translate(translated: Translated, answer: &mut [u64]) -> u8
             0
         }
         Translated::Refused(refusal) => {
-            fill_place(translation::refusals::place_of(refusal), answer);
-            translation::refusals::number_of(refusal)
+            fill_place(refusals::of_translation::place_of(refusal), answer);
+            refusals::of_translation::number_of(refusal)
         }
     }
 }
@@ -85,8 +85,8 @@ pub fn fill_prove(checked: checker::Checked, answer: &mut [u64]) -> u8
             0
         }
         checker::Checked::Refused(refusal) => {
-            fill_place(step::refusals::place_of(refusal), answer);
-            step::refusals::number_of(refusal)
+            fill_place(refusals::of_proof::place_of(refusal), answer);
+            refusals::of_proof::number_of(refusal)
         }
         checker::Checked::Unfit => 254,
     }
@@ -111,8 +111,8 @@ pub fn fill_judge(judged: Judged, answer: &mut [u64]) -> u8
             0
         }
         Judged::Refused(refusal) => {
-            fill_place(proving::refusals::place_of(refusal), answer);
-            proving::refusals::number_of(refusal)
+            fill_place(refusals::of_report::place_of(refusal), answer);
+            refusals::of_report::number_of(refusal)
         }
     }
 }
@@ -128,8 +128,8 @@ pub fn fill_alike(compared: Compared, answer: &mut [u64]) -> u8
             0
         }
         Compared::Refused(refusal) => {
-            fill_place(witness::refusals::place_of(refusal), answer);
-            witness::refusals::number_of(refusal)
+            fill_place(refusals::of_witness::place_of(refusal), answer);
+            refusals::of_witness::number_of(refusal)
         }
     }
 }

@@ -1,4 +1,3 @@
-pub mod Refusal
 pub mod Routine
 pub mod Decode
 pub mod Stands

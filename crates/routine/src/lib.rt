@@ -1,5 +1,4 @@
 // The routine: its header and commands, read from bytes, and the check that refuses what is no routine.
-pub mod refusals;
 pub mod walks;
 
 use command::Counts;

@@ -1,4 +1,3 @@
-pub mod Refusal
 pub mod Inputs
 pub mod Run
 pub mod Walker

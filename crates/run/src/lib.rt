@@ -1,7 +1,6 @@
 // The run of a routine on an input list.
 mod buffers;
 pub mod inputs;
-pub mod refusals;
 mod runs;
 
 use bitvec::Whole;

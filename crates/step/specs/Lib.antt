@@ -1,3 +1,3 @@
-pub mod Refusal
+pub mod Stop
 pub mod Phase
 pub mod Undo

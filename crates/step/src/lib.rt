@@ -1,6 +1,6 @@
 // A step of a proof: its phases, what is turned down, and the undoing of its marks.
 pub mod phases;
-pub mod refusals;
+pub mod stops;
 pub mod undoing;
 
 // Where a step stands.

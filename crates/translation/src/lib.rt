@@ -1,6 +1,5 @@
 // The translation of a claim into clauses.
 mod parameters;
-pub mod refusals;
 mod steps;
 mod walks;
 pub mod wholes;

@@ -1,7 +1,6 @@
 // A report as far as its proof: the lead, the witness's inputs in it, and the witness's run.
 mod inputs;
 pub mod leads;
-pub mod refusals;
 mod settling;
 
 use bitvec::Whole;
