@@ -3,7 +3,6 @@ use clauses::counts;
 use clauses::fits;
 use netlist::Net;
 use netlist::counted;
-use netlist::roomy;
 ghost use mathlib.Core.Path.{_≡_};
 ghost use Prim.Native.Nat.{_*_, _+_, _^_, _≤_};
 ghost use lib.ListN.{length};
@@ -29,9 +28,9 @@ fn write_place(
     requires { ⌜ g + 3 ≤ 2 ^ 26 ⌝ }
     ensures { λ _. ⌜ Written (now (words .entry)) (now (starts .entry)) i k (clausesOf g (fullAdder g a b c)) (now (words .exit)) (now (starts .exit)) ⌝ }
 {
-    roomy::xor_gate(words, starts, i, k, g, a, b);
-    roomy::xor_gate(words, starts, i + 16, k + 4, g + 1, 2 * g, c);
-    roomy::maj_gate(words, starts, i + 32, k + 8, g + 2, a, b, c);
+    writing::xor_gate(words, starts, i, k, g, a, b);
+    writing::xor_gate(words, starts, i + 16, k + 4, g + 1, 2 * g, c);
+    writing::maj_gate(words, starts, i + 32, k + 8, g + 2, a, b, c);
 }
 
 // Writes a sum for which there is room.
@@ -71,9 +70,9 @@ fn full_adder(words: &mut [u32], starts: &mut [u32], n: Net, a: u32, b: u32, c: 
     ensures { λ r. ⌜ Emitted (now (words .entry)) (now (starts .entry)) n (fullAdder (n .next) a b c) (now (words .exit)) (now (starts .exit)) r ⌝ }
 {
     let h = 2 * n.next;
-    let n1 = netlist::xor_gate(words, starts, n, a, b);
-    let n2 = netlist::xor_gate(words, starts, n1, h, c);
-    netlist::maj_gate(words, starts, n2, a, b, c)
+    let n1 = gates::xor_gate(words, starts, n, a, b);
+    let n2 = gates::xor_gate(words, starts, n1, h, c);
+    gates::maj_gate(words, starts, n2, a, b, c)
 }
 
 // The state after a sum of w places that is only counted.

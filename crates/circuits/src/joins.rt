@@ -23,7 +23,7 @@ fn join_place(words: &mut [u32], starts: &mut [u32], n: Net, c: u32, a: u32, b: 
         return Test { net: n, lit: a };
     }
     let lit = 2 * n.next;
-    let net = netlist::mux_gate(words, starts, n, c, a, b);
+    let net = gates::mux_gate(words, starts, n, c, a, b);
     Test { net, lit }
 }
 

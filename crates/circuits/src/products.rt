@@ -6,7 +6,6 @@ use clauses::counts;
 use clauses::fits;
 use netlist::Net;
 use netlist::counted;
-use netlist::roomy;
 ghost use mathlib.Core.Path.{_≡_};
 ghost use Prim.Native.Nat.{_*_, _+_, _/_, _^_, _≤_};
 ghost use lib.ListN.{length};
@@ -36,7 +35,7 @@ fn write_row(
     let mut g = first;
     let mut j = 0;
     while j < m {
-        roomy::and_gate(words, starts, i, k, g, s[j], t);
+        writing::and_gate(words, starts, i, k, g, s[j], t);
         i += 10;
         k += 3;
         g += 1;
@@ -59,7 +58,7 @@ fn and_row(words: &mut [u32], starts: &mut [u32], n: Net, s: &[u32], t: u32, m: 
     let mut net = n;
     let mut i = 0;
     while i < m {
-        net = netlist::and_gate(words, starts, net, s[i], t);
+        net = gates::and_gate(words, starts, net, s[i], t);
         i += 1;
     }
     net

@@ -6,8 +6,8 @@ ghost use mathlib.Core.Path.{_≡_};
 ghost use mathlib.Core.List.{[], _∷_};
 ghost use Prim.Native.Nat.{_*_, _+_};
 ghost use lib.Dec.{eqb, leb};
-ghost use lib.ListN.{length, set};
-ghost use Rattle.clauses.specs.Clause.{Appended, Lent, Room, Written};
+ghost use lib.ListN.{set};
+ghost use Rattle.clauses.specs.Clause.{Appended, Room};
 
 // How much of the two buffers is used: entries of words, entries of starts.
 pub struct Store {
@@ -88,31 +88,4 @@ pub fn counts(words: usize, starts: usize) -> bool
     ensures { λ r. ⌜ r ≡ (eqb words 0 && eqb starts 0) ⌝ }
 {
     words == 0 && starts == 0
-}
-
-// Writes a clause of two literals, for which there is room, from entry i of words and entry k of starts on.
-pub fn write2(words: &mut [u32], starts: &mut [u32], i: u32, k: u32, a: u32, b: u32)
-    requires { ⌜ Lent (length (now words)) (length (now starts)) i k 1 ⌝ }
-    ensures { λ _. ⌜ Written (now (words .entry)) (now (starts .entry)) i k ((a ∷ b ∷ []) ∷ []) (now (words .exit)) (now (starts .exit)) ⌝ }
-{
-    let at = i as usize;
-    let start = k as usize;
-    starts[start] = i;
-    words[at] = 2;
-    words[at + 1] = a;
-    words[at + 2] = b;
-}
-
-// Writes a clause of three literals, for which there is room, from entry i of words and entry k of starts on.
-pub fn write3(words: &mut [u32], starts: &mut [u32], i: u32, k: u32, a: u32, b: u32, c: u32)
-    requires { ⌜ Lent (length (now words)) (length (now starts)) i k 1 ⌝ }
-    ensures { λ _. ⌜ Written (now (words .entry)) (now (starts .entry)) i k ((a ∷ b ∷ c ∷ []) ∷ []) (now (words .exit)) (now (starts .exit)) ⌝ }
-{
-    let at = i as usize;
-    let start = k as usize;
-    starts[start] = i;
-    words[at] = 3;
-    words[at + 1] = a;
-    words[at + 2] = b;
-    words[at + 3] = c;
 }

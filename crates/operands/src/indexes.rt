@@ -1,6 +1,6 @@
 // An index against a size.
+use gates::and_gate;
 use netlist::Net;
-use netlist::and_gate;
 use netlist::opposite;
 use relations::Test;
 use relations::accesses::above;

@@ -81,8 +81,8 @@ fn same_place(words: &mut [u32], starts: &mut [u32], n: Net, a: u32, b: u32, e: 
     ensures { λ r. ⌜ Emitted (now (words .entry)) (now (starts .entry)) n (same (n .next) a b e) (now (words .exit)) (now (starts .exit)) r ⌝ }
 {
     let d = 2 * n.next + 1;
-    let n1 = netlist::xor_gate(words, starts, n, a, b);
-    netlist::and_gate(words, starts, n1, e, d)
+    let n1 = gates::xor_gate(words, starts, n, a, b);
+    gates::and_gate(words, starts, n1, e, d)
 }
 
 // Whether two numbers of w places are equal, where it is only counted.

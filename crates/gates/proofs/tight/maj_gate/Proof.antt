@@ -1,0 +1,101 @@
+use mathlib.Core.Path.{refl}
+use native.Mathlib.Omega.{arith}
+use borrow.Author.Needs.{needs}
+use Rattle.clauses.proofs.Appending.{appended-then, room-after, room-weaken}
+use Rattle.netlist.proofs.Emitting.{emitted-starts-length, emitted-words-length, ready-room}
+use Rattle.gates.proofs.tight.maj_gate.Statement.{statement}
+use Rattle.netlist.specs.Node.{clausesOf, nodeClauses}
+use Rattle.gates.proofs.tight.maj_gate.Tie as tie
+
+add-next : tie.Need-add-next
+add-next c = search needs
+
+mul-p : tie.Need-mul-p
+mul-p c = search needs
+
+add-m : tie.Need-add-m
+add-m c = search needs
+
+opposite-requires : tie.Need-opposite-requires
+opposite-requires c κs = search needs
+
+opposite-requires-2 : tie.Need-opposite-requires-2
+opposite-requires-2 c κs = search needs
+
+opposite-requires-3 : tie.Need-opposite-requires-3
+opposite-requires-3 c κs = search needs
+
+append3-requires : tie.Need-append3-requires
+append3-requires c κs = search needs
+
+append3-requires-2 : tie.Need-append3-requires-2
+append3-requires-2 c κs = search needs
+
+append3-requires-3 : tie.Need-append3-requires-3
+append3-requires-3 c κs = search needs
+
+append3-requires-4 : tie.Need-append3-requires-4
+append3-requires-4 c κs =
+    let c3 = c .before .before .before .before .before .before in
+    let c2 = c3 .before .before .before .before .before .before .before in
+    let c1 = c2 .before .before .before .before .before .before .before in
+    room-weaken (omega arith) (room-after 3 (c3 .append33 .ensures) (omega arith) (room-after 4 (c2 .append32 .ensures) (omega arith) (room-after 5 (c1 .append3 .ensures) (omega arith) (ready-room (c1 .before .before .before .before .before .before .before .before .before .before .before .pre)))))
+
+append3-requires-5 : tie.Need-append3-requires-5
+append3-requires-5 c κs =
+    let c4 = c .before .before .before .before .before .before in
+    let c3 = c4 .before .before .before .before .before .before .before in
+    let c2 = c3 .before .before .before .before .before .before .before in
+    let c1 = c2 .before .before .before .before .before .before .before in
+    room-weaken (omega arith) (room-after 2 (c4 .append34 .ensures) (omega arith) (room-after 3 (c3 .append33 .ensures) (omega arith) (room-after 4 (c2 .append32 .ensures) (omega arith) (room-after 5 (c1 .append3 .ensures) (omega arith) (ready-room (c1 .before .before .before .before .before .before .before .before .before .before .before .pre))))))
+
+append3-requires-6 : tie.Need-append3-requires-6
+append3-requires-6 c κs =
+    let c5 = c .before .before .before .before .before .before in
+    let c4 = c5 .before .before .before .before .before .before .before in
+    let c3 = c4 .before .before .before .before .before .before .before in
+    let c2 = c3 .before .before .before .before .before .before .before in
+    let c1 = c2 .before .before .before .before .before .before .before in
+    room-weaken (omega arith) (room-after 1 (c5 .append35 .ensures) (omega arith) (room-after 2 (c4 .append34 .ensures) (omega arith) (room-after 3 (c3 .append33 .ensures) (omega arith) (room-after 4 (c2 .append32 .ensures) (omega arith) (room-after 5 (c1 .append3 .ensures) (omega arith) (ready-room (c1 .before .before .before .before .before .before .before .before .before .before .before .pre)))))))
+
+returns : tie.Need-returns
+unfolding clausesOf nodeClauses
+returns c =
+    let c6 = c .before .before .before .before in
+    let c5 = c6 .before .before .before .before .before .before .before in
+    let c4 = c5 .before .before .before .before .before .before .before in
+    let c3 = c4 .before .before .before .before .before .before .before in
+    let c2 = c3 .before .before .before .before .before .before .before in
+    let c1 = c2 .before .before .before .before .before .before .before in
+    let o = c1 .before .before .before .before in
+    record {
+      store = rw (← o .before .before .opposite .ensures, ← o .before .opposite2 .ensures, ← o .opposite3 .ensures)
+          (appended-then (appended-then (appended-then (appended-then (appended-then (c1 .append3 .ensures) (c2 .append32 .ensures)) (c3 .append33 .ensures)) (c4 .append34 .ensures)) (c5 .append35 .ensures)) (c6 .append36 .ensures));
+      next = refl;
+    }
+
+same-length : tie.Need-same-length
+same-length c = emitted-words-length (returns c)
+
+same-length-2 : tie.Need-same-length-2
+same-length-2 c = emitted-starts-length (returns c)
+
+pub maj-gate-spec : {M : Type 1} → statement M
+maj-gate-spec =
+    tie.close
+    (tie.spec
+    add-next
+    mul-p
+    add-m
+    opposite-requires
+    opposite-requires-2
+    opposite-requires-3
+    append3-requires
+    append3-requires-2
+    append3-requires-3
+    append3-requires-4
+    append3-requires-5
+    append3-requires-6
+    same-length
+    same-length-2
+    returns)
