@@ -3,3 +3,4 @@ pub mod Values
 pub mod Laws
 pub mod Extend
 pub mod Input
+pub mod Parts

@@ -9,7 +9,7 @@ use lib.Seq.{length-take-le}
 use borrow.Author.Tests.{le-leb, lt-leb}
 use Rattle.clauses.specs.Clause.{Clause}
 use Rattle.propagation.specs.Stored.{clausesOf}
-use Rattle.proof.specs.Check.{checkProof}
+use Rattle.progress.specs.Check.{checkProof}
 use Rattle.proof.specs.Answer.{leaves, answer, Answers, Begins}
 use Rattle.proof.specs.Sound.{Refutes}
 use Rattle.checker.specs.Fit.{standing, stood}

@@ -14,7 +14,7 @@ use borrow.Author.Tests.{leb-true, ltb-true, eqb-true, lt-ltb, le-ltb, le-leb, l
 use Rattle.slices.specs.Bytes.{entry}
 use Rattle.propagation.specs.Stored.{LiteralsIn}
 use Rattle.propagation.proofs.Cases.{and-true-l, and-true-r, from-or}
-use Rattle.proof.specs.Check.{ofVariable}
+use Rattle.progress.specs.Check.{ofVariable}
 use Rattle.checker.specs.Fit.{literalsFit, endAt, clauseFits, standing}
 use Rattle.checker.specs.declared.Standing.{Standing}
 

@@ -6,7 +6,7 @@ use lib.ListN.{length}
 use lib.Seq.{slice}
 use lib.Dec.{ltb, leb, eqb}
 use Rattle.slices.specs.Bytes.{entry}
-use Rattle.proof.specs.Check.{ofVariable}
+use Rattle.progress.specs.Check.{ofVariable}
 use Rattle.checker.specs.declared.Standing.{Standing}
 
 -- each is a literal of one of n variables

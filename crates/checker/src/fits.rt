@@ -4,7 +4,7 @@ ghost use mathlib.Core.Path.{_≡_};
 ghost use Prim.Native.Nat.{_≤_};
 ghost use lib.ListN.{length};
 ghost use lib.Seq.{slice};
-ghost use Rattle.proof.specs.Check.{ofVariable};
+ghost use Rattle.progress.specs.Check.{ofVariable};
 ghost use Rattle.checker.specs.Fit.{literalsFit, clauseFits, standing};
 
 // A literal of one of so many variables.

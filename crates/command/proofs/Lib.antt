@@ -1,4 +1,2 @@
--- What the proofs of several functions use, and the laws for the layers above.
-pub mod Tests
+-- The laws for the layers above.
 pub mod Sizes
-pub mod Fine

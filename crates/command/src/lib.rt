@@ -1,13 +1,5 @@
-// The commands of a routine: the command at an offset, and what is refused of it where it stands.
+// The commands of a routine: the command at an offset.
 pub mod commands;
-pub mod steps;
-
-// How many ifs, reads and writes were met. Reads and writes are the accesses.
-pub struct Counts {
-    pub ifs: u8,
-    pub reads: u8,
-    pub writes: u8,
-}
 
 // The condition of an if.
 pub struct Condition {
@@ -35,26 +27,4 @@ pub enum Command {
     Close(u8),
     If(Condition),
     Simple(Simple),
-}
-
-// What is wrong with a command.
-pub enum Fault {
-    // unknown or cut short, or no command there
-    Unknown,
-    // an operand or the constant is out of range
-    Operand,
-    // the widths are not as the command asks
-    Widths,
-    // else, end of if or end out of place, or an if inside eight others
-    Misplaced,
-    // the 33rd if, the 65th access
-    TooMany,
-}
-
-// What a command is where it stands: refused, the end of its arm, or a command with the counts after it.
-pub enum Step {
-    Refused(Fault),
-    Closed,
-    Plain(Simple, Counts),
-    Fork(Condition, Counts),
 }

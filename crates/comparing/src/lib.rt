@@ -1,5 +1,5 @@
 // Whether two reports on one routine are alike.
-use command::Counts;
+use faults::Counts;
 use header::Header;
 use lead::Target;
 use routine::Checked;

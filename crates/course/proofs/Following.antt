@@ -8,14 +8,14 @@ use lib.ListN.{length}
 use Rattle.header.specs.Header.{width, firstCommand}
 use Rattle.header.specs.declared.Header.{Header}
 use Rattle.command.specs.Command.{sizeOfSimple, commandAt}
-use Rattle.command.specs.Step.{after, oneIf, accesses}
-use Rattle.command.specs.Sound.{Sound, Fine}
+use Rattle.faults.specs.Step.{after, oneIf, accesses}
+use Rattle.faults.specs.Sound.{Sound, Fine}
 use Rattle.command.specs.declared.Condition.{Condition}
-use Rattle.command.specs.declared.Counts.{Counts}
+use Rattle.faults.specs.declared.Counts.{Counts}
 use Rattle.command.specs.declared.Simple.{Simple}
 use Rattle.command.specs.declared.Command.{Command}
 use Rattle.command.proofs.Sizes.{simple-size}
-use Rattle.command.proofs.Fine.{fine, read-fine, write-fine}
+use Rattle.faults.proofs.Fine.{fine, read-fine, write-fine}
 use Rattle.routine.specs.Routine.{Arm}
 use Rattle.routine.specs.Decode.{noCounts, IsRoutine}
 use Rattle.routine.specs.Stands.{Stands, SomeArm, SomeIf}

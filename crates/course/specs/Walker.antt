@@ -5,13 +5,13 @@ use mathlib.Core.List.{List, _∷_, []}
 use mathlib.Core.Bool.{Bool, true, false, cond}
 use lib.Dec.{eqb}
 use Rattle.command.specs.Command.{sizeOfSimple}
-use Rattle.command.specs.Step.{oneIf, accesses, after}
+use Rattle.faults.specs.Step.{oneIf, accesses, after}
 use Rattle.routine.specs.Routine.{Arm}
 use Rattle.routine.specs.Decode.{routine, decode}
 use Rattle.routine.specs.Stands.{Stands}
 use Rattle.header.specs.declared.Header.{Header}
 use Rattle.command.specs.declared.Condition.{Condition}
-use Rattle.command.specs.declared.Counts.{Counts}
+use Rattle.faults.specs.declared.Counts.{Counts}
 use Rattle.command.specs.declared.Simple.{Simple}
 use Rattle.machine.specs.State.{take, holds, indexOf, carry}
 use Rattle.machine.specs.declared.State.{State}

@@ -2,7 +2,7 @@
 mod ways;
 
 use bitvec::Whole;
-use command::Counts;
+use faults::Counts;
 use header::Header;
 use header::first_command;
 use machine::State;

@@ -5,8 +5,8 @@ use mathlib.Core.Bool.{Bool, cond}
 use Rattle.bitvec.specs.declared.Whole.{Whole}
 use Rattle.header.specs.Header.{firstCommand}
 use Rattle.header.specs.declared.Header.{Header}
-use Rattle.command.specs.Step.{accesses}
-use Rattle.command.specs.declared.Counts.{Counts}
+use Rattle.faults.specs.Step.{accesses}
+use Rattle.faults.specs.declared.Counts.{Counts}
 use Rattle.machine.specs.Side.{sideNumber}
 use Rattle.machine.specs.declared.Side.{Side}
 use Rattle.meaning.specs.declared.Size.{Size}

@@ -1,7 +1,7 @@
 // What is written into the lent `answer`, which has at least 8 entries: numbers as its entries. Those that are not named are left alone.
 use bitvec::Whole;
-use command::Counts;
-use command::steps::accesses_of;
+use faults::Counts;
+use faults::steps::accesses_of;
 use header::Header;
 use header::first_command;
 use machine::Side;

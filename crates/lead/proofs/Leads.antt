@@ -10,9 +10,9 @@ use borrow.Author.Tests.{ltb-true, ltb-false, leb-true, eqb-true}
 use Rattle.slices.specs.Bytes.{entry}
 use Rattle.header.specs.Header.{firstBad}
 use Rattle.header.specs.declared.Header.{Header}
-use Rattle.command.specs.Step.{accesses}
-use Rattle.command.specs.declared.Counts.{Counts}
-use Rattle.command.proofs.Fine.{all-ok}
+use Rattle.faults.specs.Step.{accesses}
+use Rattle.faults.specs.declared.Counts.{Counts}
+use Rattle.faults.proofs.Fine.{all-ok}
 use Rattle.routine.specs.Routine.{Arm, done}
 use Rattle.routine.specs.Decode.{Decoded, rejected, routine, decode, checked, IsRoutine}
 use Rattle.routine.specs.declared.Checked.{Checked}

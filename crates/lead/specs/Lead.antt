@@ -7,8 +7,8 @@ use lib.Dec.{ltb, leb, eqb}
 use Rattle.slices.specs.Bytes.{entry}
 use Rattle.header.specs.Header.{firstBad}
 use Rattle.header.specs.declared.Header.{Header}
-use Rattle.command.specs.Step.{accesses}
-use Rattle.command.specs.declared.Counts.{Counts}
+use Rattle.faults.specs.Step.{accesses}
+use Rattle.faults.specs.declared.Counts.{Counts}
 use Rattle.routine.specs.Routine.{Arm, done}
 use Rattle.routine.specs.Decode.{Decoded, rejected, routine, decode}
 use Rattle.lead.specs.declared.Target.{Target}

@@ -1,7 +1,7 @@
 // The lead of a claim: an access, a side and a decision for each if. Whether a routine has such a claim: 1 to 8, then 11 and 12.
 
-use command::Counts;
-use command::steps::accesses_of;
+use faults::Counts;
+use faults::steps::accesses_of;
 use header::Header;
 use routine::Checked;
 use slices::wide;

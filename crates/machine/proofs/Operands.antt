@@ -4,11 +4,11 @@ use mathlib.Core.List.{List}
 use Prim.Native.Nat.{ℕ, _≤_, _<_}
 use native.Mathlib.Omega.{arith}
 use Rattle.header.specs.Header.{width}
-use Rattle.command.specs.Sound.{Sound, SoundIf, Fine}
+use Rattle.faults.specs.Sound.{Sound, SoundIf, Fine}
 use Rattle.header.specs.declared.Header.{Header}
 use Rattle.command.specs.declared.Condition.{Condition}
 use Rattle.command.specs.declared.Simple.{Simple}
-use Rattle.command.proofs.Fine.{set-fine, convert-fine, compute-fine, read-fine, write-fine, condition-fine}
+use Rattle.faults.proofs.Fine.{set-fine, convert-fine, compute-fine, read-fine, write-fine, condition-fine}
 
 module _ (bs : List ℕ) (h : Header) (f : Fine bs h) where
   variable-below : (v : ℕ) → v < h .variables → v < 32

@@ -10,10 +10,10 @@ use Rattle.bitvec.specs.Signed.{signed, signExtend}
 use Rattle.bitvec.specs.Relation.{relates}
 use Rattle.bitvec.specs.declared.Whole.{Whole}
 use Rattle.header.specs.Header.{width, arraySize}
-use Rattle.command.specs.Step.{accesses}
+use Rattle.faults.specs.Step.{accesses}
 use Rattle.header.specs.declared.Header.{Header}
 use Rattle.command.specs.declared.Condition.{Condition}
-use Rattle.command.specs.declared.Counts.{Counts}
+use Rattle.faults.specs.declared.Counts.{Counts}
 use Rattle.command.specs.declared.Simple.{Simple}
 use Rattle.machine.specs.declared.Side.{Side}
 use Rattle.machine.specs.declared.Side.the-variants.{Below, Above}

@@ -8,9 +8,9 @@ use bitvec::relation;
 use bitvec::signed;
 use bitvec::word;
 use command::Condition;
-use command::Counts;
 use command::Simple;
-use command::steps::accesses_of;
+use faults::Counts;
+use faults::steps::accesses_of;
 use header::Header;
 use header::size_of_array;
 use header::width_of;
@@ -18,7 +18,7 @@ use slices::entry_at;
 ghost use mathlib.Core.Path.{_≡_};
 ghost use Prim.Native.Nat.{_<_, _≤_};
 ghost use Rattle.header.specs.Header.{width};
-ghost use Rattle.command.specs.Sound.{Sound, SoundIf, Fine};
+ghost use Rattle.faults.specs.Sound.{Sound, SoundIf, Fine};
 ghost use Rattle.machine.specs.State.{start, value, put, take, stop, converted, computed, holds, indexOf, lies, accessed, carry};
 
 // The word a of w bits as one of v bits: cut, extended by zeros or by its sign, or copied.

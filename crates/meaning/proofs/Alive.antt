@@ -5,13 +5,13 @@ use mathlib.Core.Bool.{true, cond}
 use Prim.Native.Nat.{ℕ, _+_, _≤_}
 use lib.ListN.{length}
 use Rattle.slices.specs.Bytes.{entry}
-use Rattle.command.specs.Step.{accesses, after, oneIf}
+use Rattle.faults.specs.Step.{accesses, after, oneIf}
 use Rattle.command.specs.Command.{sizeOfSimple}
 use Rattle.routine.specs.Routine.{Arm}
 use Rattle.routine.specs.Stands.{Stands}
-use Rattle.command.specs.Sound.{Fine}
+use Rattle.faults.specs.Sound.{Fine}
 use Rattle.header.specs.declared.Header.{Header}
-use Rattle.command.specs.declared.Counts.{Counts}
+use Rattle.faults.specs.declared.Counts.{Counts}
 use Rattle.routine.proofs.Views.{induction}
 use Rattle.machine.specs.State.{take, holds, carry}
 use Rattle.run.specs.Run as run
@@ -22,10 +22,10 @@ use Rattle.clauses.specs.Meaning.{Assign}
 use Rattle.netlist.specs.Meaning.{Inputs}
 use Rattle.netlist.proofs.Truth.{Models, models-append}
 use Rattle.wiring.specs.Command.{Stretch, simple}
-use Rattle.wiring.specs.Wires.{Wires, isMade}
+use Rattle.wires.specs.Wires.{Wires, isMade}
 use Rattle.meaning.specs.Walk.{andThen, forked, armOf}
 use Rattle.meaning.specs.Faithful.{bitsOfList}
-use Rattle.wiring.specs.declared.Claim.{Claim}
+use Rattle.wires.specs.declared.Claim.{Claim}
 use Rattle.lead.specs.declared.Target.{Target}
 use Rattle.meaning.proofs.Claimed.{simple-claims, fork-claims, arm-claims}
 use Rattle.meaning.proofs.Dead.{Deadens, arm-dead}
@@ -33,7 +33,7 @@ use Rattle.meaning.proofs.Fitting.{Fit}
 use Rattle.meaning.proofs.Forks.{Runs, Arms, fork-alive}
 use Rattle.meaning.proofs.Numbers.{Elsewhere, accesses-grow, misses}
 use Rattle.meaning.proofs.Simples.{alive-through, simple-alive}
-use Rattle.command.proofs.Tests.{not-both}
+use Rattle.faults.proofs.Tests.{not-both}
 use Rattle.meaning.proofs.Stretches.{then-by, arm-length}
 use Rattle.meaning.proofs.Tally.{Tallies, tally-then}
 

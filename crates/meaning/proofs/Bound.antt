@@ -4,7 +4,7 @@ use Rattle.clauses.proofs.Appending.{flatten-append}
 use Rattle.netlist.specs.Node.{nodeClauses, clausesOf, Node}
 use Rattle.netlist.proofs.Nodes.{clausesOf-few, clausesOf-short}
 use Rattle.meaning.specs.Translation.{lastClauses, clausesOfAll, parameterNodes, start, whole}
-use Rattle.wiring.specs.declared.Claim.{Claim}
+use Rattle.wires.specs.declared.Claim.{Claim}
 use mathlib.Core.Path.{_≡_, ap, subst, _∙_}
 use mathlib.Core.List.{List, [], _++_}
 use mathlib.Core.Bool.{Bool, true, false}
@@ -18,14 +18,14 @@ use Rattle.header.specs.Header.{width, arraySize}
 use Rattle.routine.specs.Routine.{Arm, done, plain, fork}
 use Rattle.routine.specs.Decode.{routine, decode}
 use Rattle.routine.specs.Stands.{Stands}
-use Rattle.command.specs.Sound.{Sound, SoundIf, Fine}
+use Rattle.faults.specs.Sound.{Sound, SoundIf, Fine}
 use Rattle.header.specs.declared.Header.{Header}
 use Rattle.command.specs.declared.Condition.{Condition}
-use Rattle.command.specs.declared.Counts.{Counts}
+use Rattle.faults.specs.declared.Counts.{Counts}
 use Rattle.command.specs.declared.Simple.{Simple}
 use Rattle.routine.proofs.Views.{induction}
 use Rattle.routine.proofs.Accepted.{decoded}
-use Rattle.command.proofs.Fine.{fine, compute-fine, read-fine, write-fine, condition-fine}
+use Rattle.faults.proofs.Fine.{fine, compute-fine, read-fine, write-fine, condition-fine}
 use Rattle.routine.proofs.Counting.{few-ifs}
 use Rattle.netlist.specs.Literal.{opp}
 use Rattle.netlist.specs.Emit.{Ready}
@@ -40,11 +40,12 @@ use Rattle.bits.proofs.Input.{length-inputs}
 use Rattle.circuits.proofs.Join.{length-join}
 use Rattle.relations.proofs.Access.{above-short}
 use Rattle.relations.proofs.Relating.{relation-short}
-use Rattle.wiring.specs.Wires.{Wires, bitsIn, bitsOf, arriving}
+use Rattle.wires.specs.Wires.{Wires, bitsIn, bitsOf, arriving}
 use Rattle.wiring.specs.Command.{Stretch, still, access, readInto, simple}
-use Rattle.operands.specs.Operation.{computeNodes, accessNodes, accessArrival, claimNodes}
+use Rattle.operands.specs.Operation.{computeNodes}
+use Rattle.indexes.specs.Index.{accessNodes, accessArrival, claimNodes}
 use Rattle.meaning.specs.Walk.{andThen, forked, armOf}
-use Rattle.wiring.specs.Branch.{conditionNodes, conditionLit, armNodes, branchNodes, joinNodes, joined}
+use Rattle.branching.specs.Branch.{conditionNodes, conditionLit, armNodes, branchNodes, joinNodes, joined}
 use Rattle.lead.specs.declared.Target.{Target}
 use Rattle.meaning.proofs.Stretches.{by-cond, then-by, access-by, fork-by, frontOf, firstFrom, firstWires, firstOf, secondFrom, secondWires, secondOf, joinFrom, joinOf}
 use Rattle.meaning.proofs.Counted.{commandsIn, ifsIn, all-ifs, few-commands}

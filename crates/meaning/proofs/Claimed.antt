@@ -7,22 +7,22 @@ use native.Mathlib.Omega.{arith}
 use lib.ListN.{length}
 use borrow.Author.Tests.{eqb-true, eqb-false}
 use Rattle.slices.specs.Bytes.{entry}
-use Rattle.command.specs.Step.{accesses, after, oneIf}
+use Rattle.faults.specs.Step.{accesses, after, oneIf}
 use Rattle.routine.specs.Routine.{Arm, done, plain, fork}
 use Rattle.routine.specs.Stands.{Stands}
 use Rattle.header.specs.declared.Header.{Header}
 use Rattle.command.specs.declared.Condition.{Condition}
-use Rattle.command.specs.declared.Counts.{Counts}
+use Rattle.faults.specs.declared.Counts.{Counts}
 use Rattle.command.specs.declared.Simple.{Simple}
 use Rattle.routine.proofs.Views.{induction}
-use Rattle.wiring.specs.Wires.{Wires, claiming, isMade}
+use Rattle.wires.specs.Wires.{Wires, claiming, isMade}
 use Rattle.wiring.specs.Command.{Stretch, still, readInto, simple}
 use Rattle.meaning.specs.Walk.{andThen, forked, armOf}
-use Rattle.wiring.specs.Branch.{joined}
-use Rattle.wiring.specs.declared.Claim.{Claim}
+use Rattle.branching.specs.Branch.{joined}
+use Rattle.wires.specs.declared.Claim.{Claim}
 use Rattle.lead.specs.declared.Target.{Target}
 use Rattle.meaning.proofs.Numbers.{after-grows, accesses-grow}
-use Rattle.command.proofs.Tests.{not-both}
+use Rattle.faults.proofs.Tests.{not-both}
 use Rattle.meaning.proofs.Stretches.{then-by, access-by, fork-by, firstFrom, firstWires, firstOf, secondFrom, secondWires, secondOf}
 
 pub open-of : (c : Claim) → isMade c ≡ false → c ≡ Claim.Open

@@ -10,16 +10,16 @@ use Rattle.header.specs.Header.{width, arraySize}
 use Rattle.routine.specs.Routine.{Arm, done, plain, fork}
 use Rattle.header.specs.declared.Header.{Header}
 use Rattle.command.specs.declared.Condition.{Condition}
-use Rattle.command.specs.declared.Counts.{Counts}
+use Rattle.faults.specs.declared.Counts.{Counts}
 use Rattle.command.specs.declared.Simple.{Simple}
 use Rattle.clauses.specs.Meaning.{Assign, lit}
 use Rattle.netlist.specs.Meaning.{Inputs}
 use Rattle.netlist.proofs.Truth.{Models, models-append}
-use Rattle.wiring.specs.Wires.{Wires, bitsOf}
+use Rattle.wires.specs.Wires.{Wires, bitsOf}
 use Rattle.wiring.specs.Command.{Stretch, still, readInto, simple}
-use Rattle.operands.specs.Operation.{accessNodes, accessArrival}
+use Rattle.indexes.specs.Index.{accessNodes, accessArrival}
 use Rattle.meaning.specs.Walk.{forked, armOf}
-use Rattle.wiring.specs.Branch.{conditionNodes, conditionLit, branchNodes}
+use Rattle.branching.specs.Branch.{conditionNodes, conditionLit, branchNodes}
 use Rattle.lead.specs.declared.Target.{Target}
 use Rattle.meaning.proofs.Gates.{models-three, access-lit, first-lit, else-lit, joined-lit}
 use Rattle.meaning.proofs.Stretches.{then-by, access-by, fork-by, firstFrom, firstWires, firstOf, secondFrom, secondWires, secondOf, joinFrom, joinOf}

@@ -9,20 +9,20 @@ use lib.ListN.{length}
 use Rattle.slices.specs.Bytes.{entry}
 use Rattle.bitvec.specs.declared.Whole.{Whole}
 use Rattle.header.specs.Header.{arraySize, firstCommand}
-use Rattle.command.specs.Step.{accesses}
+use Rattle.faults.specs.Step.{accesses}
 use Rattle.routine.specs.Routine.{Arm}
 use Rattle.routine.specs.Decode.{routine, decode, noCounts}
 use Rattle.routine.specs.Stands.{Stands}
-use Rattle.command.specs.Sound.{Fine}
+use Rattle.faults.specs.Sound.{Fine}
 use Rattle.header.specs.declared.Header.{Header}
-use Rattle.command.specs.declared.Counts.{Counts}
+use Rattle.faults.specs.declared.Counts.{Counts}
 use Rattle.routine.proofs.Accepted.{decoded}
-use Rattle.command.proofs.Fine.{fine}
-use Rattle.run.specs.Inputs.{listed}
+use Rattle.faults.proofs.Fine.{fine}
+use Rattle.inputs.specs.Inputs.{listed}
 use Rattle.machine.specs.State as state
 use Rattle.machine.specs.State.{lies}
 use Rattle.run.specs.Run.{runOf}
-use Rattle.run.specs.declared.Listed.{Listed}
+use Rattle.inputs.specs.declared.Listed.{Listed}
 use Rattle.machine.specs.declared.Lies.{Lies}
 use Rattle.machine.specs.declared.State.{State}
 use Rattle.course.specs.declared.Course.{Course}
@@ -33,12 +33,12 @@ use Rattle.netlist.proofs.Literals.{lit-true}
 use Rattle.netlist.proofs.Model.{WellFormed, valueAt, eval, satisfied-iff, evaluated}
 use Rattle.netlist.proofs.Truth.{Models, models-iff, models-append}
 use Rattle.wiring.specs.Command.{Stretch}
-use Rattle.wiring.specs.Wires.{Wires, isMade}
+use Rattle.wires.specs.Wires.{Wires, isMade}
 use Rattle.meaning.specs.Walk.{armOf}
 use Rattle.meaning.specs.Translation.{parameterNodes, start, whole}
 use Rattle.machine.specs.Side.{sideOf}
 use Rattle.meaning.specs.Faithful.{bitsOfList, Solves, courseOf, Arrives, Faithful}
-use Rattle.wiring.specs.declared.Claim.{Claim}
+use Rattle.wires.specs.declared.Claim.{Claim}
 use Rattle.lead.specs.declared.Target.{Target}
 use Rattle.meaning.proofs.Alive.{arm-alive}
 use Rattle.meaning.proofs.Claimed.{MadeBy, made-by, arm-claims, arm-settled}
@@ -46,7 +46,7 @@ use Rattle.meaning.proofs.Fitting.{Fitting, fitting}
 use Rattle.meaning.proofs.Formed.{whole-formed}
 use Rattle.meaning.proofs.Numbers.{Elsewhere}
 use Rattle.meaning.proofs.Simples.{Alive}
-use Rattle.command.proofs.Tests.{not-both}
+use Rattle.faults.proofs.Tests.{not-both}
 use Rattle.meaning.proofs.Tally.{Tally, through, lost, missed, here}
 use Rattle.meaning.proofs.Worth.{parameters-worth}
 

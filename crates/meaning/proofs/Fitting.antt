@@ -11,17 +11,17 @@ use lib.Dec.{ltb, eqb}
 use borrow.Author.Tests.{ltb-true}
 use Rattle.slices.specs.Bytes.{entry}
 use Rattle.header.specs.Header.{width}
-use Rattle.command.specs.Step.{after}
+use Rattle.faults.specs.Step.{after}
 use Rattle.routine.specs.Routine.{Arm, done, plain, fork, textOf}
 use Rattle.routine.specs.Decode.{routine, decode, noCounts}
 use Rattle.routine.specs.Stands.{Stands}
 use Rattle.header.specs.declared.Header.{Header}
-use Rattle.command.specs.declared.Counts.{Counts}
+use Rattle.faults.specs.declared.Counts.{Counts}
 use Rattle.command.specs.declared.Simple.{Simple}
 use Rattle.routine.proofs.Accepted.{decoded}
 use Rattle.routine.proofs.Views.{induction}
-use Rattle.run.specs.Inputs.{variablesFrom, joined, readBySimple, readVariables, firstGreat, listed}
-use Rattle.run.specs.declared.Listed.{Listed}
+use Rattle.inputs.specs.Inputs.{variablesFrom, joined, readBySimple, readVariables, firstGreat, listed}
+use Rattle.inputs.specs.declared.Listed.{Listed}
 
 -- the words of a text's reads, and then those of another's
 reads-append : (xs ys : List Simple) → readVariables (xs ++ ys) ≡ readVariables xs ++ readVariables ys

@@ -11,10 +11,10 @@ use borrow.Author.Tests.{le-ltb}
 use Rattle.slices.specs.Bytes.{entry}
 use Rattle.bitvec.specs.Relation.{relates}
 use Rattle.header.specs.Header.{width}
-use Rattle.command.specs.Sound.{SoundIf, Fine}
+use Rattle.faults.specs.Sound.{SoundIf, Fine}
 use Rattle.header.specs.declared.Header.{Header}
 use Rattle.command.specs.declared.Condition.{Condition}
-use Rattle.command.proofs.Fine.{condition-fine}
+use Rattle.faults.proofs.Fine.{condition-fine}
 use Rattle.machine.specs.State.{take, holds}
 use Rattle.run.specs.Run as run
 use Rattle.run.specs.Run.{took}
@@ -26,18 +26,18 @@ use Rattle.netlist.specs.Meaning.{Inputs}
 use Rattle.netlist.proofs.Truth.{Models, models-append}
 use Rattle.bits.proofs.Values.{value}
 use Rattle.relations.proofs.Relating.{relation-value}
-use Rattle.wiring.specs.Wires.{Wires, bitsOf, arriving, isMade}
+use Rattle.wires.specs.Wires.{Wires, bitsOf, arriving, isMade}
 use Rattle.wiring.specs.Command.{Stretch}
-use Rattle.wiring.specs.Branch.{conditionNodes, conditionLit, branchNodes, firstLit, elseLit, joined}
+use Rattle.branching.specs.Branch.{conditionNodes, conditionLit, branchNodes, firstLit, elseLit, joined}
 use Rattle.meaning.specs.Walk.{forked}
 use Rattle.meaning.specs.Faithful.{bitsOfList}
-use Rattle.wiring.specs.declared.Claim.{Claim}
+use Rattle.wires.specs.declared.Claim.{Claim}
 use Rattle.lead.specs.declared.Target.{Target}
 use Rattle.meaning.proofs.Dead.{Deadens}
 use Rattle.meaning.proofs.Gates.{models-three, first-lit, else-lit, joined-lit, joined-gates}
 use Rattle.meaning.proofs.Numbers.{Elsewhere}
 use Rattle.meaning.proofs.Simples.{Alive}
-use Rattle.command.proofs.Tests.{not-both}
+use Rattle.faults.proofs.Tests.{not-both}
 use Rattle.meaning.proofs.Stretches.{by-cond, fork-by, afterCondition, firstFrom, firstWires, firstOf, secondFrom, secondWires, secondOf, joinFrom, joinOf}
 use Rattle.meaning.proofs.Tally.{Tally, through, lost, missed, here, Ended, Tallies, not-here, ended-elsewhere}
 use Rattle.meaning.proofs.Worth.{Worth, join-first, join-second}

@@ -11,13 +11,13 @@ use Rattle.slices.specs.Bytes.{entry}
 use Rattle.header.specs.Header.{width, arraySize}
 use Rattle.routine.specs.Routine.{Arm}
 use Rattle.routine.specs.Stands.{Stands}
-use Rattle.command.specs.Sound.{Sound, SoundIf, Fine}
+use Rattle.faults.specs.Sound.{Sound, SoundIf, Fine}
 use Rattle.header.specs.declared.Header.{Header}
 use Rattle.command.specs.declared.Condition.{Condition}
-use Rattle.command.specs.declared.Counts.{Counts}
+use Rattle.faults.specs.declared.Counts.{Counts}
 use Rattle.command.specs.declared.Simple.{Simple}
 use Rattle.routine.proofs.Views.{induction}
-use Rattle.command.proofs.Fine.{convert-fine, compute-fine, read-fine, write-fine, condition-fine}
+use Rattle.faults.proofs.Fine.{convert-fine, compute-fine, read-fine, write-fine, condition-fine}
 use Rattle.netlist.specs.Literal.{opp, pos}
 use Rattle.netlist.specs.Node.{Node, one, and}
 use Rattle.netlist.proofs.Model.{Before, WellFormed}
@@ -37,13 +37,14 @@ use Rattle.bits.proofs.Input.{length-inputs, inputs-formed, input-before}
 use Rattle.circuits.proofs.Join.{join-formed, join-before}
 use Rattle.relations.proofs.Access.{above-formed, above-before}
 use Rattle.relations.proofs.Relating.{relation-formed, relation-before}
-use Rattle.wiring.specs.Wires.{Wires, bitsIn, bitsPut, bitsOf, put, arriving}
+use Rattle.wires.specs.Wires.{Wires, bitsIn, bitsPut, bitsOf, put, arriving}
 use Rattle.wiring.specs.Command.{Stretch, after, still, access, readInto, simple}
-use Rattle.operands.specs.Operation.{convertBits, computeNodes, computeBits, top, accessNodes, accessArrival, claimNodes, claimLit}
+use Rattle.operands.specs.Operation.{convertBits, computeNodes, computeBits}
+use Rattle.indexes.specs.Index.{top, accessNodes, accessArrival, claimNodes, claimLit}
 use Rattle.meaning.specs.Walk.{andThen, forked, armOf}
-use Rattle.wiring.specs.Branch.{conditionNodes, conditionLit, armNodes, armLit, branchNodes, firstLit, elseLit, joinNodes, joinLits, joined}
+use Rattle.branching.specs.Branch.{conditionNodes, conditionLit, armNodes, armLit, branchNodes, firstLit, elseLit, joinNodes, joinLits, joined}
 use Rattle.meaning.specs.Translation.{parameterNodes, parameterLits, start, whole}
-use Rattle.wiring.specs.declared.Claim.{Claim}
+use Rattle.wires.specs.declared.Claim.{Claim}
 use Rattle.lead.specs.declared.Target.{Target}
 use Rattle.meaning.proofs.Places.{bits-place, put-length, put-keeps}
 use Rattle.meaning.proofs.Stretches.{by-cond, then-by, access-by, fork-by, firstFrom, firstWires, firstOf, secondFrom, secondWires, secondOf, joinFrom, joinOf}

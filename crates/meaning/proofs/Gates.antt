@@ -16,9 +16,9 @@ use Rattle.netlist.proofs.Literals.{lit-pos, lit-neg, lit-opp, lit-false}
 use Rattle.netlist.proofs.Truth.{Models, models-append}
 use Rattle.bits.specs.Bits.{Bits}
 use Rattle.relations.specs.Access.{aboveNodes, aboveLit}
-use Rattle.operands.specs.Operation.{top, accessNodes, accessArrival}
-use Rattle.wiring.specs.Wires.{Wires}
-use Rattle.wiring.specs.Branch.{armNodes, armLit, branchNodes, firstLit, elseLit, joinNodes, joined}
+use Rattle.indexes.specs.Index.{top, accessNodes, accessArrival}
+use Rattle.wires.specs.Wires.{Wires}
+use Rattle.branching.specs.Branch.{armNodes, armLit, branchNodes, firstLit, elseLit, joinNodes, joined}
 
 module _ (ins : Inputs) (ρ : Assign) where
   -- three stretches one after the other

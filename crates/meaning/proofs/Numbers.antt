@@ -7,11 +7,11 @@ use Prim.Native.Nat.{ℕ, _+_, _<_, _≤_}
 use native.Mathlib.Omega.{arith}
 use borrow.Author.Tests.{ne-eqb}
 use Rattle.bitvec.specs.declared.Whole.{Whole}
-use Rattle.command.specs.Step.{accesses, after, oneIf}
+use Rattle.faults.specs.Step.{accesses, after, oneIf}
 use Rattle.routine.specs.Routine.{Arm}
 use Rattle.routine.specs.Stands.{Stands}
 use Rattle.header.specs.declared.Header.{Header}
-use Rattle.command.specs.declared.Counts.{Counts}
+use Rattle.faults.specs.declared.Counts.{Counts}
 use Rattle.command.specs.declared.Simple.{Simple}
 use Rattle.routine.proofs.Views.{induction}
 use Rattle.machine.specs.State.{take, holds, carry}

@@ -10,7 +10,7 @@ use lib.Seq.{sets, length-sets, getD-set-same, getD-set-other, getD-take, getD-d
 use Rattle.header.specs.Header.{width}
 use Rattle.bits.specs.Bits.{Bits, tabulate}
 use Rattle.bits.proofs.Values.{order, length-tabulate, getD-tabulate}
-use Rattle.wiring.specs.Wires.{bitsIn, bitsPut}
+use Rattle.wires.specs.Wires.{bitsIn, bitsPut}
 
 -- ---- a list laid over another, from place i on
 

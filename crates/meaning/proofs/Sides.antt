@@ -19,7 +19,7 @@ use Rattle.bits.specs.Bits.{Bits}
 use Rattle.relations.specs.Access.{aboveNodes, aboveLit}
 use Rattle.bits.proofs.Values.{not-less, value, value-lt, top-value}
 use Rattle.relations.proofs.Access.{above-value}
-use Rattle.operands.specs.Operation.{top, claimNodes, claimLit}
+use Rattle.indexes.specs.Index.{top, claimNodes, claimLit}
 use Rattle.machine.specs.Side.{sideOf}
 
 -- not negative and below the size, at or above it, or negative: p says that the index is not negative, q that it is not below the size

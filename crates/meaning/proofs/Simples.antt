@@ -13,12 +13,12 @@ use Rattle.bitvec.specs.Word.{add, subtract, multiply, cut, zeroExtend}
 use Rattle.bitvec.specs.Signed.{signed, signExtend}
 use Rattle.bitvec.specs.declared.Whole.{Whole}
 use Rattle.header.specs.Header.{width, arraySize}
-use Rattle.command.specs.Step.{accesses, converts, widthsFit}
-use Rattle.command.specs.Sound.{Sound, Fine}
+use Rattle.faults.specs.Step.{accesses, converts, widthsFit}
+use Rattle.faults.specs.Sound.{Sound, Fine}
 use Rattle.header.specs.declared.Header.{Header}
-use Rattle.command.specs.declared.Counts.{Counts}
+use Rattle.faults.specs.declared.Counts.{Counts}
 use Rattle.command.specs.declared.Simple.{Simple}
-use Rattle.command.proofs.Fine.{set-fine, convert-fine, compute-fine, read-fine, write-fine}
+use Rattle.faults.proofs.Fine.{set-fine, convert-fine, compute-fine, read-fine, write-fine}
 use Rattle.machine.specs.State as state
 use Rattle.machine.specs.State.{converted, computed, indexOf, lies, arrive, accessed, carry}
 use Rattle.run.specs.Run.{came, eventsAt}
@@ -41,11 +41,12 @@ use Rattle.adders.proofs.Adder.{sum-word, difference-word}
 use Rattle.circuits.proofs.Product.{product-word}
 use Rattle.bits.proofs.Extend.{const-word, cut-word, zero-extend-word, sign-extend-word}
 use Rattle.bits.proofs.Input.{input-word}
-use Rattle.wiring.specs.Wires.{Wires, bitsOf, put, arriving, claiming}
+use Rattle.wires.specs.Wires.{Wires, bitsOf, put, arriving, claiming}
 use Rattle.wiring.specs.Command.{Stretch, still, access, readInto, simple}
-use Rattle.operands.specs.Operation.{convertBits, computeNodes, computeBits, accessNodes, accessArrival, claimNodes, claimLit}
+use Rattle.operands.specs.Operation.{convertBits, computeNodes, computeBits}
+use Rattle.indexes.specs.Index.{accessNodes, accessArrival, claimNodes, claimLit}
 use Rattle.meaning.specs.Faithful.{bitsOfList}
-use Rattle.wiring.specs.declared.Claim.{Claim}
+use Rattle.wires.specs.declared.Claim.{Claim}
 use Rattle.lead.specs.declared.Target.{Target}
 use Rattle.meaning.proofs.Fitting.{FitSimple}
 use Rattle.meaning.proofs.Gates.{access-lit, access-above}

@@ -7,20 +7,21 @@ use lib.ListN.{length}
 use lib.Dec.{eqb}
 use Rattle.slices.specs.Bytes.{entry}
 use Rattle.header.specs.Header.{width, arraySize}
-use Rattle.command.specs.Step.{accesses}
+use Rattle.faults.specs.Step.{accesses}
 use Rattle.routine.specs.Routine.{Arm, done, plain, fork}
 use Rattle.header.specs.declared.Header.{Header}
 use Rattle.command.specs.declared.Condition.{Condition}
-use Rattle.command.specs.declared.Counts.{Counts}
+use Rattle.faults.specs.declared.Counts.{Counts}
 use Rattle.command.specs.declared.Simple.{Simple}
 use Rattle.netlist.specs.Node.{Node}
 use Rattle.bits.specs.Extend.{constBit}
 use Rattle.bits.specs.Input.{inBit}
-use Rattle.wiring.specs.Wires.{Wires, bitsOf, arriving, claiming, isMade}
+use Rattle.wires.specs.Wires.{Wires, bitsOf, arriving, claiming, isMade}
 use Rattle.wiring.specs.Command.{Stretch, after, still, access, simple, readInto}
-use Rattle.operands.specs.Operation.{accessNodes, accessArrival, claimNodes, claimLit, convertBits, computeBits}
+use Rattle.operands.specs.Operation.{convertBits, computeBits}
+use Rattle.indexes.specs.Index.{accessNodes, accessArrival, claimNodes, claimLit}
 use Rattle.meaning.specs.Walk.{andThen, forked, armOf}
-use Rattle.wiring.specs.Branch.{joinLits, joined, conditionNodes, conditionLit, branchNodes, firstLit, elseLit}
+use Rattle.branching.specs.Branch.{joinLits, joined, conditionNodes, conditionLit, branchNodes, firstLit, elseLit}
 use Rattle.lead.specs.declared.Target.{Target}
 use Rattle.meaning.proofs.Places.{put-length}
 

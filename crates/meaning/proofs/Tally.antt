@@ -8,7 +8,7 @@ use Prim.Native.Nat.{ℕ, _+_}
 use lib.ListN.{length}
 use Rattle.bitvec.specs.declared.Whole.{Whole}
 use Rattle.header.specs.Header.{arraySize}
-use Rattle.command.specs.Sound.{Fine}
+use Rattle.faults.specs.Sound.{Fine}
 use Rattle.header.specs.declared.Header.{Header}
 use Rattle.machine.specs.State.{lies}
 use Rattle.run.specs.Run as run
@@ -20,15 +20,15 @@ use Rattle.course.specs.Course.{course}
 use Rattle.course.specs.declared.Course.{Course}
 use Rattle.clauses.specs.Meaning.{Assign, lit}
 use Rattle.wiring.specs.Command.{Stretch, after}
-use Rattle.wiring.specs.Wires.{Wires, isMade}
+use Rattle.wires.specs.Wires.{Wires, isMade}
 use Rattle.meaning.specs.Walk.{andThen}
 use Rattle.machine.specs.Side.{sideOf}
-use Rattle.wiring.specs.declared.Claim.{Claim}
+use Rattle.wires.specs.declared.Claim.{Claim}
 use Rattle.lead.specs.declared.Target.{Target}
 use Rattle.meaning.proofs.Claimed.{open-of}
 use Rattle.course.proofs.Laws.{onward, course-append}
 use Rattle.meaning.proofs.Numbers.{Elsewhere, elsewhere-then, run-then-by}
-use Rattle.command.proofs.Tests.{not-both}
+use Rattle.faults.proofs.Tests.{not-both}
 use Rattle.meaning.proofs.Worth.{Worth}
 
 -- the run took another arm than was decided, at some if

@@ -12,7 +12,7 @@ use lib.Dec.{eqb}
 use borrow.Author.Tests.{eqb-true, eqb-false}
 use Rattle.slices.specs.Bytes.{entry}
 use Rattle.header.specs.Header.{width}
-use Rattle.command.specs.Sound.{Fine}
+use Rattle.faults.specs.Sound.{Fine}
 use Rattle.header.specs.declared.Header.{Header}
 use Rattle.machine.specs.State.{over}
 use Rattle.clauses.specs.Meaning.{Assign, lit}
@@ -25,8 +25,8 @@ use Rattle.circuits.specs.Join.{join, joinBit}
 use Rattle.bits.proofs.Values.{bit, value, value-cong, value-zero}
 use Rattle.bits.proofs.Input.{input-word}
 use Rattle.circuits.proofs.Join.{join-value}
-use Rattle.wiring.specs.Wires.{bitsIn, bitsPut}
-use Rattle.wiring.specs.Branch.{joinNodes, joinLits}
+use Rattle.wires.specs.Wires.{bitsIn, bitsPut}
+use Rattle.branching.specs.Branch.{joinNodes, joinLits}
 use Rattle.meaning.specs.Translation.{parameterNodes, parameterLits}
 use Rattle.meaning.specs.Faithful.{bitsOfList}
 use Rattle.meaning.proofs.Places.{bits-place, put-length, put-same, put-other}

@@ -10,11 +10,11 @@ use Rattle.bitvec.specs.declared.Whole.{Whole}
 use Rattle.header.specs.Header.{arraySize}
 use Rattle.routine.specs.Routine.{Arm}
 use Rattle.header.specs.declared.Header.{Header}
-use Rattle.command.specs.declared.Counts.{Counts}
-use Rattle.run.specs.Inputs.{listed}
+use Rattle.faults.specs.declared.Counts.{Counts}
+use Rattle.inputs.specs.Inputs.{listed}
 use Rattle.machine.specs.State.{lies}
 use Rattle.run.specs.Run.{runOf}
-use Rattle.run.specs.declared.Listed.{Listed}
+use Rattle.inputs.specs.declared.Listed.{Listed}
 use Rattle.machine.specs.declared.Lies.{Lies}
 use Rattle.course.specs.Course.{course}
 use Rattle.course.specs.declared.Course.{Course}
@@ -25,7 +25,7 @@ use Rattle.netlist.specs.Meaning.{Inputs, Extends, Agree}
 use Rattle.wiring.specs.Command.{Stretch}
 use Rattle.meaning.specs.Translation.{whole}
 use Rattle.machine.specs.Side.{sideOf}
-use Rattle.wiring.specs.declared.Claim.{Claim}
+use Rattle.wires.specs.declared.Claim.{Claim}
 use Rattle.lead.specs.declared.Target.{Target}
 
 -- the bits of an input list: word n, bit j

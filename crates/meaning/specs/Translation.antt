@@ -9,10 +9,10 @@ use Rattle.clauses.specs.Clause.{Clause, flatten}
 use Rattle.netlist.specs.Literal.{opp}
 use Rattle.netlist.specs.Node.{Node, one, clausesOf}
 use Rattle.bits.specs.Input.{inputs, inBit}
-use Rattle.wiring.specs.Wires.{Wires, bitsPut}
+use Rattle.wires.specs.Wires.{Wires, bitsPut}
 use Rattle.wiring.specs.Command.{Stretch, after}
 use Rattle.meaning.specs.Walk.{armOf}
-use Rattle.wiring.specs.declared.Claim.{Claim}
+use Rattle.wires.specs.declared.Claim.{Claim}
 use Rattle.meaning.specs.declared.Size.{Size}
 use Rattle.lead.specs.declared.Target.{Target}
 

@@ -8,9 +8,9 @@ use Rattle.header.specs.declared.Header.{Header}
 use Rattle.command.specs.declared.Condition.{Condition}
 use Rattle.routine.specs.Routine.{Arm, done, plain, fork}
 use Rattle.netlist.specs.Node.{Node}
-use Rattle.wiring.specs.Wires.{Wires, arriving, isMade}
+use Rattle.wires.specs.Wires.{Wires, arriving, isMade}
 use Rattle.wiring.specs.Command.{Stretch, after, still, simple}
-use Rattle.wiring.specs.Branch.{conditionNodes, conditionLit, branchNodes, firstLit, elseLit, joined}
+use Rattle.branching.specs.Branch.{conditionNodes, conditionLit, branchNodes, firstLit, elseLit, joined}
 use Rattle.lead.specs.declared.Target.{Target}
 
 -- goes on after a stretch whose first variable is g, unless the claim was made in it

@@ -6,8 +6,8 @@ use Rattle.slices.specs.Bytes.{word}
 use Rattle.clauses.specs.Clause.{Clause}
 use Rattle.propagation.specs.Hint.{notFalse, allSame, ofLeft, hintOf}
 use Rattle.reader.specs.Command.{commandAt}
-use Rattle.proof.specs.State.{Limits, unless}
-use Rattle.proof.specs.Check.{fresh, onLiteral, afterHint, onHint, onClose, onEnd, obey, step, run, checkProof}
+use Rattle.progress.specs.State.{Limits, unless}
+use Rattle.progress.specs.Check.{fresh, onLiteral, afterHint, onHint, onClose, onEnd, obey, step, run, checkProof}
 use Rattle.step.specs.declared.Refusal.{Refusal}
 use Rattle.step.specs.declared.Verdict.{Verdict}
 

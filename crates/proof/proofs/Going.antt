@@ -11,8 +11,8 @@ use Rattle.propagation.specs.declared.Hint.{Hint}
 use Rattle.propagation.proofs.Standing.{In, unit-in}
 use Rattle.propagation.proofs.Clearing.{clear-marked}
 use Rattle.reader.specs.Command.{commandAt}
-use Rattle.proof.specs.State.{State, Limits, Next, more, stop, afterLiteral, hinted, afterClose}
-use Rattle.proof.specs.Check.{onLiteral, afterHint, onHint, onClose}
+use Rattle.progress.specs.State.{State, Limits, Next, more, stop, afterLiteral, hinted, afterClose}
+use Rattle.progress.specs.Check.{onLiteral, afterHint, onHint, onClose}
 use Rattle.step.specs.Undo.{touches, touched, Clean}
 use Rattle.reader.specs.declared.Command.{Command}
 use Rattle.step.specs.declared.Phase.{Phase}

@@ -10,7 +10,8 @@ use Rattle.clauses.specs.Clause.{Clause, flatten, offsets}
 use Rattle.clauses.proofs.Appending.{sets-front, sets-twice, length-offsets}
 use Rattle.propagation.specs.Stored.{LiteralsIn, startOf, endOf, clauseAt, clausesOf}
 use Rattle.propagation.proofs.Standing.{clauses-length, clauses-at}
-use Rattle.proof.specs.Answer.{Store, Begins}
+use Rattle.proof.specs.Answer.{Begins}
+use Rattle.progress.specs.Lent.{Store}
 
 -- literals of variables that have a mark
 abbrev pub Proper : ℕ → List Clause → Type 0

@@ -4,14 +4,6 @@ mod Truth
 pub mod Soundness
 pub mod Steady
 mod Bench
-mod Storing
-mod Stopping
-mod Writing
-mod Trailing
-mod Taking
-mod Ending
-mod Hinting
-mod Closing
 mod Going
 mod Turning
 mod Running

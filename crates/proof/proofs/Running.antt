@@ -9,18 +9,19 @@ use lib.Seq.{slice}
 use Rattle.propagation.specs.Marks.{undecided}
 use Rattle.propagation.specs.Stored.{clausesOf}
 use Rattle.propagation.specs.Clear.{clear}
-use Rattle.proof.specs.State.{State, Limits, more, stop}
-use Rattle.proof.specs.Check.{fresh, step, Outcome, follow, run, checkProof}
-use Rattle.proof.specs.Answer.{limitsOf, Answer, leaves, answer, Answers, Begins}
+use Rattle.progress.specs.State.{State, Limits, more, stop}
+use Rattle.progress.specs.Check.{fresh, step, Outcome, follow, run, checkProof}
+use Rattle.proof.specs.Answer.{Answer, leaves, answer, Answers, Begins}
+use Rattle.progress.specs.Lent.{limitsOf}
 use Rattle.step.specs.Undo.{touched, Clean}
-use Rattle.proof.specs.Held.{stateOf, nextIs, Written, Ready, ReadyAfter, Done}
+use Rattle.progress.specs.Held.{stateOf, nextIs, Written, Ready, ReadyAfter, Done}
 use Rattle.proof.specs.Sound.{Refutes}
 use Rattle.step.specs.declared.Phase.{Phase}
 use Rattle.step.specs.declared.Progress.{Progress}
 use Rattle.step.specs.declared.Turn.{Turn}
 use Rattle.step.specs.declared.Verdict.{Verdict}
-use Rattle.proof.proofs.Storing.{no-literals, zeros-undecided}
-use Rattle.proof.proofs.Trailing.{trailed-start}
+use Rattle.progress.proofs.Storing.{no-literals, zeros-undecided}
+use Rattle.progress.proofs.Trailing.{trailed-start}
 use Rattle.proof.proofs.Soundness.{sound}
 
 -- from where the check stands, the rest of the run gives the outcome; w₀ and s₀ are the buffers at the beginning

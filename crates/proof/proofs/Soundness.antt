@@ -13,8 +13,8 @@ use Rattle.propagation.specs.declared.Hint.{Hint}
 use Rattle.propagation.proofs.Cases.{both}
 use Rattle.reader.specs.Command.{commandAt}
 use Rattle.step.specs.Phase.{going, conflicted, phaseAfter}
-use Rattle.proof.specs.State.{State, Limits, Next, more, stop, begin}
-use Rattle.proof.specs.Check.{onLiteral, afterHint, onHint, onClose, onEnd, obey, step, Outcome, follow, run, checkProof}
+use Rattle.progress.specs.State.{State, Limits, Next, more, stop, begin}
+use Rattle.progress.specs.Check.{onLiteral, afterHint, onHint, onClose, onEnd, obey, step, Outcome, follow, run, checkProof}
 use Rattle.clauses.specs.Meaning.{Assign, satClause, sat}
 use Rattle.proof.specs.Sound.{Refutes}
 use Rattle.reader.specs.declared.Command.{Command}

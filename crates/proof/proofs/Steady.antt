@@ -8,8 +8,8 @@ use Rattle.clauses.specs.Clause.{Clause}
 use Rattle.propagation.specs.Hint.{hintOf}
 use Rattle.propagation.specs.declared.Hint.{Hint}
 use Rattle.reader.specs.Command.{commandAt}
-use Rattle.proof.specs.State.{State, Limits, Next, more, stop, begin}
-use Rattle.proof.specs.Check.{onLiteral, afterHint, onHint, onClose, onEnd, obey, step, Outcome, follow, run, checkProof}
+use Rattle.progress.specs.State.{State, Limits, Next, more, stop, begin}
+use Rattle.progress.specs.Check.{onLiteral, afterHint, onHint, onClose, onEnd, obey, step, Outcome, follow, run, checkProof}
 use Rattle.reader.specs.declared.Command.{Command}
 use Rattle.step.specs.declared.Refusal.{Refusal}
 use Rattle.step.specs.declared.Verdict.{Verdict}

@@ -6,10 +6,10 @@ use native.Mathlib.Omega.{arith}
 use lib.ListN.{length}
 use Rattle.reader.specs.Command.{commandAt}
 use Rattle.step.specs.Stop.{refusedBy}
-use Rattle.proof.specs.State.{Next, more, stop}
-use Rattle.proof.specs.Check.{onLiteral, onHint, onClose, onEnd, obey, step}
-use Rattle.proof.specs.Answer.{limitsOf}
-use Rattle.proof.specs.Held.{stateOf, nextIs, Did, TrailedAfter, Ready, ReadyAfter, Done}
+use Rattle.progress.specs.State.{Next, more, stop}
+use Rattle.progress.specs.Check.{onLiteral, onHint, onClose, onEnd, obey, step}
+use Rattle.progress.specs.Lent.{limitsOf}
+use Rattle.progress.specs.Held.{stateOf, nextIs, Did, TrailedAfter, Ready, ReadyAfter, Done}
 use Rattle.reader.specs.declared.Command.{Command}
 use Rattle.step.specs.declared.Progress.{Progress}
 use Rattle.step.specs.declared.Refusal.{Refusal}

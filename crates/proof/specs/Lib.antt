@@ -1,5 +1,2 @@
-pub mod State
-pub mod Check
 pub mod Sound
 pub mod Answer
-pub mod Held

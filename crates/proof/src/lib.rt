@@ -1,8 +1,4 @@
 // The checking of a proof by hinted unit propagation.
-mod closes;
-mod ends;
-mod hints;
-mod literals;
 mod turns;
 
 use step::Phase;

@@ -1,17 +1,17 @@
 // One command of a proof after another.
-use crate::closes::on_close;
-use crate::ends::on_end;
-use crate::hints::on_hint;
-use crate::literals::on_literal;
+use progress::closes::on_close;
+use progress::ends::on_end;
+use progress::hints::on_hint;
+use progress::literals::on_literal;
 use reader::Command;
 use reader::read_command;
 use step::Progress;
 use step::Refusal;
 use step::Turn;
 use step::stops::refused;
-ghost use Rattle.proof.specs.Answer.{limitsOf};
-ghost use Rattle.proof.specs.Check.{step};
-ghost use Rattle.proof.specs.Held.{stateOf, Ready, Done};
+ghost use Rattle.progress.specs.Lent.{limitsOf};
+ghost use Rattle.progress.specs.Check.{step};
+ghost use Rattle.progress.specs.Held.{stateOf, Ready, Done};
 
 // One command.
 pub fn turn(

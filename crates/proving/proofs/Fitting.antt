@@ -11,7 +11,7 @@ use lib.Dec.{leb}
 use borrow.Author.Tests.{le-leb, lt-leb, leb-true}
 use Rattle.slices.specs.Lent.{usable}
 use Rattle.header.specs.declared.Header.{Header}
-use Rattle.command.specs.declared.Counts.{Counts}
+use Rattle.faults.specs.declared.Counts.{Counts}
 use Rattle.routine.specs.Routine.{Arm}
 use Rattle.routine.specs.Decode.{routine, decode, Counted}
 use Rattle.clauses.specs.Clause.{Clause, flatten, offsets}
@@ -26,8 +26,9 @@ use Rattle.meaning.specs.declared.Size.{Size}
 use Rattle.translation.specs.declared.Translated.{Translated}
 use Rattle.propagation.specs.Stored.{clausesOf}
 use Rattle.proof.specs.Answer as proof
-use Rattle.proof.specs.Answer.{Begins, limitsOf, Answers}
-use Rattle.proof.specs.Check.{checkProof}
+use Rattle.proof.specs.Answer.{Begins, Answers}
+use Rattle.progress.specs.Lent.{limitsOf}
+use Rattle.progress.specs.Check.{checkProof}
 use Rattle.proof.proofs.Laying.{Proper, begins-laid, clauses-laid}
 use Rattle.step.specs.declared.Verdict.{Verdict}
 use Rattle.witness.specs.Lead.{decisionsIn, proofAt}

@@ -6,8 +6,8 @@ use native.Mathlib.Omega.{arith}
 use lib.ListN.{length, getD}
 use Rattle.header.specs.Header.{firstCommand}
 use Rattle.header.specs.declared.Header.{Header}
-use Rattle.command.specs.declared.Counts.{Counts}
-use Rattle.command.proofs.Fine.{fine}
+use Rattle.faults.specs.declared.Counts.{Counts}
+use Rattle.faults.proofs.Fine.{fine}
 use Rattle.routine.specs.Routine.{Arm}
 use Rattle.routine.specs.Decode.{routine, decode, noCounts}
 use Rattle.routine.proofs.Accepted.{decoded}
@@ -15,7 +15,7 @@ use Rattle.clauses.specs.Clause.{Clause}
 use Rattle.netlist.specs.Node.{Node, one, input, and, xor, maj, mux, nodeClauses, clausesOf}
 use Rattle.netlist.proofs.Model.{Before, Earlier, WellFormed}
 use Rattle.netlist.proofs.Formed.{before-later, before-opp, before-pos, before-neg}
-use Rattle.wiring.specs.declared.Claim.{Claim}
+use Rattle.wires.specs.declared.Claim.{Claim}
 use Rattle.lead.specs.declared.Target.{Target}
 use Rattle.meaning.specs.Translation.{whole, lastClauses, clausesOfAll}
 use Rattle.meaning.proofs.Formed.{whole-formed, whole-named}

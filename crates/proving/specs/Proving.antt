@@ -4,11 +4,11 @@ use mathlib.Core.List.{List}
 use mathlib.Core.Bool.{cond}
 use lib.Dec.{leb}
 use Rattle.header.specs.declared.Header.{Header}
-use Rattle.command.specs.declared.Counts.{Counts}
+use Rattle.faults.specs.declared.Counts.{Counts}
 use Rattle.wiring.specs.Command.{Stretch}
 use Rattle.meaning.specs.Translation.{clausesOfAll, sizeOf}
-use Rattle.proof.specs.State.{Limits}
-use Rattle.proof.specs.Check.{checkProof}
+use Rattle.progress.specs.State.{Limits}
+use Rattle.progress.specs.Check.{checkProof}
 use Rattle.step.specs.declared.Verdict.{Verdict}
 use Rattle.proving.specs.declared.Buffer.{Buffer}
 use Rattle.proving.specs.declared.Refusal.{Refusal}

@@ -1,6 +1,6 @@
 // The claim of a report, proved: 16, then the proof.
 
-use command::Counts;
+use faults::Counts;
 use header::Header;
 use lead::Target;
 use meaning::Size;
@@ -14,8 +14,9 @@ ghost use mathlib.Core.Path.{_≡_};
 ghost use Prim.Native.Nat.{_≤_};
 ghost use lib.ListN.{length, replicate};
 ghost use Rattle.routine.specs.Decode.{Counted};
-ghost use Rattle.proof.specs.Answer.{Begins, limitsOf};
-ghost use Rattle.proof.specs.Check.{checkProof};
+ghost use Rattle.proof.specs.Answer.{Begins};
+ghost use Rattle.progress.specs.Lent.{limitsOf};
+ghost use Rattle.progress.specs.Check.{checkProof};
 ghost use Rattle.propagation.specs.Stored.{clausesOf};
 ghost use Rattle.witness.specs.Lead.{decisionsIn, proofAt};
 ghost use Rattle.proving.specs.Proving.{byVerdict};

@@ -1,6 +1,6 @@
 -- The number and the place of each refusal of a routine, as the table of document 01 has them.
 use Prim.Native.Nat.{ℕ}
-use Rattle.command.specs.declared.Fault.{Fault}
+use Rattle.faults.specs.declared.Fault.{Fault}
 use Rattle.routine.specs.declared.Refusal.{Refusal}
 
 -- rows 3 to 7

@@ -1,5 +1,5 @@
 // Refusals of a routine.
-use command::Fault;
+use faults::Fault;
 use routine::Refusal;
 ghost use mathlib.Core.Path.{_≡_};
 ghost use Rattle.refusals.specs.Routine.{numberOfFault, numberOf, placeOf};

@@ -18,7 +18,7 @@ use Rattle.command.specs.declared.Condition.{Condition}
 use Rattle.command.specs.declared.Command.{Command}
 use Rattle.rendering.specs.Exactly.{AreBytes}
 use Rattle.command.proofs.Sizes.{whole}
-use Rattle.command.proofs.Tests.{both}
+use Rattle.faults.proofs.Tests.{both}
 use Rattle.rendering.proofs.Bytes.{next, here, entry-at, entry-here, bytes-left, word-at, four-digits, four-value}
 
 -- the command at an offset is the one at the start of the bytes from there on

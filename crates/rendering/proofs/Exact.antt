@@ -8,7 +8,7 @@ use lib.ListN.{length, drop}
 use lib.Seq.{drop-length}
 use borrow.Author.Tests.{le-leb, eq-eqb}
 use Rattle.header.specs.Header.{firstCommand}
-use Rattle.command.specs.Sound.{Fine}
+use Rattle.faults.specs.Sound.{Fine}
 use Rattle.routine.specs.Routine.{Arm}
 use Rattle.routine.specs.Decode.{noCounts, routine, decode, answer, checked}
 use Rattle.rendering.specs.Syntax.{Syntax}
@@ -16,9 +16,9 @@ use Rattle.rendering.specs.Render.{textBytes, render}
 use Rattle.rendering.specs.WellFormed.{depth, ifs, reads, writes, accesses, WellFormed}
 use Rattle.rendering.specs.Exactly.{AreBytes, Accepted, Rendered, headOf, countsOf, text, Decodes, Exactly}
 use Rattle.header.specs.declared.Header.{Header}
-use Rattle.command.specs.declared.Counts.{Counts}
+use Rattle.faults.specs.declared.Counts.{Counts}
 use Rattle.routine.specs.declared.Checked.{Checked}
-use Rattle.command.proofs.Fine.{fine}
+use Rattle.faults.proofs.Fine.{fine}
 use Rattle.routine.proofs.Views.{onward}
 use Rattle.routine.proofs.Accepted.{Whole, decoded}
 use Rattle.routine.proofs.Counting.{few-ifs, few-accesses}

@@ -10,14 +10,14 @@ use lib.Dec.{ltb, leb, eqb, lit≤}
 use borrow.Author.Tests.{lt-ltb, le-leb, eq-eqb, leb-true}
 use Rattle.slices.specs.Bytes.{entry, half}
 use Rattle.header.specs.Header.{between, within, widthOk, sizeOk, firstBad, need, headerOf, firstCommand}
-use Rattle.command.specs.Sound.{Fine}
+use Rattle.faults.specs.Sound.{Fine}
 use Rattle.rendering.specs.Syntax.{Text, Syntax}
 use Rattle.rendering.specs.Render.{two, sizeBytes}
 use Rattle.rendering.specs.WellFormed.{Between}
 use Rattle.rendering.specs.Exactly.{AreBytes, headOf}
 use Rattle.header.specs.declared.Header.{Header}
 use Rattle.header.specs.declared.Head.{Head}
-use Rattle.command.proofs.Tests.{both}
+use Rattle.faults.proofs.Tests.{both}
 use Rattle.rendering.proofs.Bytes.{here, next, entry-at, entry-here, bytes-left, further, two-digits, two-value}
 use Rattle.rendering.proofs.Operands.{Same}
 

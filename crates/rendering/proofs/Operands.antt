@@ -11,14 +11,14 @@ use lib.ListN.{length}
 use lib.Dec.{ltb, eqb}
 use borrow.Author.Tests.{lt-ltb, eq-eqb, ne-eqb, ltb-true, eqb-true, eqb-false}
 use Rattle.header.specs.Header.{width}
-use Rattle.command.specs.Step.{inRange, converts, widthsFit}
-use Rattle.command.specs.Sound.{Sound, SoundIf}
+use Rattle.faults.specs.Step.{inRange, converts, widthsFit}
+use Rattle.faults.specs.Sound.{Sound, SoundIf}
 use Rattle.rendering.specs.Syntax.{Syntax}
 use Rattle.rendering.specs.WellFormed.{Between, Variable, widthOf, Converts, Good, GoodIf}
 use Rattle.header.specs.declared.Header.{Header}
 use Rattle.command.specs.declared.Simple.{Simple}
 use Rattle.command.specs.declared.Condition.{Condition}
-use Rattle.command.proofs.Fine.{set-fine, convert-fine, compute-fine, read-fine, write-fine, condition-fine}
+use Rattle.faults.proofs.Fine.{set-fine, convert-fine, compute-fine, read-fine, write-fine, condition-fine}
 use Rattle.rendering.proofs.Commands.{Kind}
 
 -- the header and the bytes have the variables, widths and arrays of the syntax

@@ -9,9 +9,9 @@ use lib.ListN.{drop}
 use lib.Dec.{lit≤}
 use borrow.Author.Tests.{eq-eqb, lt-ltb, lt-leb}
 use Rattle.command.specs.Command.{sizeOfSimple, commandAt}
-use Rattle.command.specs.Step.{tooMany, after, simpleStep, oneIf, ifStep, stepOf}
-use Rattle.command.specs.Step as step
-use Rattle.command.specs.Sound.{Sound, SoundIf}
+use Rattle.faults.specs.Step.{tooMany, after, simpleStep, oneIf, ifStep, stepOf}
+use Rattle.faults.specs.Step as step
+use Rattle.faults.specs.Sound.{Sound, SoundIf}
 use Rattle.routine.specs.Routine.{Arm, done, plain, fork, armStep, stepAt, arm}
 use Rattle.routine.specs.Stands.{Stands}
 use Rattle.rendering.specs.Syntax.{Text, none, simple, branch, Syntax}
@@ -19,11 +19,11 @@ use Rattle.rendering.specs.Render.{four, simpleBytes, textBytes}
 use Rattle.rendering.specs.WellFormed.{Variable, widthOf, AllGood, depth, ifs, oneRead, oneWrite, reads, writes, accesses}
 use Rattle.rendering.specs.Exactly.{text}
 use Rattle.header.specs.declared.Header.{Header}
-use Rattle.command.specs.declared.Counts.{Counts}
+use Rattle.faults.specs.declared.Counts.{Counts}
 use Rattle.command.specs.declared.Simple.{Simple}
 use Rattle.command.specs.declared.Condition.{Condition}
 use Rattle.command.specs.declared.Command.{Command}
-use Rattle.command.specs.declared.Step.{Step}
+use Rattle.faults.specs.declared.Step.{Step}
 use Rattle.routine.proofs.Arms.{unroll}
 use Rattle.routine.proofs.Counting.{same-ifs}
 use Rattle.rendering.proofs.Bytes.{further}

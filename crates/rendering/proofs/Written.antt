@@ -8,8 +8,8 @@ use lib.ListN.{length, drop}
 use lib.Dec.{eqb}
 use borrow.Author.Tests.{eqb-true}
 use Rattle.command.specs.Command.{sizeOfSimple, commandAt}
-use Rattle.command.specs.Step.{after, stepOf}
-use Rattle.command.specs.Step as step
+use Rattle.faults.specs.Step.{after, stepOf}
+use Rattle.faults.specs.Step as step
 use Rattle.routine.specs.Routine.{Arm, done, plain, fork, refused, parsed, armStep, arm}
 use Rattle.routine.specs.Stands.{Stands}
 use Rattle.rendering.specs.Syntax.{Syntax}
@@ -17,11 +17,11 @@ use Rattle.rendering.specs.Render.{simpleBytes, textBytes}
 use Rattle.rendering.specs.WellFormed.{AllGood, depth, ifs, oneRead, oneWrite, reads, writes, accesses}
 use Rattle.rendering.specs.Exactly.{AreBytes, text}
 use Rattle.header.specs.declared.Header.{Header}
-use Rattle.command.specs.declared.Counts.{Counts}
+use Rattle.faults.specs.declared.Counts.{Counts}
 use Rattle.command.specs.declared.Simple.{Simple}
 use Rattle.command.specs.declared.Condition.{Condition}
 use Rattle.command.specs.declared.Command.{Command}
-use Rattle.command.specs.declared.Fault.{Fault}
+use Rattle.faults.specs.declared.Fault.{Fault}
 use Rattle.routine.proofs.Arms.{unroll}
 use Rattle.routine.proofs.Views.{PlainAt, ForkAt, induction}
 use Rattle.routine.proofs.Counting.{same-ifs}

@@ -11,7 +11,7 @@ use Rattle.rendering.specs.Syntax.{Text, none, simple, branch, Syntax}
 use Rattle.rendering.specs.Render.{render}
 use Rattle.rendering.specs.WellFormed.{ifs, reads, writes, WellFormed}
 use Rattle.header.specs.declared.Header.{Header}
-use Rattle.command.specs.declared.Counts.{Counts}
+use Rattle.faults.specs.declared.Counts.{Counts}
 use Rattle.routine.specs.declared.Checked.{Checked}
 
 -- each entry is a byte

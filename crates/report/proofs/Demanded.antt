@@ -8,16 +8,16 @@ use lib.Dec.{leb}
 use Rattle.bitvec.specs.declared.Whole.{Whole}
 use Rattle.header.specs.Header.{arraySize}
 use Rattle.header.specs.declared.Header.{Header}
-use Rattle.command.specs.declared.Counts.{Counts}
+use Rattle.faults.specs.declared.Counts.{Counts}
 use Rattle.routine.specs.Routine.{Arm}
 use Rattle.routine.specs.Decode.{Decoded, rejected, routine, decode}
 use Rattle.machine.specs.Side.{sideOf}
 use Rattle.machine.specs.State.{lies}
 use Rattle.machine.specs.declared.Lies.{Lies}
 use Rattle.run.specs.Answer.{ranBy}
-use Rattle.run.specs.Inputs.{listed}
+use Rattle.inputs.specs.Inputs.{listed}
 use Rattle.run.specs.Run.{runOf}
-use Rattle.run.specs.declared.Listed.{Listed}
+use Rattle.inputs.specs.declared.Listed.{Listed}
 use Rattle.run.proofs.Outside.{Ends, ends}
 use Rattle.course.specs.Course.{course}
 use Rattle.course.specs.Goes.{goesWay, Comes}
@@ -32,11 +32,11 @@ use Rattle.lead.specs.declared.Target.{Target}
 use Rattle.meaning.specs.Faithful.{Faithful}
 use Rattle.meaning.specs.Translation.{whole, lastClauses, clausesOfAll, sizeOf}
 use Rattle.meaning.proofs.Demand.{faithful}
-use Rattle.proof.specs.Check.{checkProof}
+use Rattle.progress.specs.Check.{checkProof}
 use Rattle.proof.proofs.Soundness.{sound}
 use Rattle.step.specs.declared.Verdict.{Verdict}
 use Rattle.wiring.specs.Command.{Stretch}
-use Rattle.wiring.specs.declared.Claim.{Claim}
+use Rattle.wires.specs.declared.Claim.{Claim}
 use Rattle.witness.specs.Lead.{decisionsIn, witnessIn, proofAt}
 use Rattle.witness.specs.Witness.{witnessOf}
 use Rattle.witness.specs.declared.Witness.{Witness}

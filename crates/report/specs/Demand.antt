@@ -6,7 +6,7 @@ use mathlib.Core.Bool.{true}
 use Rattle.bitvec.specs.declared.Whole.{Whole}
 use Rattle.header.specs.Header.{arraySize}
 use Rattle.header.specs.declared.Header.{Header}
-use Rattle.command.specs.declared.Counts.{Counts}
+use Rattle.faults.specs.declared.Counts.{Counts}
 use Rattle.routine.specs.Routine.{Arm}
 use Rattle.routine.specs.Decode.{routine, decode}
 use Rattle.machine.specs.Side.{sideOf}
@@ -14,9 +14,9 @@ use Rattle.machine.specs.State.{lies}
 use Rattle.machine.specs.declared.Lies.{Lies}
 use Rattle.machine.specs.declared.Side.{Side}
 use Rattle.run.specs.Answer.{ranBy}
-use Rattle.run.specs.Inputs.{listed}
+use Rattle.inputs.specs.Inputs.{listed}
 use Rattle.run.specs.Run.{Stretch, runOf}
-use Rattle.run.specs.declared.Listed.{Listed}
+use Rattle.inputs.specs.declared.Listed.{Listed}
 use Rattle.run.specs.declared.Ran.{Ran}
 use Rattle.course.specs.Goes.{goesWay, Comes}
 use Rattle.witness.specs.Lead.{decisionsIn, witnessIn}

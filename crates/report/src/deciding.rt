@@ -1,7 +1,7 @@
 // What is said of a report: the routine, the witness, then the proof.
 use crate::Judged;
 use bitvec::Whole;
-use command::Counts;
+use faults::Counts;
 use header::Header;
 use header::size_of_array;
 use lead::Target;

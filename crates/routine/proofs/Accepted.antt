@@ -13,7 +13,7 @@ use Rattle.routine.specs.Decode.{Decoded, rejected, routine, noCounts, d
 use Rattle.routine.specs.Stands.{Stands}
 use Rattle.header.specs.declared.Header.{Header}
 use Rattle.header.specs.declared.Head.{Head}
-use Rattle.command.specs.declared.Counts.{Counts}
+use Rattle.faults.specs.declared.Counts.{Counts}
 use Rattle.routine.specs.declared.Refusal.{Refusal}
 use Rattle.routine.specs.declared.Checked.{Checked}
 

@@ -9,16 +9,16 @@ use lib.Dec.{leb, ltb, eqb}
 use borrow.Author.Tests.{leb-true, ltb-true}
 use Rattle.command.specs.Command.{sizeOf, sizeOfSimple, commandOf, commandAt}
 use Rattle.header.specs.Header.{width}
-use Rattle.command.specs.Step.{inRange, widthsFit, tooMany, after, unless, refusing, simpleStep, oneIf, conditionInRange, ifStep, stepOf}
+use Rattle.faults.specs.Step.{inRange, widthsFit, tooMany, after, unless, refusing, simpleStep, oneIf, conditionInRange, ifStep, stepOf}
 use Rattle.routine.specs.Routine.{Parsed, refused, parsed, plain, fork, andThen, Reader, ifArms, armStep, stepAt, armBy, arm, walked, walkArm, walkIf}
-use Rattle.command.specs.Sound.{Sound, SoundIf}
+use Rattle.faults.specs.Sound.{Sound, SoundIf}
 use Rattle.header.specs.declared.Header.{Header}
 use Rattle.command.specs.declared.Condition.{Condition}
-use Rattle.command.specs.declared.Counts.{Counts}
+use Rattle.faults.specs.declared.Counts.{Counts}
 use Rattle.command.specs.declared.Simple.{Simple}
 use Rattle.command.specs.declared.Command.{Command}
-use Rattle.command.specs.declared.Fault.{Fault}
-use Rattle.command.specs.declared.Step.{Step}
+use Rattle.faults.specs.declared.Fault.{Fault}
+use Rattle.faults.specs.declared.Step.{Step}
 use Rattle.routine.specs.declared.Walked.{Walked}
 use Rattle.command.proofs.Sizes.{size-pos, simple-size}
 

@@ -7,8 +7,8 @@ use Rattle.routine.specs.Routine.{Arm, walked, walkArm}
 use Rattle.routine.specs.Stands.{Stands, SomeArm}
 use Rattle.routine.specs.Passes.{Passes}
 use Rattle.header.specs.declared.Header.{Header}
-use Rattle.command.specs.declared.Counts.{Counts}
-use Rattle.command.specs.declared.Fault.{Fault}
+use Rattle.faults.specs.declared.Counts.{Counts}
+use Rattle.faults.specs.declared.Fault.{Fault}
 use Rattle.routine.specs.declared.Walked.{Walked}
 
 module _ (bs : List ℕ) (h : Header) (depth close at : ℕ) (k : Counts) (w : Walked) (is : w ≡ walkArm bs h depth close at k) where

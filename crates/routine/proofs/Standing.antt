@@ -7,10 +7,10 @@ use native.Mathlib.Omega.{arith}
 use lib.ListN.{length}
 use Rattle.header.specs.declared.Header.{Header}
 use Rattle.command.specs.Command.{sizeOfSimple, commandAt}
-use Rattle.command.specs.Step.{tooMany, oneIf}
-use Rattle.command.specs.Sound.{Sound, SoundIf}
+use Rattle.faults.specs.Step.{tooMany, oneIf}
+use Rattle.faults.specs.Sound.{Sound, SoundIf}
 use Rattle.command.specs.declared.Condition.{Condition}
-use Rattle.command.specs.declared.Counts.{Counts}
+use Rattle.faults.specs.declared.Counts.{Counts}
 use Rattle.command.specs.declared.Simple.{Simple}
 use Rattle.command.specs.declared.Command.{Command}
 use Rattle.routine.specs.Routine.{Arm}

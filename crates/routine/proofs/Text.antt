@@ -8,7 +8,7 @@ use Rattle.routine.specs.Routine.{Arm, textOf}
 use Rattle.routine.specs.Stands.{Stands}
 use Rattle.header.specs.declared.Header.{Header}
 use Rattle.command.specs.declared.Condition.{Condition}
-use Rattle.command.specs.declared.Counts.{Counts}
+use Rattle.faults.specs.declared.Counts.{Counts}
 use Rattle.command.specs.declared.Simple.{Simple}
 use Rattle.command.specs.declared.Command.{Command}
 use Rattle.routine.proofs.Views.{induction}

@@ -7,13 +7,13 @@ use Prim.Native.Nat.{ℕ, _+_, _≤_, _<_}
 use native.Mathlib.Omega.{arith}
 use lib.ListN.{length}
 use Rattle.command.specs.Command.{sizeOfSimple, commandAt}
-use Rattle.command.specs.Step.{tooMany, after, oneIf}
+use Rattle.faults.specs.Step.{tooMany, after, oneIf}
 use Rattle.routine.specs.Routine.{Arm, Parsed, refused, parsed, done, plain, fork, andThen, armStep, stepAt, arm}
 use Rattle.routine.specs.Stands.{Stands}
-use Rattle.command.specs.Sound.{Sound, SoundIf}
+use Rattle.faults.specs.Sound.{Sound, SoundIf}
 use Rattle.header.specs.declared.Header.{Header}
-use Rattle.command.specs.declared.Counts.{Counts}
-use Rattle.command.specs.declared.Step.{Step}
+use Rattle.faults.specs.declared.Counts.{Counts}
+use Rattle.faults.specs.declared.Step.{Step}
 use Rattle.command.specs.declared.Simple.{Simple}
 use Rattle.command.specs.declared.Condition.{Condition}
 use Rattle.command.specs.declared.Command.{Command}

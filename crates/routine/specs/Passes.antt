@@ -5,7 +5,7 @@ use mathlib.Core.List.{List}
 use Rattle.routine.specs.Routine.{Arm}
 use Rattle.routine.specs.Stands.{Stands}
 use Rattle.header.specs.declared.Header.{Header}
-use Rattle.command.specs.declared.Counts.{Counts}
+use Rattle.faults.specs.declared.Counts.{Counts}
 use Rattle.routine.specs.declared.Passed.{Passed}
 
 -- the end of whatever arm stands at `at`, and the counts there

@@ -3,13 +3,13 @@ use Prim.Native.Nat.{ℕ, zero, suc, _+_}
 use mathlib.Core.List.{List, [], _∷_, _++_}
 use lib.ListN.{length}
 use Rattle.command.specs.Command.{commandAt, sizeOfSimple}
-use Rattle.command.specs.Step.{stepOf}
+use Rattle.faults.specs.Step.{stepOf}
 use Rattle.header.specs.declared.Header.{Header}
 use Rattle.command.specs.declared.Condition.{Condition}
-use Rattle.command.specs.declared.Counts.{Counts}
+use Rattle.faults.specs.declared.Counts.{Counts}
 use Rattle.command.specs.declared.Simple.{Simple}
-use Rattle.command.specs.declared.Fault.{Fault}
-use Rattle.command.specs.declared.Step.{Step}
+use Rattle.faults.specs.declared.Fault.{Fault}
+use Rattle.faults.specs.declared.Step.{Step}
 use Rattle.routine.specs.declared.Walked.{Walked}
 
 -- An arm: its commands, each with its offset and the counts before it, by which it is numbered: an if by its `ifs`, a read by its `reads`, an

@@ -1,8 +1,8 @@
 // The routine: its header and commands, read from bytes, and the check that refuses what is no routine.
 pub mod walks;
 
-use command::Counts;
-use command::Fault;
+use faults::Counts;
+use faults::Fault;
 use header::Head;
 use header::Header;
 ghost use mathlib.Core.Path.{_≡_};

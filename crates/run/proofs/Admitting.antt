@@ -1,4 +1,4 @@
--- What is said of an input list, and whether there is a run, from what the calls answered. Assumes nothing.
+-- Whether there is a run, from what the calls answered. Assumes nothing.
 use mathlib.Core.Path.{_≡_, refl, sym, _∙_}
 use mathlib.Core.List.{List}
 use mathlib.Core.Bool.{Bool, true, false, cond}
@@ -10,34 +10,23 @@ use borrow.Author.Tests.{eq-eqb, ne-eqb, leb-true}
 use Rattle.routine.specs.Routine.{Arm, done}
 use Rattle.routine.specs.Decode.{Decoded, rejected, routine, decode, checked, IsRoutine}
 use Rattle.header.specs.declared.Header.{Header}
-use Rattle.command.specs.declared.Counts.{Counts}
+use Rattle.faults.specs.declared.Counts.{Counts}
 use Rattle.routine.specs.declared.Checked.{Checked}
 use Rattle.routine.specs.declared.Refusal as declared
 use Rattle.routine.proofs.Accepted.{accepted, refused-by, decoded}
 use Rattle.routine.proofs.Counting.{few-ifs}
-use Rattle.command.proofs.Fine.{fine}
-use Rattle.run.specs.Inputs.{inputVariables, firstGreat, listed}
+use Rattle.faults.proofs.Fine.{fine}
+use Rattle.inputs.specs.Inputs.{inputVariables, firstGreat, listed}
 use Rattle.machine.specs.State.{over}
-use Rattle.run.specs.Walker.{Lists, RunsRoutine}
+use Rattle.run.specs.Walker.{RunsRoutine}
+use Rattle.inputs.specs.Scan.{Lists}
 use Rattle.run.specs.Answer.{Admission, refused, runs, byList, byRoutine, admission, withoutTree, admittedRoom, admitted, ranBy, answer, Answers}
-use Rattle.run.specs.declared.Listed.{Listed}
+use Rattle.inputs.specs.declared.Listed.{Listed}
 use Rattle.run.specs.declared.Buffer.{Buffer}
 use Rattle.run.specs.declared.Refusal.{Refusal}
 use Rattle.run.specs.declared.Admitted.{Admitted}
 use Rattle.machine.specs.declared.State.{State}
 use Rattle.run.specs.declared.Ran.{Ran}
-
--- ---- the input list
-
-module _ (bs ins : List ℕ) (h : Header) (k : Counts) where
-  pub miscounted : (length ins ≡ h .parameters + k .reads → ⊥) → Lists bs ins h k Listed.Miscounted
-  unfolding listed
-  miscounted f = record { tells = λ a d. rw (ne-eqb _ _ f) }
-
-  pub counted : length ins ≡ h .parameters + k .reads → (r : Listed)
-      → ((a : Arm) → decode bs ≡ routine h a k → r ≡ firstGreat bs ins 0 (inputVariables h a)) → Lists bs ins h k r
-  unfolding listed
-  counted e r f = record { tells = λ a d. rw (eq-eqb _ _ e) (f a d) }
 
 -- ---- the routine
 

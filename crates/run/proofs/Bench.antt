@@ -10,10 +10,10 @@ use Rattle.bitvec.specs.Relation.{relates}
 use Rattle.bitvec.specs.declared.Whole.{Whole}
 use Rattle.header.specs.Header.{within, sizeOk, firstBad, headerOf}
 use Rattle.command.specs.Command.{commandBy, commandAt}
-use Rattle.command.specs.Step.{inRange, widthsFit, tooMany, simpleStep, stepOf}
+use Rattle.faults.specs.Step.{inRange, widthsFit, tooMany, simpleStep, stepOf}
 use Rattle.routine.specs.Routine.{textOf, armBy}
 use Rattle.routine.specs.Decode.{decode}
-use Rattle.run.specs.Inputs.{variablesFrom, readVariables, firstGreat, listed}
+use Rattle.inputs.specs.Inputs.{variablesFrom, readVariables, firstGreat, listed}
 use Rattle.machine.specs.State.{over, start, indexOf, lies, carry}
 use Rattle.run.specs.Run.{runArm, runOf}
 use Rattle.run.specs.Answer.{Answer, admission, answer}

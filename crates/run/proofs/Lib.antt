@@ -1,5 +1,4 @@
 -- What the proofs of several functions use, and the laws for the layers above.
-mod Lists
 mod Running
 mod Admitting
 mod Bench

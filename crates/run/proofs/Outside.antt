@@ -7,8 +7,8 @@ use native.Mathlib.Omega.{arith}
 use Rattle.bitvec.specs.declared.Whole.{Whole}
 use Rattle.header.specs.Header.{arraySize}
 use Rattle.header.specs.declared.Header.{Header}
-use Rattle.command.specs.Step.{accesses}
-use Rattle.command.specs.declared.Counts.{Counts}
+use Rattle.faults.specs.Step.{accesses}
+use Rattle.faults.specs.declared.Counts.{Counts}
 use Rattle.command.specs.declared.Simple.{Simple}
 use Rattle.routine.specs.Routine.{Arm, done, plain, fork}
 use Rattle.machine.specs.State.{start, take, holds, indexOf, lies, arrive, carry}

@@ -7,21 +7,21 @@ use native.Mathlib.Omega.{arith}
 use lib.ListN.{length}
 use Rattle.command.specs.Command.{sizeOfSimple, commandAt}
 use Rattle.header.specs.Header.{firstCommand}
-use Rattle.command.specs.Step.{after, oneIf, accesses}
+use Rattle.faults.specs.Step.{after, oneIf, accesses}
 use Rattle.routine.specs.Routine.{Arm}
 use Rattle.routine.specs.Decode.{noCounts, IsRoutine}
 use Rattle.routine.specs.Stands.{Stands, SomeArm, SomeIf}
-use Rattle.command.specs.Sound.{Fine}
+use Rattle.faults.specs.Sound.{Fine}
 use Rattle.routine.specs.Passes.{Passes}
 use Rattle.header.specs.declared.Header.{Header}
 use Rattle.command.specs.declared.Condition.{Condition}
-use Rattle.command.specs.declared.Counts.{Counts}
+use Rattle.faults.specs.declared.Counts.{Counts}
 use Rattle.command.specs.declared.Simple.{Simple}
 use Rattle.command.specs.declared.Command.{Command}
 use Rattle.routine.specs.declared.Passed.{Passed}
 use Rattle.routine.proofs.Views.{by-if}
 use Rattle.routine.proofs.Accepted.{decoded}
-use Rattle.command.proofs.Fine.{fine}
+use Rattle.faults.proofs.Fine.{fine}
 use Rattle.routine.proofs.Walking as walking
 use Rattle.routine.proofs.Standing.{if-ends}
 use Rattle.machine.specs.State.{start, take, holds, carry}

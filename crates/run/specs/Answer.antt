@@ -8,11 +8,11 @@ use lib.Dec.{leb}
 use Rattle.routine.specs.Routine.{Arm, done}
 use Rattle.routine.specs.Decode.{Decoded, rejected, routine, decode}
 use Rattle.header.specs.declared.Header.{Header}
-use Rattle.command.specs.declared.Counts.{Counts}
-use Rattle.run.specs.Inputs.{listed}
+use Rattle.faults.specs.declared.Counts.{Counts}
+use Rattle.inputs.specs.Inputs.{listed}
 use Rattle.machine.specs.State.{over}
 use Rattle.run.specs.Run.{runOf}
-use Rattle.run.specs.declared.Listed.{Listed}
+use Rattle.inputs.specs.declared.Listed.{Listed}
 use Rattle.machine.specs.declared.Outcome.{Outcome}
 use Rattle.machine.specs.declared.State.{State}
 use Rattle.run.specs.declared.Buffer.{Buffer}

@@ -3,10 +3,10 @@ use Prim.Native.Nat.{ℕ}
 use mathlib.Core.List.{List, [], _∷_, _++_}
 use mathlib.Core.Bool.{cond}
 use Rattle.bitvec.specs.declared.Whole.{Whole}
-use Rattle.command.specs.Step.{accesses}
+use Rattle.faults.specs.Step.{accesses}
 use Rattle.routine.specs.Routine.{Arm, done, plain, fork}
 use Rattle.header.specs.declared.Header.{Header}
-use Rattle.command.specs.declared.Counts.{Counts}
+use Rattle.faults.specs.declared.Counts.{Counts}
 use Rattle.command.specs.declared.Simple.{Simple}
 use Rattle.machine.specs.State.{start, take, holds, indexOf, carry}
 use Rattle.machine.specs.declared.Outcome.{Outcome}

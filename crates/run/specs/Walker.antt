@@ -3,22 +3,18 @@ use Prim.Native.Nat.{ℕ, _+_}
 use mathlib.Core.Path.{_≡_}
 use mathlib.Core.List.{List}
 use mathlib.Core.Bool.{Bool, true, false, cond}
-use Rattle.command.specs.Step.{oneIf}
-use Rattle.routine.specs.Routine.{Arm, textOf}
+use Rattle.faults.specs.Step.{oneIf}
+use Rattle.routine.specs.Routine.{Arm}
 use Rattle.routine.specs.Decode.{routine, decode}
 use Rattle.routine.specs.Stands.{Stands}
 use Rattle.header.specs.declared.Header.{Header}
 use Rattle.command.specs.declared.Condition.{Condition}
-use Rattle.command.specs.declared.Counts.{Counts}
-use Rattle.run.specs.Inputs.{readBySimple, readVariables, firstGreat, listed}
+use Rattle.faults.specs.declared.Counts.{Counts}
 use Rattle.machine.specs.State.{take, holds}
 use Rattle.run.specs.Run.{runArm, runOf}
-use Rattle.run.specs.declared.Listed.{Listed}
 use Rattle.machine.specs.declared.Outcome.{Outcome}
 use Rattle.machine.specs.declared.State.{State}
 use Rattle.run.specs.declared.Reached.{Reached}
-use Rattle.run.specs.declared.Reads.{Reads}
-use Rattle.command.specs.declared.Command.{Command}
 
 -- an access stopped the run
 abbrev pub isOver : Outcome → Bool
@@ -53,18 +49,3 @@ pub record RunsIf (bs ins : List ℕ) (h : Header) (depth : ℕ) (c : Condition)
 -- the whole run leaves the state r
 pub record RunsRoutine (bs ins : List ℕ) (h : Header) (r : State) : Type 0 where
   pub tells : (a : Arm) (k : Counts) → decode bs ≡ routine h a k → r ≡ runOf bs ins h a .state
-
--- the words of the reads, numbered from the parameters on
-pub record ScansReads (bs ins : List ℕ) (h : Header) (r : Listed) : Type 0 where
-  pub tells : (a : Arm) (k : Counts) → decode bs ≡ routine h a k → r ≡ firstGreat bs ins (h .parameters) (readVariables (textOf a))
-
--- what is said of the input list of a routine with these counts
-pub record Lists (bs ins : List ℕ) (h : Header) (k : Counts) (r : Listed) : Type 0 where
-  pub tells : (a : Arm) → decode bs ≡ routine h a k → r ≡ listed bs ins h a k
-
--- the variable that the command at an offset reads into
-unfoldable pub readBy : Command → Reads
-readBy Command.Missing = Reads.Nothing
-readBy (Command.Close mark) = Reads.Nothing
-readBy (Command.If c) = Reads.Nothing
-readBy (Command.Simple c) = readBySimple c

@@ -1,10 +1,10 @@
 // The run of a routine on an input list.
+mod admission;
 mod buffers;
-pub mod inputs;
 mod runs;
 
 use bitvec::Whole;
-use command::Counts;
+use faults::Counts;
 use header::Header;
 use machine::Side;
 use machine::State;
@@ -15,21 +15,6 @@ pub struct Reached {
     pub next: usize,
     pub counts: Counts,
     pub state: State,
-}
-
-// What is said of an input list.
-pub enum Listed {
-    Accepted,
-    // not one word for each parameter and each read
-    Miscounted,
-    // this word is too great for its variable
-    TooGreat(usize),
-}
-
-// The variable that a read writes, or that a command is no read.
-pub enum Reads {
-    Variable(u8),
-    Nothing,
 }
 
 // A lent buffer of a run.
@@ -69,7 +54,7 @@ pub enum Ran {
 pub fn run(routine: &[u8], inputs: &[u32], values: &mut [u32], trail: &mut [u8]) -> Ran
     ensures { λ r. ⌜ Answers (now (routine .entry)) (now (inputs .entry)) (now (values .entry)) (now (trail .entry)) (now (values .exit)) (now (trail .exit)) r ⌝ }
 {
-    match inputs::admit(routine, inputs, values.len(), trail.len()) {
+    match admission::admit(routine, inputs, values.len(), trail.len()) {
         Admitted::Refused(refusal) => Ran::Refused(refusal),
         Admitted::Runs(h, k) => {
             let state = runs::run_from_start(routine, inputs, h);

@@ -6,7 +6,7 @@ use native.Mathlib.Omega.{arith}
 use Rattle.routine.specs.Routine.{Arm}
 use Rattle.routine.specs.Decode.{routine, decode}
 use Rattle.header.specs.declared.Header.{Header}
-use Rattle.command.specs.declared.Counts.{Counts}
+use Rattle.faults.specs.declared.Counts.{Counts}
 use Rattle.lead.specs.Lead.{Admission, refused, translates, byLead, admission, withoutTree}
 use Rattle.lead.specs.declared.Target.{Target}
 use Rattle.lead.proofs.Leads.{lead-range}

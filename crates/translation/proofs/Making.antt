@@ -8,11 +8,11 @@ use lib.ListN.{length}
 use Rattle.header.specs.Header.{firstCommand}
 use Rattle.routine.specs.Routine.{Arm}
 use Rattle.routine.specs.Decode.{routine, decode, IsRoutine}
-use Rattle.command.specs.Sound.{Fine}
+use Rattle.faults.specs.Sound.{Fine}
 use Rattle.header.specs.declared.Header.{Header}
-use Rattle.command.specs.declared.Counts.{Counts}
+use Rattle.faults.specs.declared.Counts.{Counts}
 use Rattle.routine.proofs.Accepted.{decoded}
-use Rattle.command.proofs.Fine.{fine}
+use Rattle.faults.proofs.Fine.{fine}
 use Rattle.clauses.specs.Clause.{Clause, Appended, Room}
 use Rattle.clauses.specs.declared.Store.{Store}
 use Rattle.clauses.proofs.Appending.{appended-then, appended-words-length, appended-starts-length, room-weaken}
@@ -23,12 +23,12 @@ use Rattle.netlist.proofs.Emitting.{emitted-then, emitted-words-length, emitted
 use Rattle.wiring.specs.Command.{Stretch, after}
 use Rattle.meaning.specs.Walk.{armOf}
 use Rattle.meaning.specs.Translation.{parameterNodes, start, whole, lastClauses, clausesOfAll, sizeOf}
-use Rattle.translation.specs.Walker.{wiresAt, beginning, Arrives, Roomy, ArmMade, ArmRoom, Begun, WholeMade}
+use Rattle.walking.specs.Walker.{wiresAt, beginning, Arrives, Roomy, ArmMade, ArmRoom, Begun, WholeMade}
 use Rattle.meaning.specs.declared.Size.{Size}
 use Rattle.lead.specs.declared.Target.{Target}
-use Rattle.translation.specs.declared.Walk.{Walk}
-use Rattle.wiring.specs.declared.Claim.{Claim}
-use Rattle.translation.proofs.Beginning.{parameters-length}
+use Rattle.walking.specs.declared.Walk.{Walk}
+use Rattle.wires.specs.declared.Claim.{Claim}
+use Rattle.walking.proofs.Beginning.{parameters-length}
 use Rattle.meaning.proofs.Bound.{parameters-few, roomy}
 
 -- nothing is stored yet

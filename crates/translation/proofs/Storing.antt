@@ -9,11 +9,11 @@ use borrow.Author.Tests.{le-leb, lt-leb}
 use Rattle.routine.specs.Routine.{Arm}
 use Rattle.routine.specs.Decode.{routine, decode}
 use Rattle.header.specs.declared.Header.{Header}
-use Rattle.command.specs.declared.Counts.{Counts}
+use Rattle.faults.specs.declared.Counts.{Counts}
 use Rattle.clauses.specs.Clause.{flatten, offsets}
 use Rattle.clauses.proofs.Appending.{length-offsets}
 use Rattle.meaning.specs.Translation.{whole, clausesOfAll, sizeOf}
-use Rattle.translation.specs.Walker.{WholeMade}
+use Rattle.walking.specs.Walker.{WholeMade}
 use Rattle.slices.specs.Lent.{usable}
 use Rattle.translation.specs.Answer.{Fitted}
 use Rattle.translation.specs.declared.Buffer.{Buffer}

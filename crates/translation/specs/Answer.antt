@@ -7,7 +7,7 @@ use lib.Seq.{sets}
 use lib.Dec.{leb}
 use Rattle.slices.specs.Lent.{usable}
 use Rattle.header.specs.declared.Header.{Header}
-use Rattle.command.specs.declared.Counts.{Counts}
+use Rattle.faults.specs.declared.Counts.{Counts}
 use Rattle.routine.specs.Routine.{Arm}
 use Rattle.routine.specs.Decode.{routine, decode}
 use Rattle.clauses.specs.Clause.{flatten, offsets}

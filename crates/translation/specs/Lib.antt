@@ -1,2 +1,1 @@
-pub mod Walker
 pub mod Answer

@@ -1,27 +1,12 @@
 // The translation of a claim into clauses.
-mod parameters;
-mod steps;
-mod walks;
 pub mod wholes;
 
-use command::Counts;
 use lead::Admitted;
 use lead::Target;
 use lead::admit;
 use meaning::Size;
-use netlist::Net;
-use wiring::Reach;
 ghost use Rattle.lead.specs.Lead.{targetOf};
 ghost use Rattle.translation.specs.Answer.{Answers, Demand2};
-
-// Where a translation is: the offset and the counts there, what is emitted, arrival and the claim. Where the claim was made before, offset and
-// counts tell nothing.
-pub struct Walk {
-    pub next: usize,
-    pub counts: Counts,
-    pub net: Net,
-    pub reach: Reach,
-}
 
 // A lent buffer of a translation.
 pub enum Buffer {

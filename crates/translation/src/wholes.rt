@@ -2,9 +2,6 @@
 use crate::Buffer;
 use crate::Refusal;
 use crate::Translated;
-use crate::parameters::begin;
-use crate::parameters::first_walk;
-use crate::walks::arm_made;
 use clauses::Store;
 use clauses::append1;
 use header::Header;
@@ -14,11 +11,14 @@ use meaning::Size;
 use netlist::Net;
 use netlist::opposite;
 use slices::usable;
-use wiring::Claim;
+use walking::parameters::begin;
+use walking::parameters::first_walk;
+use walking::walks::arm_made;
+use wires::Claim;
 ghost use Rattle.routine.specs.Decode.{IsRoutine};
 ghost use Rattle.clauses.specs.Clause.{Appended, Room};
 ghost use Rattle.meaning.specs.Translation.{lastClauses};
-ghost use Rattle.translation.specs.Walker.{WholeMade};
+ghost use Rattle.walking.specs.Walker.{WholeMade};
 ghost use Rattle.translation.specs.Answer.{Fitted};
 
 // The last two clauses: {arrival}, {-side literal}.

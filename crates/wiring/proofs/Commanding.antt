@@ -9,9 +9,9 @@ use lib.Seq.{sets}
 use lib.Dec.{eqb}
 use borrow.Author.Tests.{eq-eqb, ne-eqb}
 use Rattle.header.specs.Header.{width, arraySize}
-use Rattle.command.specs.Step.{accesses}
+use Rattle.faults.specs.Step.{accesses}
 use Rattle.header.specs.declared.Header.{Header}
-use Rattle.command.specs.declared.Counts.{Counts}
+use Rattle.faults.specs.declared.Counts.{Counts}
 use Rattle.command.specs.declared.Simple.{Simple}
 use Rattle.netlist.specs.declared.Net.{Net}
 use Rattle.netlist.proofs.Emitting.{emitted-then}
@@ -20,13 +20,14 @@ use Rattle.bits.specs.Input.{inBit, TakesInputs}
 use Rattle.bits.proofs.Laws.{sized-table}
 use Rattle.relations.specs.Access.{aboveNodes}
 use Rattle.relations.proofs.Access.{above-short}
-use Rattle.wiring.specs.Wires.{Wires, wiresOf, bitsIn, bitsPut, bitsOf, put, arriving, claiming, isMade}
+use Rattle.wires.specs.Wires.{Wires, wiresOf, bitsIn, bitsPut, bitsOf, put, arriving, claiming, isMade}
 use Rattle.wiring.specs.Command.{Stretch, after, still, claimed, passed, readInto, simple}
-use Rattle.operands.specs.Operation.{computeNodes, claimNodes, claimLit, accessNodes, accessArrival}
+use Rattle.operands.specs.Operation.{computeNodes}
+use Rattle.indexes.specs.Index.{claimNodes, claimLit, accessNodes, accessArrival}
 use Rattle.wiring.specs.Makes.{accessOf, Makes}
 use Rattle.lead.specs.declared.Target.{Target}
 use Rattle.wiring.specs.declared.Made.{Made}
-use Rattle.command.proofs.Tests.{not-both}
+use Rattle.faults.proofs.Tests.{not-both}
 
 -- the first w places of an array were stored for variable d
 pub stored : (bs l : List ℕ) (d : ℕ) {r : List ℕ} (f : Bits) (l₁ : List ℕ) (w : ℕ) → l₁ ≡ sets l (32 * d) (take w r) → w ≡ width bs d

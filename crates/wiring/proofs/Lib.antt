@@ -1,5 +1,2 @@
--- What the proofs of several functions use, and the laws for the layers above.
-pub mod Ranges
-mod Copying
+-- What the proofs of several functions use.
 mod Commanding
-mod Branching

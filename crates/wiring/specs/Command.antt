@@ -5,16 +5,17 @@ use mathlib.Core.Bool.{cond}
 use lib.ListN.{length}
 use lib.Dec.{eqb}
 use Rattle.header.specs.Header.{width, arraySize}
-use Rattle.command.specs.Step.{accesses}
+use Rattle.faults.specs.Step.{accesses}
 use Rattle.header.specs.declared.Header.{Header}
-use Rattle.command.specs.declared.Counts.{Counts}
+use Rattle.faults.specs.declared.Counts.{Counts}
 use Rattle.command.specs.declared.Simple.{Simple}
 use Rattle.netlist.specs.Node.{Node}
 use Rattle.bits.specs.Extend.{constBit}
 use Rattle.bits.specs.Input.{inputs, inBit}
 use Rattle.lead.specs.declared.Target.{Target}
-use Rattle.operands.specs.Operation.{convertBits, computeNodes, computeBits, accessNodes, accessArrival, claimNodes, claimLit}
-use Rattle.wiring.specs.Wires.{Wires, bitsOf, put, arriving, claiming}
+use Rattle.operands.specs.Operation.{convertBits, computeNodes, computeBits}
+use Rattle.indexes.specs.Index.{accessNodes, accessArrival, claimNodes, claimLit}
+use Rattle.wires.specs.Wires.{Wires, bitsOf, put, arriving, claiming}
 
 -- a stretch of a translation: the nodes that it makes, and the wires that it leaves
 pub record Stretch : Type 0 where

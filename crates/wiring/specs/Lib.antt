@@ -1,4 +1,2 @@
-pub mod Wires
 pub mod Command
-pub mod Branch
 pub mod Makes

@@ -8,7 +8,7 @@ use lib.ListN.{length, take, drop}
 use lib.Dec.{leb}
 use borrow.Author.Tests.{le-leb, leb-true}
 use Rattle.header.specs.declared.Header.{Header}
-use Rattle.command.specs.declared.Counts.{Counts}
+use Rattle.faults.specs.declared.Counts.{Counts}
 use Rattle.lead.specs.Lead.{admittedLead}
 use Rattle.lead.specs.declared.Admitted.{Admitted}
 use Rattle.lead.specs.declared.Target.{Target}
@@ -16,7 +16,7 @@ use Rattle.lead.proofs.Leads.{InRange, in-range}
 use Rattle.routine.specs.Decode.{IsRoutine, Counted}
 use Rattle.routine.proofs.Accepted.{decoded}
 use Rattle.routine.proofs.Counting.{few-accesses}
-use Rattle.command.proofs.Fine.{fine}
+use Rattle.faults.proofs.Fine.{fine}
 use Rattle.witness.specs.Lead.{targetIn, decisionsIn, inputCount, proofAt, byAdmitted, leadOf}
 use Rattle.witness.specs.declared.Refusal.{Refusal}
 use Rattle.witness.specs.declared.Opened.{Opened}

@@ -4,13 +4,13 @@ use mathlib.Core.List.{List}
 use Prim.Native.Nat.{ℕ, _+_}
 use lib.ListN.{length, take}
 use Rattle.header.specs.declared.Header.{Header}
-use Rattle.command.specs.declared.Counts.{Counts}
+use Rattle.faults.specs.declared.Counts.{Counts}
 use Rattle.routine.specs.Routine.{Arm}
 use Rattle.routine.specs.Decode.{routine, decode}
-use Rattle.run.specs.Inputs.{listed}
+use Rattle.inputs.specs.Inputs.{listed}
 use Rattle.run.specs.Run.{runOf}
-use Rattle.run.specs.Walker.{Lists}
-use Rattle.run.specs.declared.Listed.{Listed}
+use Rattle.inputs.specs.Scan.{Lists}
+use Rattle.inputs.specs.declared.Listed.{Listed}
 use Rattle.course.specs.Course.{course}
 use Rattle.course.specs.Walker.{FollowsRoutine}
 use Rattle.course.specs.declared.Course.{Course}

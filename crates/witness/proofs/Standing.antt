@@ -8,14 +8,14 @@ use borrow.Author.Tests.{eqb-true}
 use Rattle.bitvec.specs.declared.Whole.{Whole}
 use Rattle.header.specs.Header.{arraySize}
 use Rattle.header.specs.declared.Header.{Header}
-use Rattle.command.specs.declared.Counts.{Counts}
+use Rattle.faults.specs.declared.Counts.{Counts}
 use Rattle.routine.specs.Routine.{Arm}
 use Rattle.machine.specs.Side.{sideOf}
 use Rattle.machine.specs.State.{lies}
 use Rattle.machine.specs.declared.Lies.{Lies}
 use Rattle.machine.specs.declared.Side.the-variants.{Below, Above}
-use Rattle.run.specs.Inputs.{listed}
-use Rattle.run.specs.declared.Listed.{Listed}
+use Rattle.inputs.specs.Inputs.{listed}
+use Rattle.inputs.specs.declared.Listed.{Listed}
 use Rattle.course.specs.declared.Course.{Course}
 use Rattle.lead.specs.declared.Target.{Target}
 use Rattle.witness.specs.Lead.{witnessIn, leadOf}

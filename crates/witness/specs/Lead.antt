@@ -6,7 +6,7 @@ use lib.ListN.{length, take, drop}
 use lib.Dec.{leb}
 use Rattle.slices.specs.Bytes.{entry, word}
 use Rattle.header.specs.declared.Header.{Header}
-use Rattle.command.specs.declared.Counts.{Counts}
+use Rattle.faults.specs.declared.Counts.{Counts}
 use Rattle.lead.specs.Lead.{targetOf, admittedLead}
 use Rattle.lead.specs.declared.Target.{Target}
 use Rattle.lead.specs.declared.Admitted.{Admitted}

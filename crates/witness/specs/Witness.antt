@@ -7,15 +7,15 @@ use lib.ListN.{length}
 use lib.Dec.{eqb}
 use Rattle.header.specs.Header.{arraySize}
 use Rattle.header.specs.declared.Header.{Header}
-use Rattle.command.specs.declared.Counts.{Counts}
+use Rattle.faults.specs.declared.Counts.{Counts}
 use Rattle.routine.specs.Routine.{Arm}
 use Rattle.routine.specs.Decode.{routine, decode}
 use Rattle.machine.specs.Side.{sideNumber}
 use Rattle.machine.specs.State.{lies}
 use Rattle.machine.specs.declared.Lies.{Lies}
-use Rattle.run.specs.Inputs.{listed}
+use Rattle.inputs.specs.Inputs.{listed}
 use Rattle.run.specs.Run.{runOf}
-use Rattle.run.specs.declared.Listed.{Listed}
+use Rattle.inputs.specs.declared.Listed.{Listed}
 use Rattle.course.specs.Course.{course}
 use Rattle.course.specs.declared.Course.{Course}
 use Rattle.lead.specs.declared.Target.{Target}

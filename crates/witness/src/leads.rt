@@ -1,7 +1,7 @@
 // The lead of a report: 11, then 12.
 use crate::Opened;
 use crate::Refusal;
-use command::Counts;
+use faults::Counts;
 use header::Header;
 use lead::Admitted;
 use lead::Target;

@@ -1,10 +1,10 @@
 // A report as far as its proof: the lead, the witness's inputs in it, and the witness's run.
-mod inputs;
 pub mod leads;
 mod settling;
+mod words;
 
 use bitvec::Whole;
-use command::Counts;
+use faults::Counts;
 use header::Header;
 use lead::Target;
 ghost use Rattle.routine.specs.Decode.{Counted};

@@ -1,19 +1,19 @@
 // The witness's run: 10, 13 or 14, then 15.
 use crate::Refusal;
 use crate::Witness;
-use crate::inputs::words_from;
 use crate::leads::input_count;
-use command::Counts;
+use crate::words::words_from;
 use course::Course;
 use course::follow;
+use faults::Counts;
 use header::Header;
 use header::size_of_array;
+use inputs::Listed;
+use inputs::check_inputs;
 use lead::Target;
 use machine::Lies;
 use machine::Side;
 use machine::states::lies_at;
-use run::Listed;
-use run::inputs::check_inputs;
 ghost use mathlib.Core.Path.{_≡_};
 ghost use Prim.Native.Nat.{_≤_};
 ghost use lib.ListN.{length};

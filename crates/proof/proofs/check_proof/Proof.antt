@@ -2,7 +2,7 @@ use Prim.Native.Nat.{ℕ, _-_}
 use mathlib.Core.Path.{_≡_, refl, sym, _∙_}
 use borrow.Author.Needs.{needs}
 use lib.ListN.{length, length-replicate}
-use Rattle.proof.specs.Answer.{limitsOf}
+use Rattle.progress.specs.Lent.{limitsOf}
 use Rattle.proof.proofs.Running.{Going, outcomeOf, going-start, going-less, going-more, going-stop, answered, refuted}
 use Rattle.proof.proofs.check_proof.Statement.{statement}
 use Rattle.proof.proofs.check_proof.Tie as tie

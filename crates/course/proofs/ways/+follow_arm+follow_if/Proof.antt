@@ -17,7 +17,7 @@ use Rattle.course.proofs.ways.follow_if.Reads as follow-if
 use Rattle.course.proofs.ways.follow_if.Kinds as follow-if-kinds
 use Rattle.course.proofs.ways.+follow_arm+follow_if.Lts-follow_if as follow-if-lts
 use Rattle.command.proofs.commands.command_at.Reads as command-at-reads
-use Rattle.command.proofs.steps.counts_after_if.Reads as counts-after-if-reads
+use Rattle.faults.proofs.steps.counts_after_if.Reads as counts-after-if-reads
 use Rattle.course.proofs.ways.arm_at.Reads as arm-at-reads
 use Rattle.course.proofs.ways.is_done.Reads as is-done-reads
 use Rattle.course.proofs.ways.keeps_to.Reads as keeps-to-reads

@@ -2,7 +2,7 @@
 use denote.Ref.{now}
 use borrow.Author.Tests.{ne-eqb}
 use Rattle.operands.specs.Operation.{computeNodes, computeBits}
-use Rattle.operands.proofs.Parts.{part-width, part-length}
+use Rattle.bits.proofs.Parts.{part-width, part-length}
 use borrow.Author.Needs.{needs}
 use Rattle.operands.proofs.operations.compute.Statement.{statement}
 use Rattle.operands.proofs.operations.compute.Tie as tie

@@ -1,6 +1,6 @@
 -- The relation, on the places of its operands.
 use denote.Ref.{now}
-use Rattle.operands.proofs.Parts.{part-width, part-length}
+use Rattle.bits.proofs.Parts.{part-width, part-length}
 use borrow.Author.Needs.{needs}
 use Rattle.operands.proofs.operations.condition.Statement.{statement}
 use Rattle.operands.proofs.operations.condition.Tie as tie

@@ -1,6 +1,6 @@
 -- The operand is read at the places of its variable.
 use denote.Ref.{now}
-use Rattle.operands.proofs.Parts.{part-width, part-length, part-top}
+use Rattle.bits.proofs.Parts.{part-width, part-length, part-top}
 use borrow.Author.Needs.{needs}
 use Rattle.operands.proofs.operations.convert.Statement.{statement}
 use Rattle.operands.proofs.operations.convert.Tie as tie

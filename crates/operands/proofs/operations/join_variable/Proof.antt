@@ -1,6 +1,6 @@
 -- The two arms' literals are read at the places of the variable.
 use denote.Ref.{now}
-use Rattle.operands.proofs.Parts.{part-width, part-length}
+use Rattle.bits.proofs.Parts.{part-width, part-length}
 use borrow.Author.Needs.{needs}
 use Rattle.operands.proofs.operations.join_variable.Statement.{statement}
 use Rattle.operands.proofs.operations.join_variable.Tie as tie

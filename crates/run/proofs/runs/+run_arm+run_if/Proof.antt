@@ -9,8 +9,8 @@ use borrow.Fn.PlainCycle.{Measures, is, falls, and}
 use Rattle.command.proofs.Sizes.{simple-size}
 use Rattle.command.proofs.commands.command_at.Reads as command-at-reads
 use Rattle.command.proofs.commands.simple_size.Reads as simple-size-reads
-use Rattle.command.proofs.steps.counts_after.Reads as counts-after-reads
-use Rattle.command.proofs.steps.counts_after_if.Reads as counts-after-if-reads
+use Rattle.faults.proofs.steps.counts_after.Reads as counts-after-reads
+use Rattle.faults.proofs.steps.counts_after_if.Reads as counts-after-if-reads
 use Rattle.routine.proofs.walks.pass_arm.Reads as pass-arm-reads
 use Rattle.run.specs.declared.Reached.{Reached}
 use Rattle.routine.proofs.Standing.{not-missing, close-room, simple-known, some-if, else-room, second-falls}

@@ -1,7 +1,7 @@
 use mathlib.Core.Path.{refl, _∙_}
 use Rattle.clauses.proofs.Appending.{appended-words-length, appended-starts-length}
 use Rattle.translation.proofs.Making.{fine-here, begin-ready, whole-roomy, arm-words, arm-starts, claim-room, some-variables, whole-made}
-use Rattle.translation.proofs.Translating.{arm-from}
+use Rattle.walking.proofs.Translating.{arm-from}
 use borrow.Author.Needs.{needs}
 use native.Mathlib.Omega.{arith}
 use denote.Ref.{now}

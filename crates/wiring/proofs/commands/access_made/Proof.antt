@@ -1,9 +1,9 @@
 use mathlib.Core.Path.{sym, _∙_}
 use Rattle.netlist.proofs.Emitting.{ready-weaken}
-use Rattle.wiring.proofs.Ranges.{ranged}
+use Rattle.wires.proofs.Ranges.{ranged}
 use Rattle.wiring.proofs.Commanding.{claim-at, pass-at, makes-as}
-use Rattle.wiring.specs.Wires.{wiresOf, reaching}
-use Rattle.wiring.specs.declared.Claim.{Claim}
+use Rattle.wires.specs.Wires.{wiresOf, reaching}
+use Rattle.wires.specs.declared.Claim.{Claim}
 use borrow.Author.Needs.{needs}
 use native.Mathlib.Omega.{arith}
 use denote.Ref.{now}

@@ -1,6 +1,6 @@
-use Rattle.command.proofs.Fine.{compute-fine}
+use Rattle.faults.proofs.Fine.{compute-fine}
 use Rattle.netlist.proofs.Emitting.{ready-weaken}
-use Rattle.wiring.proofs.Ranges.{ranged}
+use Rattle.wires.proofs.Ranges.{ranged}
 use Rattle.wiring.proofs.Commanding.{stored, computed-at}
 use Rattle.bits.proofs.Laws.{table-length}
 use borrow.Author.Needs.{needs}

@@ -1,5 +1,5 @@
-use Rattle.command.proofs.Fine.{convert-fine}
-use Rattle.wiring.proofs.Ranges.{ranged}
+use Rattle.faults.proofs.Fine.{convert-fine}
+use Rattle.wires.proofs.Ranges.{ranged}
 use Rattle.wiring.proofs.Commanding.{stored}
 use Rattle.bits.proofs.Laws.{table-length}
 use borrow.Author.Needs.{needs}

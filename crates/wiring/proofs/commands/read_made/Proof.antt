@@ -1,9 +1,9 @@
 use mathlib.Core.Path.{sym, ap, _∙_}
-use Rattle.command.proofs.Fine.{read-fine}
+use Rattle.faults.proofs.Fine.{read-fine}
 use Rattle.netlist.proofs.Emitting.{ready-after, ready-weaken}
-use Rattle.wiring.proofs.Ranges.{ranged}
+use Rattle.wires.proofs.Ranges.{ranged}
 use Rattle.wiring.proofs.Commanding.{stored, access-few, read-claimed, read-goes, makes-as, read-makes}
-use Rattle.wiring.specs.Wires.{Wires, wiresOf, isMade}
+use Rattle.wires.specs.Wires.{Wires, wiresOf, isMade}
 use Rattle.bits.proofs.Laws.{table-length}
 use borrow.Author.Needs.{needs}
 use native.Mathlib.Omega.{arith}

@@ -1,10 +1,10 @@
 use mathlib.Core.Path.{ap}
 use mathlib.Core.List.{List}
 use Prim.Native.Nat.{ℕ}
-use Rattle.command.proofs.Fine.{write-fine}
+use Rattle.faults.proofs.Fine.{write-fine}
 use Rattle.netlist.proofs.Emitting.{emitted-none}
 use Rattle.wiring.proofs.Commanding.{write-is, makes-as}
-use Rattle.wiring.specs.Wires.{wiresOf}
+use Rattle.wires.specs.Wires.{wiresOf}
 use Rattle.wiring.specs.Command.{simple}
 use borrow.Author.Needs.{needs}
 use denote.Ref.{now}

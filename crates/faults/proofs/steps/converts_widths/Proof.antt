@@ -1,0 +1,15 @@
+use borrow.Author.Tests.{ne-eqb}
+use Rattle.faults.proofs.steps.converts_widths.Statement.{statement}
+use Rattle.faults.proofs.steps.converts_widths.Tie as tie
+
+returns : tie.Need-returns
+returns c = rw (c .match .keys1)
+
+returns-2 : tie.Need-returns-2
+returns-2 c = rw (c .match .keys2)
+
+returns-3 : tie.Need-returns-3
+returns-3 c = simp (ne-eqb _ _ (c .match .rest .0 .1), ne-eqb _ _ (c .match .rest .1))
+
+pub converts-widths-spec : {M : Type 1} → statement M
+converts-widths-spec = tie.close (tie.spec returns returns-2 returns-3)

@@ -1,0 +1,97 @@
+-- What a command is where it stands: refusals 3 to 7, in their order.
+use Prim.Native.Nat.{ℕ, _+_, _^_}
+use mathlib.Core.List.{List}
+use mathlib.Core.Bool.{Bool, true, false, cond, _&&_}
+use lib.Dec.{ltb, leb, eqb}
+use Rattle.header.specs.Header.{width}
+use Rattle.header.specs.declared.Header.{Header}
+use Rattle.command.specs.declared.Condition.{Condition}
+use Rattle.faults.specs.declared.Counts.{Counts}
+use Rattle.command.specs.declared.Simple.{Simple}
+use Rattle.command.specs.declared.Command.{Command}
+use Rattle.faults.specs.declared.Fault.{Fault}
+use Rattle.faults.specs.declared.Step.{Step}
+
+-- the operands and the constant are in range
+unfoldable pub inRange : List ℕ → Header → Simple → Bool
+inRange bs h (Simple.Set d c) = ltb d (h .variables) && ltb c (2 ^ width bs d)
+inRange bs h (Simple.Convert op d s) = ltb d (h .variables) && ltb s (h .variables)
+inRange bs h (Simple.Compute op d s t) = ltb d (h .variables) && ltb s (h .variables) && ltb t (h .variables)
+inRange bs h (Simple.Read d array i) = ltb d (h .variables) && ltb array (h .arrays) && ltb i (h .variables)
+inRange bs h (Simple.Write array i s) = ltb array (h .arrays) && ltb i (h .variables) && ltb s (h .variables)
+
+-- the widths of d and s: equal for copy, d narrower for cut, d wider for the extensions
+abbrev pub converts : (op d s : ℕ) → Bool
+converts op d s = cond (eqb op 0x02) (eqb d s) (cond (eqb op 0x06) (ltb d s) (ltb s d))
+
+-- the widths are as the command asks
+unfoldable pub widthsFit : List ℕ → Simple → Bool
+widthsFit bs (Simple.Set d c) = true
+widthsFit bs (Simple.Convert op d s) = converts op (width bs d) (width bs s)
+widthsFit bs (Simple.Compute op d s t) = eqb (width bs d) (width bs s) && eqb (width bs d) (width bs t)
+widthsFit bs (Simple.Read d array i) = true
+widthsFit bs (Simple.Write array i s) = true
+
+-- the number of accesses, reads and writes
+abbrev pub accesses : Counts → ℕ
+accesses k = k .reads + k .writes
+
+-- reads and writes are the accesses
+abbrev pub isAccess : Simple → Bool
+isAccess (Simple.Set d c) = false
+isAccess (Simple.Convert op d s) = false
+isAccess (Simple.Compute op d s t) = false
+isAccess (Simple.Read d array i) = true
+isAccess (Simple.Write array i s) = true
+
+-- the 65th access
+unfoldable pub tooMany : Simple → Counts → Bool
+tooMany c k = isAccess c && leb 64 (accesses k)
+
+-- the counts after a command
+abbrev pub after : Simple → Counts → Counts
+after (Simple.Set d c) k = k
+after (Simple.Convert op d s) k = k
+after (Simple.Compute op d s t) k = k
+after (Simple.Read d array i) k = record { ifs = k .ifs; reads = k .reads + 1; writes = k .writes }
+after (Simple.Write array i s) k = record { ifs = k .ifs; reads = k .reads; writes = k .writes + 1 }
+
+-- refused with the fault, unless the test holds
+abbrev pub unless : Bool → Fault → Step → Step
+unless test fault go = cond test go (Step.Refused fault)
+
+-- refused with the fault, if the test holds
+abbrev pub refusing : Bool → Fault → Step → Step
+refusing test fault go = cond test (Step.Refused fault) go
+
+-- a command that is no part of an if, after the counts k
+unfoldable pub simpleStep : List ℕ → Header → Simple → Counts → Step
+simpleStep bs h c k =
+    unless (inRange bs h c) Fault.Operand
+    (unless (widthsFit bs c) Fault.Widths
+    (refusing (tooMany c k) Fault.TooMany
+    (Step.Plain c (after c k))))
+
+-- the counts after an if was met
+abbrev pub oneIf : Counts → Counts
+oneIf k = record { ifs = k .ifs + 1; reads = k .reads; writes = k .writes }
+
+-- the relation and the operands of an if are in range
+abbrev pub conditionInRange : Header → Condition → Bool
+conditionInRange h c = ltb (c .relation) 10 && ltb (c .s) (h .variables) && ltb (c .t) (h .variables)
+
+-- an if inside `depth` others, after the counts k: depth 9 and the 33rd if are refused
+unfoldable pub ifStep : List ℕ → Header → (depth : ℕ) → Condition → Counts → Step
+ifStep bs h depth c k =
+    unless (conditionInRange h c) Fault.Operand
+    (unless (eqb (width bs (c .s)) (width bs (c .t))) Fault.Widths
+    (unless (ltb depth 8) Fault.Misplaced
+    (unless (ltb (k .ifs) 32) Fault.TooMany
+    (Step.Fork c (oneIf k)))))
+
+-- the command inside `depth` ifs, in an arm that the command byte `close` ends, after the counts k
+unfoldable pub stepOf : List ℕ → Header → (depth close : ℕ) → Command → Counts → Step
+stepOf bs h depth close Command.Missing k = Step.Refused Fault.Unknown
+stepOf bs h depth close (Command.Close mark) k = unless (eqb mark close) Fault.Misplaced Step.Closed
+stepOf bs h depth close (Command.If c) k = ifStep bs h depth c k
+stepOf bs h depth close (Command.Simple c) k = simpleStep bs h c k

@@ -1,0 +1,142 @@
+use mathlib.Core.Path.{refl, sym, _∙_}
+use Prim.Native.Nat.{_≤_, _-_, _+_}
+use native.Mathlib.Omega.{arith}
+use lib.ListN.{length}
+use borrow.Author.Needs.{needs}
+use borrow.Author.Tests.{not-true, not-false}
+use Rattle.inputs.proofs.Lists.{Scanning, scan-start, text-from, scan-room, scan-past, scan-fits, scan-great, scan-over, scans}
+use Rattle.inputs.proofs.check_reads.Statement.{statement}
+use Rattle.inputs.proofs.check_reads.Tie as tie
+
+abbrev Inv-loop : tie.InvT-loop
+Inv-loop bytes inputs at₀ n₀ at n = (at₀ ≤ at) × Scanning bytes inputs at₀ n₀ at n × (n + at₀ ≤ n₀ + at)
+
+abbrev μ-loop : tie.MeasureT-loop
+μ-loop bytes inputs at₀ n₀ at n = length bytes - at
+
+first-command-requires : tie.Need-first-command-requires Inv-loop μ-loop
+first-command-requires c κs = search needs
+
+cast-n : tie.Need-cast-n Inv-loop μ-loop
+cast-n c = search needs
+
+loop-holds : tie.Need-loop-holds Inv-loop μ-loop
+loop-holds c = (omega arith, scan-start _ _ _ _, omega arith)
+
+command-at-requires : tie.Need-command-at-requires Inv-loop μ-loop
+command-at-requires c κs = search needs
+
+read-by-requires : tie.Need-read-by-requires Inv-loop μ-loop
+read-by-requires c κs = search needs
+
+enum-told : tie.Need-enum-told Inv-loop μ-loop
+enum-told c = search needs
+
+size-of-requires : tie.Need-size-of-requires Inv-loop μ-loop
+size-of-requires c κs = search needs
+
+add-at : tie.Need-add-at Inv-loop μ-loop
+add-at c =
+    let l = c .before .before .before .before .before .before in
+    let f = l .before .before in
+    let is = c .before .before .before .before .command-at .ensures in
+    let s = scan-room _ _ _ _ _ _ (l .loop .inv .1) _ is (omega arith) _ (text-from _ _ (f .before .before .before .pre) _ (f .first-command .ensures)) in
+    omega arith
+
+loop-less : tie.Need-loop-less Inv-loop μ-loop
+loop-less c =
+    let l = c .before .before .before .before .before .before in
+    let f = l .before .before in
+    let is = c .before .before .before .before .command-at .ensures in
+    let s = scan-room _ _ _ _ _ _ (l .loop .inv .1) _ is (omega arith) _ (text-from _ _ (f .before .before .before .pre) _ (f .first-command .ensures)) in
+    omega arith
+
+loop-again : tie.Need-loop-again Inv-loop μ-loop
+loop-again c =
+    let l = c .before .before .before .before .before .before in
+    let f = l .before .before in
+    let is = c .before .before .before .before .command-at .ensures in
+    let s = scan-room _ _ _ _ _ _ (l .loop .inv .1) _ is (omega arith) _ (text-from _ _ (f .before .before .before .pre) _ (f .first-command .ensures)) in
+    let g = scan-past _ _ _ _ _ _ (l .loop .inv .1) _ is (omega arith) _ (c .before .before .before .read-by .ensures) (c .before .enum-told .given .1) in
+    (omega arith, rw (c .size-of .ensures) g, omega arith)
+
+enum-known-v : tie.Need-enum-known-v Inv-loop μ-loop
+enum-known-v c = search needs
+
+fits-requires : tie.Need-fits-requires Inv-loop μ-loop
+fits-requires c κs = search needs
+
+returns : tie.Need-returns Inv-loop μ-loop
+returns c =
+    let l = c .before .before .before .before .before .before .before .before in
+    scans _ _ _ _ _ _ (l .before .before .first-command .ensures) refl
+    (scan-great _ _ _ _ _ _ (l .loop .inv .1) _ (c .before .before .before .before .before .before .command-at .ensures) (omega arith) _ (c .before .before .before .before .before .read-by .ensures) _ (c .before .before .before .v .given .1)
+    (sym (c .before .fits2 .ensures) ∙ not-true _ (c .if1 .taken)))
+
+size-of-requires-2 : tie.Need-size-of-requires-2 Inv-loop μ-loop
+size-of-requires-2 c κs = search needs
+
+add-at-2 : tie.Need-add-at-2 Inv-loop μ-loop
+add-at-2 c =
+    let l = c .before .before .before .before .before .before .before .before .before in
+    let f = l .before .before in
+    let is = c .before .before .before .before .before .before .before .command-at .ensures in
+    let s = scan-room _ _ _ _ _ _ (l .loop .inv .1) _ is (omega arith) _ (text-from _ _ (f .before .before .before .pre) _ (f .first-command .ensures)) in
+    omega arith
+
+add-n : tie.Need-add-n Inv-loop μ-loop
+add-n c =
+    let l = c .before .before .before .before .before .before .before .before .before in
+    let f = l .before .before in
+    let is = c .before .before .before .before .before .before .before .command-at .ensures in
+    let s = scan-room _ _ _ _ _ _ (l .loop .inv .1) _ is (omega arith) _ (text-from _ _ (f .before .before .before .pre) _ (f .first-command .ensures)) in
+    omega arith
+
+loop-less-2 : tie.Need-loop-less-2 Inv-loop μ-loop
+loop-less-2 c =
+    let l = c .before .before .before .before .before .before .before .before .before in
+    let f = l .before .before in
+    let is = c .before .before .before .before .before .before .before .command-at .ensures in
+    let s = scan-room _ _ _ _ _ _ (l .loop .inv .1) _ is (omega arith) _ (text-from _ _ (f .before .before .before .pre) _ (f .first-command .ensures)) in
+    omega arith
+
+loop-again-2 : tie.Need-loop-again-2 Inv-loop μ-loop
+loop-again-2 c =
+    let l = c .before .before .before .before .before .before .before .before .before in
+    let f = l .before .before in
+    let is = c .before .before .before .before .before .before .before .command-at .ensures in
+    let s = scan-room _ _ _ _ _ _ (l .loop .inv .1) _ is (omega arith) _ (text-from _ _ (f .before .before .before .pre) _ (f .first-command .ensures)) in
+    let e = sym (c .before .before .fits2 .ensures) ∙ not-false _ (c .before .if1 .left) in
+    let g = scan-fits _ _ _ _ _ _ (l .loop .inv .1) _ is (omega arith) _ (c .before .before .before .before .before .before .read-by .ensures) _ (c .before .before .before .before .v .given .1) e in
+    (omega arith, rw (c .size-of2 .ensures) g, omega arith)
+
+returns-2 : tie.Need-returns-2 Inv-loop μ-loop
+returns-2 c =
+    let l = c .before in
+    scans _ _ _ _ _ _ (l .before .before .first-command .ensures) refl (scan-over _ _ _ _ _ _ (l .loop .inv .1) (omega arith))
+
+pub check-reads-spec : {M : Type 1} → statement M
+check-reads-spec =
+    tie.close
+    (tie.spec
+    Inv-loop
+    μ-loop
+    first-command-requires
+    cast-n
+    loop-holds
+    command-at-requires
+    read-by-requires
+    enum-told
+    size-of-requires
+    add-at
+    loop-less
+    loop-again
+    enum-known-v
+    fits-requires
+    returns
+    size-of-requires-2
+    add-at-2
+    add-n
+    loop-less-2
+    loop-again-2
+    returns-2)

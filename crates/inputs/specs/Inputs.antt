@@ -1,0 +1,53 @@
+-- The input list: one word for each parameter, then one for each read in text order, each below 2 to the width of its variable.
+use Prim.Native.Nat.{ℕ, zero, suc, _+_, _^_}
+use mathlib.Core.List.{List, [], _∷_, _++_}
+use mathlib.Core.Bool.{cond}
+use lib.ListN.{length}
+use lib.Dec.{ltb, eqb}
+use Rattle.slices.specs.Bytes.{entry}
+use Rattle.header.specs.Header.{width}
+use Rattle.routine.specs.Routine.{Arm, textOf}
+use Rattle.header.specs.declared.Header.{Header}
+use Rattle.faults.specs.declared.Counts.{Counts}
+use Rattle.command.specs.declared.Simple.{Simple}
+use Rattle.inputs.specs.declared.Reads.{Reads}
+use Rattle.inputs.specs.declared.Listed.{Listed}
+
+-- n variables from v on
+unfoldable pub variablesFrom : (v n : ℕ) → List ℕ
+variablesFrom v zero = []
+variablesFrom v (suc n) = v ∷ variablesFrom (v + 1) n
+
+-- the variable that a command reads into
+abbrev pub readBySimple : Simple → Reads
+readBySimple (Simple.Set d c) = Reads.Nothing
+readBySimple (Simple.Convert op d s) = Reads.Nothing
+readBySimple (Simple.Compute op d s t) = Reads.Nothing
+readBySimple (Simple.Read d array i) = Reads.Variable d
+readBySimple (Simple.Write array i s) = Reads.Nothing
+
+-- that variable, if any, before the others
+abbrev pub joined : Reads → List ℕ → List ℕ
+joined Reads.Nothing vs = vs
+joined (Reads.Variable v) vs = v ∷ vs
+
+-- the variables that the reads among the commands write
+unfoldable pub readVariables : List Simple → List ℕ
+readVariables [] = []
+readVariables (c ∷ cs) = joined (readBySimple c) (readVariables cs)
+
+-- the variables of the input words: the parameters, then the one that each read writes, in text order
+abbrev pub inputVariables : Header → Arm → List ℕ
+inputVariables h a = variablesFrom 0 (h .parameters) ++ readVariables (textOf a)
+
+-- the first word, from number n on, that is too great for its variable
+unfoldable pub firstGreat : (bs ins : List ℕ) (n : ℕ) → List ℕ → Listed
+firstGreat bs ins n [] = Listed.Accepted
+firstGreat bs ins n (v ∷ vs) = cond (ltb (entry ins n) (2 ^ width bs v)) (firstGreat bs ins (n + 1) vs) (Listed.TooGreat n)
+
+-- what is said of an input list: 9, then 10. It is accepted when it passes both.
+unfoldable pub listed : (bs ins : List ℕ) → Header → Arm → Counts → Listed
+listed bs ins h a k =
+    cond (eqb (length ins) (h .parameters + k .reads))
+    (firstGreat bs ins 0 (inputVariables h a))
+    Listed.Miscounted

@@ -1,0 +1,9 @@
+-- What the proofs of several functions use, and the laws for the layers above.
+pub mod Storing
+mod Stopping
+mod Writing
+pub mod Trailing
+mod Taking
+mod Ending
+mod Hinting
+mod Closing

@@ -1,0 +1,32 @@
+-- A command that is turned down leaves everything as it was. Assumes nothing.
+use Prim.Native.Nat.{ℕ}
+use mathlib.Core.Path.{_≡_, refl, sym, ap, subst, _∙_}
+use mathlib.Core.List.{List}
+use mathlib.Core.Bool.{true}
+use Rattle.step.specs.Phase.{going, inLiterals, conflicted}
+use Rattle.step.specs.Stop.{refusedBy}
+use Rattle.progress.specs.State.{Next, stop}
+use Rattle.progress.specs.Held.{nextIs, Kept, Did}
+use Rattle.step.specs.declared.Phase.{Phase}
+use Rattle.step.specs.declared.Progress.{Progress}
+use Rattle.step.specs.declared.Refusal.{Refusal}
+use Rattle.step.specs.declared.Turn.{Turn}
+use Rattle.step.specs.declared.Verdict.{Verdict}
+
+pub stopped : (w s m : List ℕ) (p : Progress) (k : ℕ) (v : Refusal) (t : Turn) (n : Next) → t ≡ refusedBy v → n ≡ stop (Verdict.Refused v) → Did w s m p w s m k t n
+stopped w s m p k v t n q e = record {
+  same = ap (nextIs w s m) q ∙ sym e;
+  kept = subst (Kept w s m p w s m k) (sym q) (refl, refl, refl);
+}
+
+pub literals-go : (f : Phase) → inLiterals f ≡ true → going f ≡ true
+literals-go Phase.Literals e = refl
+literals-go Phase.Hints e = refl
+literals-go Phase.Conflict e = refl
+literals-go Phase.Empty e = e
+
+pub conflict-goes : (f : Phase) → conflicted f ≡ true → going f ≡ true
+conflict-goes Phase.Literals e = refl
+conflict-goes Phase.Hints e = refl
+conflict-goes Phase.Conflict e = refl
+conflict-goes Phase.Empty e = e

@@ -1,0 +1,4 @@
+pub mod State
+pub mod Check
+pub mod Lent
+pub mod Held

@@ -1,0 +1,43 @@
+// Whether there is a run.
+use crate::Admitted;
+use crate::Buffer;
+use crate::Refusal;
+use faults::Counts;
+use header::Header;
+use inputs::Listed;
+use inputs::check_inputs;
+use routine::Checked;
+ghost use mathlib.Core.Path.{_≡_};
+ghost use Rattle.run.specs.Answer.{admitted, admittedRoom};
+
+// 16: a value for each variable, a trail byte for each if.
+fn admit_room(h: Header, k: Counts, values: usize, trail: usize) -> Admitted
+    ensures { λ r. ⌜ r ≡ admittedRoom values trail h k ⌝ }
+{
+    if values < h.variables as usize {
+        return Admitted::Refused(Refusal::TooSmall(Buffer::Values));
+    }
+    if trail < k.ifs as usize {
+        return Admitted::Refused(Refusal::TooSmall(Buffer::Trail));
+    }
+    Admitted::Runs(h, k)
+}
+
+// Whether there is a run: 1 to 8, then 9, 10 and 16.
+pub fn admit(routine: &[u8], inputs: &[u32], values: usize, trail: usize) -> Admitted
+    ensures { λ r. ⌜ r ≡ admitted (now (routine .entry)) (now (inputs .entry)) values trail ⌝ }
+{
+    match routine::check(routine) {
+        Checked::Refused(refusal) => Admitted::Refused(Refusal::Routine(refusal)),
+        Checked::Accepted { header, counts } => match check_inputs(
+            routine,
+            inputs,
+            header,
+            counts,
+        ) {
+            Listed::Accepted => admit_room(header, counts, values, trail),
+            Listed::Miscounted => Admitted::Refused(Refusal::InputCount(inputs.len())),
+            Listed::TooGreat(n) => Admitted::Refused(Refusal::Input(n)),
+        },
+    }
+}

@@ -1,0 +1,105 @@
+use mathlib.Core.Path.{_≡_, sym, ap, _∙_}
+use mathlib.Core.List.{List, []}
+use Prim.Native.Nat.{ℕ, _-_, _≤_}
+use lib.ListN.{length, length-replicate}
+use Rattle.bits.proofs.Laws.{table-length}
+use Rattle.netlist.specs.Emit.{Emitted}
+use Rattle.netlist.proofs.Emitting.{emitted-none, ready-after, ready-weaken}
+use Rattle.meaning.specs.Translation.{parameterNodes, parameterLits}
+use Rattle.wires.proofs.Ranges.{ranged}
+use Rattle.walking.proofs.Beginning.{some-few, parameter-made, parameter-wired, parameters-length}
+use borrow.Author.Needs.{needs}
+use native.Mathlib.Omega.{arith}
+use denote.Ref.{now}
+use Rattle.walking.proofs.parameters.begin.Statement.{statement}
+use Rattle.walking.proofs.parameters.begin.Tie as tie
+
+abbrev Inv-loop : tie.InvT-loop
+Inv-loop lits₀ bytes h net₀ p₀ lits net p = (p ≤ h .parameters) × ((w u : List ℕ) → Emitted w u net₀ (parameterNodes bytes p) w u net) × (lits ≡ parameterLits bytes p)
+
+abbrev μ-loop : tie.MeasureT-loop
+μ-loop lits₀ bytes h net₀ p₀ lits net p = h .parameters - p
+
+loop-holds : tie.Need-loop-holds Inv-loop μ-loop
+unfolding parameterNodes parameterLits
+loop-holds c = (search needs, (λ w u. emitted-none w u _), c .before .before .pre .0)
+
+width-of-requires : tie.Need-width-of-requires Inv-loop μ-loop
+width-of-requires c κs = search needs
+
+cast-w : tie.Need-cast-w Inv-loop μ-loop
+cast-w c = search needs
+
+input-bits-requires : tie.Need-input-bits-requires Inv-loop μ-loop
+input-bits-requires c κs = let a = c .before .before .before .before .before .before .args in
+    let p = c .before .before .before .before .before .before .pre in
+    let l = c .before .before .before .loop in
+    let f = some-few (now (a .bytes)) (a .h) (p .1 .1) (l .p) (l .inv .0) in
+    omega (arith, ready-after 32 (l .inv .1 [] []) (p .1 .0 .0) (omega (arith, f, p .1 .1 .parameters, p .1 .1 .few)) .next)
+
+take-inputs-requires : tie.Need-take-inputs-requires Inv-loop μ-loop
+take-inputs-requires c κs = let a = c .before .before .before .before .before .before .before .args in
+    let p = c .before .before .before .before .before .before .before .pre in
+    let l = c .before .before .before .before .loop in
+    let r = ranged (now (a .bytes)) (a .h) (l .p) (p .1 .1) (omega (arith, p .1 .1 .parameters)) in
+    let e = c .before .width-of .ensures in
+    let f = some-few (now (a .bytes)) (a .h) (p .1 .1) (l .p) (l .inv .0) in
+    ready-weaken (omega (arith, r .few, e)) (ready-after 32 (l .inv .1 [] []) (p .1 .0 .0) (omega (arith, f, p .1 .1 .parameters, p .1 .1 .few)))
+
+slice-aggregate-store-bits : tie.Need-slice-aggregate-store-bits Inv-loop μ-loop
+slice-aggregate-store-bits c = search (needs, table-length _ (c .before .before .before .input-bits .ensures))
+
+store-bits-requires : tie.Need-store-bits-requires Inv-loop μ-loop
+store-bits-requires c κs = let a = c .before .before .before .before .before .before .before .before .before .before .args in
+    let p = c .before .before .before .before .before .before .before .before .before .before .pre in
+    let l = c .before .before .before .before .before .before .before .loop in
+    let r = ranged (now (a .bytes)) (a .h) (l .p) (p .1 .1) (omega (arith, p .1 .1 .parameters)) in
+    let e = c .before .before .before .before .width-of .ensures in
+    (ap length (l .inv .2) ∙ parameters-length (now (a .bytes)) (l .p), (r .variable, omega (arith, r .few, e), omega (arith, r .few, e, table-length _ (c .before .before .before .input-bits .ensures))))
+
+add-p : tie.Need-add-p Inv-loop μ-loop
+add-p c = let f = c .before .before .before .before .before .before .before .before .before .before .before .before .before .pre .1 .1 in omega (arith, f .few, f .parameters)
+
+loop-less : tie.Need-loop-less Inv-loop μ-loop
+loop-less c = search needs
+
+loop-again : tie.Need-loop-again Inv-loop μ-loop
+loop-again c = let a = c .before .before .before .before .before .before .before .before .before .before .before .before .before .args in
+    let p = c .before .before .before .before .before .before .before .before .before .before .before .before .before .pre in
+    let l = c .before .before .before .before .before .before .before .before .before .before .loop in
+    let r = ranged (now (a .bytes)) (a .h) (l .p) (p .1 .1) (omega (arith, p .1 .1 .parameters)) in
+    let e = c .before .before .before .before .before .before .before .width-of .ensures in (
+      search needs,
+      parameter-made (now (a .bytes)) (a .n) (l .net) _ (l .p) _ e (l .inv .1) (c .before .before .before .before .before .take-inputs .ensures),
+      parameter-wired (now (a .bytes)) (a .n) (l .net) _ (l .p) _ e (l .inv .1) (c .before .before .before .before .before .take-inputs .ensures) (p .1 .0 .1) _ _ _ (l .inv .2) (c .before .before .before .before .before .before .input-bits .ensures) (omega (arith, r .few, e)) (c .before .before .store-bits .ensures),
+    )
+
+same-length : tie.Need-same-length Inv-loop μ-loop
+same-length c = let a = c .before .before .before .before .before .args in
+    let p = c .before .before .before .before .before .pre in
+    let l = c .before .before .loop in
+    ap length (l .inv .2) ∙ parameters-length (now (a .bytes)) (l .p) ∙ sym (ap length (p .0) ∙ length-replicate {A = ℕ} 1024 3)
+
+returns : tie.Need-returns Inv-loop μ-loop
+returns c = let l = c .before .before .loop in
+    let e : l .p ≡ c .before .before .before .before .before .args .h .parameters = omega arith in
+    record { emitted = rw e at (l .inv .1); lits = rw e at (l .inv .2) }
+
+pub begin-spec : {M : Type 1} → statement M
+begin-spec =
+    tie.close
+    (tie.spec
+    Inv-loop
+    μ-loop
+    loop-holds
+    width-of-requires
+    cast-w
+    input-bits-requires
+    take-inputs-requires
+    slice-aggregate-store-bits
+    store-bits-requires
+    add-p
+    loop-less
+    loop-again
+    same-length
+    returns)

@@ -1,0 +1,54 @@
+// The beginning of a translation.
+use crate::Walk;
+use bits::inputs::input_bits;
+use bits::inputs::take_inputs;
+use faults::Counts;
+use header::Header;
+use header::width_of;
+use netlist::Net;
+use wires::Claim;
+use wires::Reach;
+use wires::literals::store_bits;
+ghost use mathlib.Core.Path.{_≡_};
+ghost use lib.ListN.{replicate};
+ghost use Rattle.faults.specs.Sound.{Fine};
+ghost use Rattle.netlist.specs.Emit.{Ready};
+ghost use Rattle.walking.specs.Walker.{Begun, beginning};
+
+// The parameters' bits take the next variables; other bits begin as literal 3.
+pub fn begin(lits: &mut [u32], n: Net, bytes: &[u8], h: Header) -> Net
+    requires { ⌜ now lits ≡ replicate 1024 3 ⌝ }
+    requires { ⌜ Ready n 2048 × (n .next ≡ 2) ⌝ }
+    requires { ⌜ Fine (now bytes) h ⌝ }
+    ensures { λ r. ⌜ Begun (now (bytes .entry)) n (h .parameters) (now (lits .exit)) r ⌝ }
+{
+    let mut net = n;
+    let mut p = 0;
+    while p < h.parameters {
+        let w = width_of(bytes, p) as usize;
+        let bits = input_bits(net.next);
+        net = take_inputs(net, w);
+        store_bits(lits, p, &bits, w);
+        p += 1;
+    }
+    net
+}
+
+// The walk at the first command: arrival begins as 2, and there is no claim.
+pub fn first_walk(next: usize, net: Net) -> Walk
+    ensures { λ r. ⌜ r ≡ beginning next net ⌝ }
+{
+    Walk {
+        next,
+        counts: Counts {
+            ifs: 0,
+            reads: 0,
+            writes: 0,
+        },
+        net,
+        reach: Reach {
+            arrival: 2,
+            claim: Claim::Open,
+        },
+    }
+}

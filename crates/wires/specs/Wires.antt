@@ -1,0 +1,54 @@
+-- The state of a translation: the literals of the variables' bits, 32 places for each variable, the lowest bit first; the literal of arrival; and the
+-- claim, once the named access was come to.
+use Prim.Native.Nat.{ℕ, _*_}
+use mathlib.Core.List.{List}
+use mathlib.Core.Bool.{Bool, true, false}
+use lib.ListN.{take, drop}
+use lib.Seq.{sets}
+use Rattle.header.specs.Header.{width}
+use Rattle.bits.specs.Bits.{Bits, litAt, tabulate}
+use Rattle.wires.specs.declared.Claim.{Claim}
+use Rattle.wires.specs.declared.Reach.{Reach}
+
+-- a literal for each bit of each variable, arrival, and the claim
+pub record Wires : Type 0 where
+  pub lits : List ℕ
+  pub arrival : ℕ
+  pub claim : Claim
+
+-- the wires, from the lent literals and what is carried beside them
+abbrev pub wiresOf : (lits : List ℕ) → Reach → Wires
+wiresOf lits s = record { lits = lits; arrival = s .arrival; claim = s .claim }
+
+-- another arrival, beside the literals
+abbrev pub reaching : Reach → (arrival : ℕ) → Reach
+reaching s arrival = record { arrival = arrival; claim = s .claim }
+
+-- the bits of variable v: the places of its width, from place 32 v on
+abbrev pub bitsIn : (bs lits : List ℕ) → (v : ℕ) → Bits
+bitsIn bs lits v = litAt (take (width bs v) (drop (32 * v) lits))
+
+-- other bits for variable v
+abbrev pub bitsPut : (bs lits : List ℕ) → (v : ℕ) → Bits → List ℕ
+bitsPut bs lits v f = sets lits (32 * v) (tabulate f (width bs v))
+
+-- the bits of variable v
+abbrev pub bitsOf : List ℕ → Wires → ℕ → Bits
+bitsOf bs s v = bitsIn bs (s .lits) v
+
+-- other bits for variable v
+abbrev pub put : List ℕ → Wires → ℕ → Bits → Wires
+put bs s v f = record { lits = bitsPut bs (s .lits) v f; arrival = s .arrival; claim = s .claim }
+
+-- another arrival
+abbrev pub arriving : Wires → (arrival : ℕ) → Wires
+arriving s arrival = record { lits = s .lits; arrival = arrival; claim = s .claim }
+
+-- the named access was come to: arrival there, and the literal of the side
+abbrev pub claiming : Wires → (side : ℕ) → Wires
+claiming s side = record { lits = s .lits; arrival = s .arrival; claim = Claim.Made (s .arrival) side }
+
+-- the claim was made, so that the translation is over
+abbrev pub isMade : Claim → Bool
+isMade Claim.Open = false
+isMade (Claim.Made arrival side) = true
