@@ -1,4 +1,5 @@
 -- What the proofs of several functions use, and the laws for the layers above.
 pub mod Laws
 mod Following
+mod Parting
 pub mod Arriving

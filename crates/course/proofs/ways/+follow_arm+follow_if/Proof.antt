@@ -7,7 +7,8 @@ use borrow.Author.Needs.{needs}
 use borrow.Author.Tests.{not-true, not-false}
 use Rattle.routine.proofs.Standing.{not-missing, close-room, simple-known, some-if, else-room, second-falls}
 use Rattle.course.specs.declared.Way.{Way}
-use Rattle.course.proofs.Following.{Going, begun, here, closed, stepped, step-done, forked, fork-done, if-room, step-room, first-falls, first-arm, second-after, passed-to, second-passed, astray, first-done, first-passed, second-followed}
+use Rattle.course.proofs.Following.{Going, begun, here, closed, stepped, step-done, forked, fork-done, if-room, step-room}
+use Rattle.course.proofs.Parting.{first-falls, first-arm, second-after, passed-to, second-passed, astray, first-done, first-passed, second-followed}
 use borrow.Fn.Kinds.{In}
 use borrow.Fn.PlainCycle.{Measures, is, falls, and}
 use Rattle.course.proofs.ways.follow_arm.Reads as follow-arm

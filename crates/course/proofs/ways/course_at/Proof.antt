@@ -1,10 +1,29 @@
 -- What a command that is no if says of the course. Assumes nothing.
+use mathlib.Core.Path.{_≡_}
+use mathlib.Core.List.{List}
+use Prim.Native.Nat.{ℕ, _≤_, _<_}
+use native.Mathlib.Omega.{arith}
 use borrow.Author.Needs.{needs}
+use Rattle.header.specs.Header.{width}
+use Rattle.header.specs.declared.Header.{Header}
+use Rattle.faults.specs.Sound.{Sound, Fine}
+use Rattle.command.specs.declared.Simple.{Simple}
+use Rattle.faults.proofs.Fine.{read-fine, write-fine}
 use Rattle.course.specs.Course.{course}
 use Rattle.course.specs.Walker.{arrivalAt}
-use Rattle.course.proofs.Following.{read-index, write-index}
 use Rattle.course.proofs.ways.course_at.Statement.{statement}
 use Rattle.course.proofs.ways.course_at.Tie as tie
+
+-- the index of an access is a variable of the routine
+module _ (bs : List ℕ) (h : Header) (f : Fine bs h) (x : Simple) (e : Sound bs h x) where
+  index-of : (i : ℕ) → i < h .variables → (i < 32) × (1 ≤ width bs i) × (width bs i ≤ 32)
+  index-of i l = let w = f .widths i l in (omega (arith, f .few), w .0, w .1)
+
+  read-index : (d array i : ℕ) → x ≡ Simple.Read d array i → (i < 32) × (1 ≤ width bs i) × (width bs i ≤ 32)
+  read-index d array i q = index-of i (read-fine bs h d array i (rw q at e) .2)
+
+  write-index : (array i s : ℕ) → x ≡ Simple.Write array i s → (i < 32) × (1 ≤ width bs i) × (width bs i ≤ 32)
+  write-index array i s q = index-of i (write-fine bs h array i s (rw q at e) .1)
 
 enum-told : tie.Need-enum-told
 enum-told c = search needs

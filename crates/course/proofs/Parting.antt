@@ -1,0 +1,151 @@
+-- An if while it is followed: its two arms, which of them is taken, and that what the taken arm comes to is what the if comes to. Assumes nothing.
+use mathlib.Core.Path.{_≡_, refl, sym, ap, _∙_}
+use mathlib.Core.List.{List, [], _∷_}
+use mathlib.Core.Bool.{Bool, true, false, cond, true≢false}
+use Prim.Native.Nat.{ℕ, _+_, _*_, _-_, _≤_, _<_}
+use native.Mathlib.Omega.{arith}
+use Rattle.header.specs.declared.Header.{Header}
+use Rattle.faults.specs.Step.{oneIf, accesses}
+use Rattle.command.specs.declared.Condition.{Condition}
+use Rattle.faults.specs.declared.Counts.{Counts}
+use Rattle.routine.specs.Routine.{Arm}
+use Rattle.routine.specs.Stands.{Stands, SomeArm, SomeIf}
+use Rattle.routine.specs.Passes.{Passes}
+use Rattle.routine.specs.declared.Passed.{Passed}
+use Rattle.machine.specs.State.{take, holds}
+use Rattle.machine.specs.declared.State.{State}
+use Rattle.run.specs.Run as run
+use Rattle.run.specs.Run.{Stretch, took, runArm}
+use Rattle.run.specs.Walker.{isOver}
+use Rattle.course.specs.Course.{keeps, course}
+use Rattle.course.specs.Walker.{settled, isDone, wayAt, armAt, stretchOfIf, Arrives, FollowsArm, FollowsIf}
+use Rattle.course.specs.declared.Course.{Course}
+use Rattle.course.specs.declared.Way.{Way}
+use Rattle.course.proofs.Following.{going, either}
+
+module _ (bs : List ℕ) (h : Header) (depth at : ℕ) (k : Counts) (i : SomeIf bs h depth at (oneIf k)) where
+  second-at : (next : ℕ) (k₁ : Counts) → next ≡ i .else → k₁ ≡ i .between → SomeArm bs h (depth + 1) 13 next k₁
+  second-at next k₁ p q = rw (p, q) (record { arm = i .second; end = i .end; after = i .after; stands = i .stands-second })
+
+  module _ (inside : Counts) (e : inside ≡ oneIf k) where
+    pub first-arm : SomeArm bs h (depth + 1) 12 (at + 4) inside
+    first-arm = rw e (record { arm = i .first; end = i .else; after = i .between; stands = i .stands-first })
+
+    -- after the first arm was followed
+    pub second-after : (ins ds : List ℕ) (access : ℕ) (s : State) (v r : Way) → v ≡ wayAt (at + 4) inside s Course.Passing
+        → FollowsArm bs ins ds access h (depth + 1) 12 v r → isDone r ≡ false → SomeArm bs h (depth + 1) 13 (r .next) (r .counts)
+    second-after ins ds access s v r q x f =
+        let y = (rw q at x) .tells (i .first) (i .else) (i .between) (rw e (i .stands-first)) in
+        second-at (r .next) (r .counts) (y .next f) (y .counts f)
+
+    -- after the first arm was passed
+    pub passed-to : (p : Passed) → Passes bs h (depth + 1) 12 (at + 4) inside p → (p .next ≡ i .else) × (p .counts ≡ i .between)
+    passed-to p x = x .tells (i .first) (i .else) (i .between) (rw e (i .stands-first))
+
+    pub second-passed : (p : Passed) → Passes bs h (depth + 1) 12 (at + 4) inside p → SomeArm bs h (depth + 1) 13 (p .next) (p .counts)
+    second-passed p x = let y = passed-to p x in second-at (p .next) (p .counts) (y .0) (y .1)
+
+-- the bytes left fall from an if to its first arm
+pub first-falls : (n at next else t : ℕ) → 2 * (n - at) ≡ t → at + 4 < else → else ≤ n → next ≡ at + 4 → 2 * (n - next) + 1 < t
+first-falls n at next else t e l u q = omega arith
+
+-- which arm is taken
+zero-first : (b : Bool) (x y : Stretch) → cond {A = ℕ} b 0 1 ≡ 0 → x ≡ cond b x y
+zero-first true x y e = refl
+zero-first false x y e = absurd (omega arith)
+
+else-second : (b : Bool) (x y : Stretch) → (cond {A = ℕ} b 0 1 ≡ 0 → ⊥) → y ≡ cond b x y
+else-second true x y e = absurd (e refl)
+else-second false x y e = refl
+
+module _ (ds : List ℕ) (access number before : ℕ) (x y : Stretch) where
+  -- the stretch of an if, from those of its arms
+  abbrev forkStretch : Bool → Stretch
+  forkStretch b = cond b (run.after (took number 0 before ∷ []) x) (run.after (took number 1 before ∷ []) y)
+
+  fork-astray : (b : Bool) → keeps ds access number (cond b 0 1) before ≡ false → Course.Astray number ≡ course ds access (forkStretch b .events)
+  unfolding course
+  fork-astray true e = rw e
+  fork-astray false e = rw e
+
+  fork-kept : (b : Bool) → keeps ds access number (cond b 0 1) before ≡ true
+      → (course ds access (cond b x y .events) ≡ course ds access (forkStretch b .events)) × (cond b x y .state ≡ forkStretch b .state)
+  unfolding course
+  fork-kept true e = (rw e, refl)
+  fork-kept false e = (rw e, refl)
+
+module _ (bs ins ds : List ℕ) (access : ℕ) (h : Header) (depth : ℕ) (c : Condition) (w : Way) (arm : ℕ) (is : arm ≡ armAt bs c (w .state))
+    (b : Bool) (by : b ≡ keeps ds access (w .counts .ifs) arm (accesses (w .counts))) where
+  -- the stretches of the arms
+  abbrev firstOf : Arm → Stretch
+  firstOf first = runArm bs ins h first (take (w .state) (w .counts .ifs) 0)
+
+  abbrev secondOf : Arm → Stretch
+  secondOf second = runArm bs ins h second (take (w .state) (w .counts .ifs) 1)
+
+  decision : keeps ds access (w .counts .ifs) (cond (holds bs c (w .state)) 0 1) (accesses (w .counts)) ≡ b
+  unfolding armAt
+  decision = sym (by ∙ ap (λ (n : ℕ). keeps ds access (w .counts .ifs) n (accesses (w .counts))) is)
+
+  pub astray : b ≡ false → FollowsIf bs ins ds access h depth c w (wayAt (w .next) (w .counts) (w .state) (Course.Astray (w .counts .ifs)))
+  astray e = record {
+    tells = λ first else k₁ second end k₂ p q.
+        record {
+          course = fork-astray ds access (w .counts .ifs) (accesses (w .counts)) (firstOf first) (secondOf second) (holds bs c (w .state)) (decision ∙ e);
+          state = λ z. absurd (true≢false z);
+          next = λ z. absurd (true≢false z);
+          counts = λ z. absurd (true≢false z);
+        };
+  }
+
+  module _ (e : b ≡ true) (inside : Counts) (k : inside ≡ oneIf (w .counts)) (s : State) where
+    -- what the arm that was taken comes to is what the if comes to
+    kept : (first second : Arm) (x : Stretch) → x ≡ cond (holds bs c (w .state)) (firstOf first) (secondOf second)
+        → (end : ℕ) (k₁ : Counts) (r : Way) → Arrives ds access x end k₁ r → Arrives ds access (stretchOfIf bs ins h c (w .counts) first second (w .state)) end k₁ r
+    kept first second x q end k₁ r a =
+        let p = fork-kept ds access (w .counts .ifs) (accesses (w .counts)) (firstOf first) (secondOf second) (holds bs c (w .state)) (decision ∙ e) in
+        record {
+          course = a .course ∙ ap (λ (y : Stretch). course ds access (y .events)) q ∙ p .0;
+          state = λ u. a .state u ∙ ap (λ (y : Stretch). y .state) q ∙ p .1;
+          next = a .next;
+          counts = a .counts;
+        }
+
+    module _ (z : arm ≡ 0) (t : s ≡ take (w .state) (w .counts .ifs) 0) (v : Way) (f : v ≡ wayAt (w .next + 4) inside s Course.Passing)
+        (r : Way) (x : FollowsArm bs ins ds access h (depth + 1) 12 v r) where
+      first-tells : (first second : Arm) (else : ℕ) (k₁ : Counts) → Stands bs h (depth + 1) 12 (w .next + 4) (oneIf (w .counts)) first else k₁
+          → Arrives ds access (stretchOfIf bs ins h c (w .counts) first second (w .state)) else k₁ r
+      unfolding armAt
+      first-tells first second else k₁ p =
+          kept first second (runArm bs ins h first s)
+          (ap (runArm bs ins h first) t ∙ zero-first (holds bs c (w .state)) (firstOf first) (secondOf second) (sym is ∙ z))
+          else k₁ r ((rw f at x) .tells first else k₁ (rw k p))
+
+      pub first-done : isDone r ≡ true → FollowsIf bs ins ds access h depth c w r
+      first-done o = record {
+        tells = λ first else k₁ second end k₂ p q.
+            let a = first-tells first second else k₁ p in
+            record { course = a .course; state = a .state; next = either r o; counts = either r o };
+      }
+
+      pub first-passed : isDone r ≡ false → (past : Passed) → Passes bs h (depth + 1) 13 (r .next) (r .counts) past
+          → FollowsIf bs ins ds access h depth c w (wayAt (past .next) (past .counts) (r .state) Course.Passing)
+      first-passed o past y = record {
+        tells = λ first else k₁ second end k₂ p q.
+            let a = first-tells first second else k₁ p in
+            let u = going (r .course) (isOver (r .state .outcome)) o in
+            let d = y .tells second end k₂ (rw (a .next o, a .counts o) q) in
+            record { course = sym (u .0) ∙ a .course; state = λ _. a .state (ap settled (u .0)); next = λ _. d .0; counts = λ _. d .1 };
+      }
+
+    pub second-followed : (arm ≡ 0 → ⊥) → s ≡ take (w .state) (w .counts .ifs) 1 → (past : Passed) → Passes bs h (depth + 1) 12 (w .next + 4) inside past
+        → (v : Way) → v ≡ wayAt (past .next) (past .counts) s Course.Passing
+        → (r : Way) → FollowsArm bs ins ds access h (depth + 1) 13 v r → FollowsIf bs ins ds access h depth c w r
+    unfolding armAt
+    second-followed z t past y v f r x = record {
+      tells = λ first else k₁ second end k₂ p q.
+          let u = y .tells first else k₁ (rw k p) in
+          kept first second (runArm bs ins h second s)
+          (ap (runArm bs ins h second) t ∙ else-second (holds bs c (w .state)) (firstOf first) (secondOf second) (λ n. z (is ∙ n)))
+          end k₂ r ((rw f at x) .tells second end k₂ (rw (u .0, u .1) q));
+    }
