@@ -2,10 +2,10 @@
 use mathlib.Core.Path.{_≡_, refl, sym, ap, subst, _∙_}
 use mathlib.Core.List.{List, [], _∷_, _++_}
 use mathlib.Core.Bool.{Bool, true, false, cond}
-use Prim.Native.Nat.{ℕ, zero, suc, _+_, _-_, _*_, _<_, _≤_}
+use Prim.Native.Nat.{ℕ, zero, suc, _+_, _-_, _<_}
 use native.Mathlib.Nat.{add-assoc}
 use native.Mathlib.Omega.{arith}
-use lib.ListN.{length, length-append, getD, getD-replicate}
+use lib.ListN.{length, length-append, getD-replicate}
 use lib.Dec.{eqb}
 use Rattle.slices.specs.Bytes.{entry}
 use Rattle.header.specs.Header.{width, arraySize}
@@ -27,138 +27,27 @@ use Rattle.adders.specs.Adder.{adder, subtractor, sumBit, oppBits}
 use Rattle.circuits.specs.Product.{product, accBit}
 use Rattle.bits.specs.Extend.{constBit}
 use Rattle.bits.specs.Input.{inputs, inBit}
-use Rattle.circuits.specs.Join.{join, joinBit}
 use Rattle.relations.specs.Access.{aboveNodes, aboveLit}
 use Rattle.bits.proofs.Values.{AllBefore}
 use Rattle.adders.proofs.Adder.{length-adder, adder-formed, subtractor-formed, sum-before}
 use Rattle.circuits.proofs.Product.{product-formed, product-before}
 use Rattle.bits.proofs.Extend.{const-before, extend-before}
 use Rattle.bits.proofs.Input.{length-inputs, inputs-formed, input-before}
-use Rattle.circuits.proofs.Join.{join-formed, join-before}
 use Rattle.relations.proofs.Access.{above-formed, above-before}
 use Rattle.relations.proofs.Relating.{relation-formed, relation-before}
-use Rattle.wires.specs.Wires.{Wires, bitsIn, bitsPut, bitsOf, put, arriving}
+use Rattle.wires.specs.Wires.{Wires, bitsPut, bitsOf, put, arriving}
 use Rattle.wiring.specs.Command.{Stretch, after, still, access, readInto, simple}
 use Rattle.operands.specs.Operation.{convertBits, computeNodes, computeBits}
 use Rattle.indexes.specs.Index.{top, accessNodes, accessArrival, claimNodes, claimLit}
 use Rattle.meaning.specs.Walk.{andThen, forked, armOf}
-use Rattle.branching.specs.Branch.{conditionNodes, conditionLit, armNodes, armLit, branchNodes, firstLit, elseLit, joinNodes, joinLits, joined}
+use Rattle.branching.specs.Branch.{conditionNodes, conditionLit, armNodes, armLit, branchNodes, firstLit, elseLit}
 use Rattle.meaning.specs.Translation.{parameterNodes, parameterLits, start, whole}
 use Rattle.wires.specs.declared.Claim.{Claim}
 use Rattle.lead.specs.declared.Target.{Target}
-use Rattle.meaning.proofs.Places.{bits-place, put-length, put-keeps}
 use Rattle.meaning.proofs.Stretches.{by-cond, then-by, access-by, fork-by, firstFrom, firstWires, firstOf, secondFrom, secondWires, secondOf, joinFrom, joinOf}
-
--- all literals in the places are of variables before g
-pub record Held (g : ℕ) (lits : List ℕ) : Type 0 where
-  pub count : length lits ≡ 1024
-  pub places : (i : ℕ) → i < 1024 → Before g (getD lits i 0)
-
--- so are the literals of a claim
-abbrev pub Named : ℕ → Claim → Type 0
-Named g Claim.Open = Unit {0}
-Named g (Claim.Made arrival side) = Before g arrival × Before g side
-
--- so are all literals of the wires
-pub record Wired (g : ℕ) (s : Wires) : Type 0 where
-  pub some : 1 < g
-  pub held : Held g (s .lits)
-  pub arrival : Before g (s .arrival)
-  pub claim : Named g (s .claim)
-
-held-later : {g : ℕ} {lits : List ℕ} (k : ℕ) → g ≤ k → Held g lits → Held k lits
-held-later k l b = record { count = b .count; places = λ i m. before-later k l (b .places i m) }
-
-named-later : {g : ℕ} (k : ℕ) (c : Claim) → g ≤ k → Named g c → Named k c
-named-later k Claim.Open l b = tt
-named-later k (Claim.Made arrival side) l b = (before-later k l (b .0), before-later k l (b .1))
-
-pub wired-later : {g : ℕ} {s : Wires} (k : ℕ) → g ≤ k → Wired g s → Wired k s
-wired-later {s = s} k l b = record {
-  some = omega (arith, b .some);
-  held = held-later k l (b .held);
-  arrival = before-later k l (b .arrival);
-  claim = named-later k (s .claim) l (b .claim);
-}
-
-wired-arriving : {g : ℕ} {s : Wires} (l : ℕ) → Wired g s → Before g l → Wired g (arriving s l)
-wired-arriving l w b = record { some = w .some; held = w .held; arrival = b; claim = w .claim }
-
--- a stretch whose first variable is g
-pub record Made (g : ℕ) (x : Stretch) : Type 0 where
-  pub formed : WellFormed g (x .nodes)
-  pub wired : Wired (g + length (x .nodes)) (x .wires)
-
--- these nodes first
-made-after : (g : ℕ) (ns : List Node) (x : Stretch) → WellFormed g ns → Made (g + length ns) x → Made g (after ns x)
-made-after g ns x f m =
-    let e : g + length ns + length (x .nodes) ≡ g + length (ns ++ x .nodes) =
-    add-assoc g (length ns) (length (x .nodes)) ∙ ap (λ (n : ℕ). g + n) (sym (length-append ns (x .nodes))) in
-    record { formed = formed-append g ns (x .nodes) f (m .formed); wired = subst (λ (n : ℕ). Wired n (x .wires)) e (m .wired) }
-
-module _ (bs : List ℕ) where
-  held-bits : (g : ℕ) (lits : List ℕ) → Held g lits → (v : ℕ) → v < 32 → width bs v ≤ 32 → AllBefore g (bitsIn bs lits v) (width bs v)
-  held-bits g lits b v l w j m = subst (Before g) (sym (bits-place bs lits v j m)) (b .places (32 * v + j) (omega arith))
-
-  held-put : (g : ℕ) (lits : List ℕ) → Held g lits → (d : ℕ) (f : Bits) → AllBefore g f (width bs d) → Held g (bitsPut bs lits d f)
-  held-put g lits b d f k =
-      record { count = put-length bs lits d f ∙ b .count; places = λ i m. put-keeps bs lits d f (Before g) i (b .places i m) k (omega (arith, b .count)) }
-
-  wired-put : (g : ℕ) (s : Wires) → Wired g s → (d : ℕ) (f : Bits) → AllBefore g f (width bs d) → Wired g (put bs s d f)
-  wired-put g s w d f k = record { some = w .some; held = held-put g (s .lits) (w .held) d f k; arrival = w .arrival; claim = w .claim }
-
--- ---- joining
-
-module _ (bs : List ℕ) (g c : ℕ) (x y : List ℕ) (z : 1 < g) (hc : Before g c) (hx : Held g x) (hy : Held g y) where
-  -- the gates of the first n variables, and their literals
-  record Joined (n : ℕ) : Type 0 where
-    gates : WellFormed g (joinNodes bs c x y n)
-    lits : Held (g + length (joinNodes bs c x y n)) (joinLits bs g c x y n)
-
-  joins : (n : ℕ) → ((v : ℕ) → v < n → (v < 32) × (width bs v ≤ 32)) → Joined n
-  unfolding joinNodes joinLits
-  joins zero f = record { gates = tt; lits = held-later (g + 0) (omega arith) hx }
-  joins (suc v) f =
-      let p = joins v (λ u l. f u (omega arith)) in
-      let k : ℕ = g + length (joinNodes bs c x y v) in
-      let w : ℕ = width bs v in
-      let r = f v (omega arith) in
-      let a = held-bits bs k x (held-later k (omega arith) hx) v (r .0) (r .1) in
-      let b = held-bits bs k y (held-later k (omega arith) hy) v (r .0) (r .1) in
-      let ns : List Node = join c (bitsIn bs x v) (bitsIn bs y v) w in
-      let e : k + length ns ≡ g + length (joinNodes bs c x y v ++ ns) =
-      add-assoc g (length (joinNodes bs c x y v)) (length ns) ∙ ap (λ (n : ℕ). g + n) (sym (length-append (joinNodes bs c x y v) ns)) in
-      record {
-        gates = formed-append g (joinNodes bs c x y v) ns (p .gates) (join-formed k c (bitsIn bs x v) (bitsIn bs y v) w (before-later k (omega arith) hc) a b);
-        lits = subst (λ (n : ℕ). Held n (bitsPut bs (joinLits bs g c x y v) v (joinBit k c (bitsIn bs x v) (bitsIn bs y v)))) e
-            (held-put bs (k + length ns) (joinLits bs g c x y v) (held-later (k + length ns) (omega arith) (p .lits)) v
-            (joinBit k c (bitsIn bs x v) (bitsIn bs y v))
-            (join-before k c (bitsIn bs x v) (bitsIn bs y v) w (before-later k (omega arith) hc) a b (omega arith)));
-      }
+use Rattle.meaning.proofs.Wired.{Held, Named, Wired, Made, held-later, named-later, wired-later, wired-arriving, made-after, held-put, wired-put, wide, var-bits, joined-made}
 
 module _ (bs : List ℕ) (h : Header) (fine : Fine bs h) where
-  few : (v : ℕ) → v < h .variables → (v < 32) × (width bs v ≤ 32)
-  few v l = (omega (arith, fine .few), fine .widths v l .1)
-
-  wide : (v : ℕ) → v < h .variables → 0 < width bs v
-  wide v l = omega (arith, fine .widths v l)
-
-  var-bits : (g : ℕ) (s : Wires) → Wired g s → (v : ℕ) → v < h .variables → AllBefore g (bitsOf bs s v) (width bs v)
-  var-bits g s w v l = let p = few v l in held-bits bs g (s .lits) (w .held) v (p .0) (p .1)
-
-  joined-made : (g c : ℕ) (x y : Wires) → Wired g x → Wired g y → Before g c → Made g (joined bs h g c x y)
-  unfolding joined
-  joined-made g c x y wx wy hc =
-      let p = joins bs g c (x .lits) (y .lits) (wx .some) hc (wx .held) (wy .held) (h .variables) few in
-      let ns : List Node = joinNodes bs c (x .lits) (y .lits) (h .variables) in
-      let k : ℕ = g + length ns in
-      let e = length-append ns (and (opp (x .arrival)) (opp (y .arrival)) ∷ []) in
-      record {
-        formed = formed-append g ns (and (opp (x .arrival)) (opp (y .arrival)) ∷ []) (p .gates)
-            ((before-later k (omega arith) (before-opp (wx .arrival)), before-later k (omega arith) (before-opp (wy .arrival))), tt);
-        wired = record { some = omega (arith, wx .some); held = held-later _ (omega arith) (p .lits); arrival = before-neg _ k (omega (arith, wx .some)) (omega arith); claim = tt };
-      }
-
   -- ---- commands
 
   still-made : (g : ℕ) (s : Wires) → Wired g s → Made g (still s)
@@ -229,15 +118,15 @@ module _ (bs : List ℕ) (h : Header) (fine : Fine bs h) where
         let a : Bits = bitsOf bs s i in
         let size : ℕ = arraySize bs h array in
         let v : ℕ = width bs i in
-        let b = var-bits g s w i l in
+        let b = var-bits bs h fine g s w i l in
         let ns : List Node = accessNodes g a size v (s .arrival) in
         let u : Wires = arriving s (accessArrival g a size v) in
-        let p = access-made g a size v (s .arrival) (wide i l) (w .some) b (w .arrival) in
+        let p = access-made g a size v (s .arrival) (wide bs h fine i l) (w .some) b (w .arrival) in
         access-by (Made g) bs h t g array i k s go
         (λ e. record {
-          formed = claim-formed (t .side) g a size v (wide i l) (w .some) b;
+          formed = claim-formed (t .side) g a size v (wide bs h fine i l) (w .some) b;
           wired = let q = wired-later {s = s} (g + length (claimNodes (t .side) g a size v)) (omega arith) w in
-              record { some = q .some; held = q .held; arrival = q .arrival; claim = (q .arrival, claim-before (t .side) g a size v (wide i l) (w .some) b) };
+              record { some = q .some; held = q .held; arrival = q .arrival; claim = (q .arrival, claim-before (t .side) g a size v (wide bs h fine i l) (w .some) b) };
         })
         (λ e. made-after g ns (go (g + length ns) u) (p .gates)
         (f (g + length ns) u (wired-arriving {s = s} (accessArrival g a size v) (wired-later {s = s} (g + length ns) (omega arith) w) (p .arrival))))
@@ -259,13 +148,13 @@ module _ (bs : List ℕ) (h : Header) (fine : Fine bs h) where
         let p = convert-fine bs h op d a q in
         let f : Bits = convertBits op (width bs a) (bitsOf bs s a) in
         still-made g (put bs s d f)
-        (wired-put bs g s w d f (convert-before op g (bitsOf bs s a) (width bs a) (width bs d) (wide a (p .1)) (w .some) (var-bits g s w a (p .1))))
+        (wired-put bs g s w d f (convert-before op g (bitsOf bs s a) (width bs a) (width bs d) (wide bs h fine a (p .1)) (w .some) (var-bits bs h fine g s w a (p .1))))
     simple-made g (Simple.Compute op d a b) k s q w =
         let p = compute-fine bs h op d a b q in
         let x = bitsOf bs s a in
         let y = bitsOf bs s b in
         let m = compute-made op g x y (width bs d) (w .some)
-        (subst (AllBefore g x) (sym (p .3)) (var-bits g s w a (p .1))) (subst (AllBefore g y) (sym (p .4)) (var-bits g s w b (p .2))) in
+        (subst (AllBefore g x) (sym (p .3)) (var-bits bs h fine g s w a (p .1))) (subst (AllBefore g y) (sym (p .4)) (var-bits bs h fine g s w b (p .2))) in
         record { formed = m .gates; wired = wired-put bs _ s (wired-later _ (omega arith) w) d (computeBits op g (width bs d)) (m .bits) }
     simple-made g (Simple.Read d array i) k s q w =
         at-access g array i k s (readInto bs h d k) (read-fine bs h d array i q .2) w (read-made d k)
@@ -310,13 +199,13 @@ module _ (bs : List ℕ) (h : Header) (fine : Fine bs h) where
       fork-made d g c s q w =
           let f = condition-fine bs h c q in
           let v = width bs (c .s) in
-          let a = var-bits g s w (c .s) (f .1) in
-          let b = subst (AllBefore g (bitsOf bs s (c .t))) (sym (f .3)) (var-bits g s w (c .t) (f .2)) in
+          let a = var-bits bs h fine g s w (c .s) (f .1) in
+          let b = subst (AllBefore g (bitsOf bs s (c .t))) (sym (f .3)) (var-bits bs h fine g s w (c .t) (f .2)) in
           let cn = conditionNodes bs g c s in
           let l = conditionLit bs g c in
           let k₁ : ℕ = g + length cn in
           let cf : WellFormed g cn = relation-formed (c .relation) g (bitsOf bs s (c .s)) (bitsOf bs s (c .t)) v (w .some) a b in
-          let lb : Before k₁ l = relation-before (c .relation) g (bitsOf bs s (c .s)) (bitsOf bs s (c .t)) v (wide (c .s) (f .1)) (w .some) in
+          let lb : Before k₁ l = relation-before (c .relation) g (bitsOf bs s (c .s)) (bitsOf bs s (c .t)) v (wide bs h fine (c .s) (f .1)) (w .some) in
           let bn = branchNodes d (s .arrival) l in
           let br = branch-made d k₁ (s .arrival) l (omega (arith, w .some)) (before-later k₁ (omega arith) (w .arrival)) lb in
           let x = firstOf bs h d g c s first second in
@@ -335,7 +224,7 @@ module _ (bs : List ℕ) (h : Header) (fine : Fine bs h) where
           (λ e e₁. made-front g cn bn (after (x .nodes) (after (y .nodes) j)) cf (br .gates)
           (made-after g₂ (x .nodes) (after (y .nodes) j) (m₁ .formed)
           (made-after g₃ (y .nodes) j (m₂ .formed)
-          (joined-made g₄ l (x .wires) (y .wires) (wired-later {s = x .wires} g₄ (omega arith) (m₁ .wired)) (m₂ .wired) (before-later g₄ (omega arith) lb)))))
+          (joined-made bs h fine g₄ l (x .wires) (y .wires) (wired-later {s = x .wires} g₄ (omega arith) (m₁ .wired)) (m₂ .wired) (before-later g₄ (omega arith) lb)))))
 
     -- a stretch, and what goes on after it
     goes-on : (g : ℕ) (x : Stretch) (go : ℕ → Wires → Stretch) → Made g x → Arms go → Made g (andThen g x go)

@@ -6,6 +6,7 @@ pub mod Dead
 pub mod Numbers
 pub mod Claimed
 pub mod Fitting
+pub mod Wired
 pub mod Formed
 pub mod Worth
 pub mod Sides
