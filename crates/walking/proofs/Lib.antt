@@ -2,3 +2,5 @@
 pub mod Beginning
 mod Translating
 mod Parting
+mod Looping
+mod Branching
