@@ -18,7 +18,7 @@ ghost use Rattle.proof.specs.Answer.{Begins};
 ghost use Rattle.progress.specs.Lent.{limitsOf};
 ghost use Rattle.progress.specs.Check.{checkProof};
 ghost use Rattle.propagation.specs.Stored.{clausesOf};
-ghost use Rattle.witness.specs.Lead.{decisionsIn, proofAt};
+ghost use Rattle.witness.specs.Lead.{proofAt};
 ghost use Rattle.proving.specs.Proving.{byVerdict};
 ghost use Rattle.proving.specs.Parts.{roomOf, Proves, byTranslation};
 

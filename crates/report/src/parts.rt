@@ -3,7 +3,6 @@ use crate::Judged;
 use crate::deciding::decide;
 use slices::zero_bytes;
 use slices::zero_words;
-ghost use mathlib.Core.Path.{_≡_};
 ghost use Prim.Native.Nat.{_≤_};
 ghost use lib.ListN.{length};
 ghost use Rattle.report.specs.Parts.{JudgesParts};

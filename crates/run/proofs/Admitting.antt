@@ -2,11 +2,11 @@
 use mathlib.Core.Path.{_≡_, refl, sym, _∙_}
 use mathlib.Core.List.{List}
 use mathlib.Core.Bool.{Bool, true, false, cond}
-use Prim.Native.Nat.{ℕ, _+_, _≤_}
+use Prim.Native.Nat.{ℕ, _≤_}
 use native.Mathlib.Omega.{arith}
 use lib.ListN.{length}
 use lib.Dec.{leb}
-use borrow.Author.Tests.{eq-eqb, ne-eqb, leb-true}
+use borrow.Author.Tests.{leb-true}
 use Rattle.routine.specs.Routine.{Arm, done}
 use Rattle.routine.specs.Decode.{Decoded, rejected, routine, decode, checked, IsRoutine}
 use Rattle.header.specs.declared.Header.{Header}
@@ -16,7 +16,7 @@ use Rattle.routine.specs.declared.Refusal as declared
 use Rattle.routine.proofs.Accepted.{accepted, refused-by, decoded}
 use Rattle.routine.proofs.Counting.{few-ifs}
 use Rattle.faults.proofs.Fine.{fine}
-use Rattle.inputs.specs.Inputs.{inputVariables, firstGreat, listed}
+use Rattle.inputs.specs.Inputs.{listed}
 use Rattle.machine.specs.State.{over}
 use Rattle.run.specs.Walker.{RunsRoutine}
 use Rattle.inputs.specs.Scan.{Lists}

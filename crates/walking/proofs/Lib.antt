@@ -1,6 +1,6 @@
 -- What the proofs of several functions use, and the laws for the layers above.
 pub mod Beginning
-mod Translating
+pub mod Translating
 mod Parting
 mod Looping
 mod Branching

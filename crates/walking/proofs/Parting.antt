@@ -8,14 +8,12 @@ use native.Mathlib.Omega.{arith}
 use lib.ListN.{length, length-append}
 use Rattle.slices.specs.Bytes.{entry}
 use Rattle.faults.specs.Step.{oneIf}
-use Rattle.routine.specs.Routine.{Arm}
 use Rattle.routine.specs.Stands.{Stands, SomeIf}
 use Rattle.header.specs.declared.Header.{Header}
 use Rattle.command.specs.declared.Condition.{Condition}
 use Rattle.faults.specs.declared.Counts.{Counts}
 use Rattle.netlist.specs.Node.{Node}
 use Rattle.netlist.specs.Emit.{Emitted, Ready}
-use Rattle.netlist.specs.declared.Net.{Net}
 use Rattle.netlist.proofs.Emitting.{emitted-then, ready-after}
 use Rattle.wires.specs.Wires.{Wires, arriving, isMade}
 use Rattle.wiring.specs.Command.{Stretch, after}

@@ -1,7 +1,7 @@
 // A report as far as its proof: the lead, the witness's inputs in it, and the witness's run.
 pub mod leads;
+mod listing;
 mod settling;
-mod words;
 
 use bitvec::Whole;
 use faults::Counts;

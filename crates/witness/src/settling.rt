@@ -2,7 +2,7 @@
 use crate::Refusal;
 use crate::Witness;
 use crate::leads::input_count;
-use crate::words::words_from;
+use crate::listing::words_from;
 use course::Course;
 use course::follow;
 use faults::Counts;

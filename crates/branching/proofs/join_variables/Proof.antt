@@ -1,7 +1,6 @@
 use mathlib.Core.Path.{_≡_, refl, sym, _∙_}
 use Prim.Native.Nat.{_-_, _≤_}
 use lib.ListN.{length}
-use lib.Seq.{length-sets}
 use Rattle.bits.proofs.Laws.{table-length}
 use Rattle.netlist.specs.Emit.{Emitted}
 use Rattle.netlist.proofs.Emitting.{emitted-none, emitted-words-length, emitted-starts-length, ready-after}

@@ -5,8 +5,8 @@ use borrow.Author.Needs.{needs}
 use Rattle.slices.specs.Bytes.{word}
 use Rattle.witness.specs.Lead.{wordsFrom}
 use Rattle.witness.proofs.Words.{filled, filled-next}
-use Rattle.witness.proofs.words.words_from.Statement.{statement}
-use Rattle.witness.proofs.words.words_from.Tie as tie
+use Rattle.witness.proofs.listing.words_from.Statement.{statement}
+use Rattle.witness.proofs.listing.words_from.Tie as tie
 
 abbrev Inv-loop : tie.InvT-loop
 Inv-loop report from n words₀ i₀ at₀ words i at = (i ≤ n) × (at ≡ from + 4 * i) × (words ≡ filled report from i)
