@@ -9,8 +9,8 @@ ghost use lib.ListN.{length};
 ghost use Rattle.adders.specs.Adder.{adder, fullAdder, oppBits, subtractor, sumBit};
 ghost use Rattle.bits.specs.Bits.{litAt, tabulate};
 ghost use Rattle.bits.specs.Extend.{extend};
-ghost use Rattle.clauses.specs.Clause.{Lent, Written};
-ghost use Rattle.netlist.specs.Emit.{Counted, Emitted, Ready};
+ghost use Rattle.clauses.specs.Inner.Append.{Lent, Written};
+ghost use Rattle.netlist.specs.Inner.Emit.{Counted, Emitted, Ready};
 ghost use Rattle.netlist.specs.Node.{clausesOf};
 
 // Writes one place of a sum, for which there is room, from variable g, entry i of words and entry k of starts on.

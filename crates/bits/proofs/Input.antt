@@ -10,9 +10,11 @@ use lib.Dec.{eqb}
 use lib.ListN.{length, length-append}
 use lib.Pow.{pow-pos}
 use Rattle.bits.proofs.Values.{AllBefore, bit, value}
-use Rattle.bits.specs.Input.{TakesInputs, bitsOfWord, inBit, inputs}
+use Rattle.bits.specs.Input.{bitsOfWord, inBit, inputs}
+use Rattle.bits.specs.Inner.Taken.{TakesInputs}
 use Rattle.clauses.proofs.Appending.{appended-none}
-use Rattle.clauses.specs.Clause.{Appended, Clause}
+use Rattle.clauses.specs.Clause.{Clause}
+use Rattle.clauses.specs.Inner.Append.{Appended}
 use Rattle.clauses.specs.declared.Store.{Store}
 use Rattle.netlist.proofs.Formed.{before-pos, formed-append}
 use Rattle.netlist.proofs.Literals.{lit-pos}
@@ -20,7 +22,8 @@ use Rattle.netlist.proofs.Model.{WellFormed}
 use Rattle.netlist.proofs.Nodes.{clausesOf-append}
 use Rattle.netlist.proofs.Truth.{Models, models-append}
 use Rattle.clauses.specs.Meaning.{Assign}
-use Rattle.netlist.specs.Meaning.{Inputs, nodeVal}
+use Rattle.netlist.specs.Meaning.{Inputs}
+use Rattle.netlist.specs.Inner.Value.{nodeVal}
 use Rattle.netlist.specs.Node.{clausesOf, input, nodeClauses}
 use Rattle.netlist.specs.declared.Net.{Net}
 

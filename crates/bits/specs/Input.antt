@@ -4,10 +4,8 @@ use mathlib.Core.List.{List, [], _++_, _∷_}
 use Prim.Native.Nat.{_%_, _+_, _/_, _^_, suc, zero, ℕ}
 use lib.Dec.{eqb}
 use Rattle.bits.specs.Bits.{Bits}
-use Rattle.netlist.specs.Emit.{Emitted}
 use Rattle.netlist.specs.Literal.{pos}
 use Rattle.netlist.specs.Node.{Node, input}
-use Rattle.netlist.specs.declared.Net.{Net}
 
 -- the nodes of the first bits of input word k
 unfoldable pub inputs : ℕ → ℕ → List Node
@@ -21,7 +19,3 @@ inBit g j = pos (g + j)
 -- bit j of the number x
 abbrev pub bitsOfWord : ℕ → ℕ → Bool
 bitsOfWord x j = eqb (x / 2 ^ j % 2) 1
-
--- The variables of w input bits are taken, of whatever input word. They have no clauses, so whatever the buffers hold stays.
-pub record TakesInputs (n : Net) (w : ℕ) (r : Net) : Type 0 where
-  pub tells : (words starts : List ℕ) (k : ℕ) → Emitted words starts n (inputs k w) words starts r

@@ -1,3 +1,4 @@
 pub mod Bits
 pub mod Extend
 pub mod Input
+pub mod Inner

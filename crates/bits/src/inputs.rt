@@ -3,8 +3,9 @@ use netlist::Net;
 ghost use mathlib.Core.Path.{_≡_};
 ghost use Prim.Native.Nat.{_^_, _≤_};
 ghost use Rattle.bits.specs.Bits.{tabulate};
-ghost use Rattle.bits.specs.Input.{TakesInputs, inBit};
-ghost use Rattle.netlist.specs.Emit.{Ready};
+ghost use Rattle.bits.specs.Input.{inBit};
+ghost use Rattle.bits.specs.Inner.Taken.{TakesInputs};
+ghost use Rattle.netlist.specs.Inner.Emit.{Ready};
 
 // The literals of an input word whose first variable is g.
 pub fn input_bits(g: u32) -> [u32; 32]

@@ -9,12 +9,12 @@ use lib.ListN.{length, take, drop, set, length-append}
 use lib.Seq.{sets, drop-set-lt}
 use lib.Dec.{eqb}
 use Rattle.header.specs.Header.{width}
-use Rattle.faults.specs.Sound.{Fine}
+use Rattle.faults.specs.Inner.Sound.{Fine}
 use Rattle.header.specs.declared.Header.{Header}
 use Rattle.command.specs.declared.Condition.{Condition}
 use Rattle.netlist.specs.Literal.{opp, neg}
 use Rattle.netlist.specs.Node.{Node, and}
-use Rattle.netlist.specs.Emit.{Emitted, Ready}
+use Rattle.netlist.specs.Inner.Emit.{Emitted, Ready}
 use Rattle.netlist.specs.declared.Net.{Net}
 use Rattle.netlist.proofs.Emitting.{emitted-then, ready-after}
 use Rattle.bits.specs.Bits.{litAt, tabulate}
@@ -28,8 +28,8 @@ use Rattle.circuits.proofs.Join.{length-join}
 use Rattle.relations.proofs.Relating.{relation-short}
 use Rattle.wires.specs.Wires.{Wires, bitsIn}
 use Rattle.branching.specs.Branch.{conditionNodes, conditionLit, armNodes, armLit, branchNodes, joinNodes, joinLits, joined}
-use Rattle.wiring.specs.Makes.{Makes}
-use Rattle.branching.specs.Branched.{Branched}
+use Rattle.wiring.specs.Inner.Makes.{Makes}
+use Rattle.branching.specs.Inner.Branched.{Branched}
 use Rattle.wires.specs.declared.Claim.{Claim}
 use Rattle.wires.proofs.Ranges.{ranged}
 

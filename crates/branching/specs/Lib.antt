@@ -1,2 +1,2 @@
 pub mod Branch
-pub mod Branched
+pub mod Inner

@@ -14,12 +14,12 @@ use wires::literals::store_bits;
 use wiring::Made;
 ghost use mathlib.Core.Path.{_≡_};
 ghost use lib.ListN.{length};
-ghost use Rattle.faults.specs.Sound.{SoundIf, Fine};
-ghost use Rattle.netlist.specs.Emit.{Emitted, Ready};
-ghost use Rattle.wires.specs.Wires.{wiresOf};
+ghost use Rattle.faults.specs.Inner.Sound.{SoundIf, Fine};
+ghost use Rattle.netlist.specs.Inner.Emit.{Emitted, Ready};
+ghost use Rattle.wires.specs.Inner.Reach.{wiresOf};
 ghost use Rattle.branching.specs.Branch.{armNodes, armLit, joinNodes, joinLits, joined};
-ghost use Rattle.wiring.specs.Makes.{Makes};
-ghost use Rattle.branching.specs.Branched.{Branched};
+ghost use Rattle.wiring.specs.Inner.Makes.{Makes};
+ghost use Rattle.branching.specs.Inner.Branched.{Branched};
 
 // The beginning of an if: what is emitted, the literal of its condition, and the arrivals of its arms.
 pub struct Branches {

@@ -10,12 +10,13 @@ use borrow.Author.Tests.{le-leb, lt-leb}
 use Rattle.clauses.specs.Clause.{Clause}
 use Rattle.propagation.specs.Stored.{clausesOf}
 use Rattle.progress.specs.Check.{checkProof}
-use Rattle.proof.specs.Answer.{leaves, answer, Answers, Begins}
+use Rattle.proof.specs.Answer.{leaves, answer}
+use Rattle.proof.specs.Inner.Begins.{Answers, Begins}
 use Rattle.proof.specs.Sound.{Refutes}
 use Rattle.checker.specs.Fit.{standing, stood}
 use Rattle.slices.specs.Lent.{usable}
 use Rattle.checker.specs.Checking.{part, checkedBy, unfit, beyond, checkedIn, fits, checking, Checks, Unsatisfied}
-use Rattle.checker.specs.Parts.{inParts, InParts}
+use Rattle.checker.specs.Inner.Parts.{inParts, InParts}
 use Rattle.checker.specs.declared.Checked.{Checked}
 use Rattle.checker.specs.declared.Standing.{Standing}
 use Rattle.step.specs.declared.Verdict.{Verdict}

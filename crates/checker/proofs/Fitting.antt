@@ -12,7 +12,7 @@ use lib.Seq.{slice, slice-cons, slice-empty}
 use lib.Dec.{ltb, leb, eqb}
 use borrow.Author.Tests.{leb-true, ltb-true, eqb-true, lt-ltb, le-ltb, le-leb, lt-leb, eq-eqb, ne-eqb}
 use Rattle.slices.specs.Bytes.{entry}
-use Rattle.propagation.specs.Stored.{LiteralsIn}
+use Rattle.propagation.specs.Inner.Standing.{LiteralsIn}
 use Rattle.propagation.proofs.Cases.{and-true-l, and-true-r, from-or}
 use Rattle.progress.specs.Check.{ofVariable}
 use Rattle.checker.specs.Fit.{literalsFit, endAt, clauseFits, standing}

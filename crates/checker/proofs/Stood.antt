@@ -11,9 +11,10 @@ use lib.Seq.{slice, length-slice, sets, set-getD}
 use Rattle.slices.specs.Bytes.{entry}
 use Rattle.clauses.specs.Clause.{Clause, flatten, offsets}
 use Rattle.clauses.proofs.Appending.{sets-append, sets-self}
-use Rattle.propagation.specs.Stored.{startOf, endOf, clauseAt, clausesOf, Stands}
+use Rattle.propagation.specs.Stored.{startOf, endOf, clauseAt, clausesOf}
+use Rattle.propagation.specs.Inner.Standing.{Stands}
 use Rattle.propagation.proofs.Cases.{both, from-or}
-use Rattle.proof.specs.Answer.{Begins}
+use Rattle.proof.specs.Inner.Begins.{Begins}
 use Rattle.checker.specs.Fit.{endAt, clauseFits, standing}
 use Rattle.checker.specs.declared.Standing.{Standing}
 use Rattle.checker.proofs.Fitting.{Fits, clause-fits, fit-in}

@@ -1,3 +1,3 @@
 pub mod Fit
 pub mod Checking
-pub mod Parts
+pub mod Inner

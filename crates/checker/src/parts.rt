@@ -10,7 +10,7 @@ ghost use Prim.Native.Nat.{_≤_};
 ghost use lib.ListN.{length};
 ghost use Rattle.propagation.specs.Stored.{clausesOf};
 ghost use Rattle.checker.specs.Checking.{checkedBy, Unsatisfied};
-ghost use Rattle.checker.specs.Parts.{InParts};
+ghost use Rattle.checker.specs.Inner.Parts.{InParts};
 
 fn checked_by(verdict: Verdict) -> Checked
     ensures { λ r. ⌜ r ≡ checkedBy verdict ⌝ }

@@ -16,10 +16,11 @@ use Rattle.netlist.proofs.Formed.{before-later, before-pos, formed-append}
 use Rattle.netlist.proofs.Literals.{lit-pos}
 use Rattle.netlist.proofs.Model.{Before, WellFormed}
 use Rattle.netlist.proofs.Truth.{Models, models-append}
-use Rattle.netlist.specs.Emit.{Emitted}
+use Rattle.netlist.specs.Inner.Emit.{Emitted}
 use Rattle.netlist.specs.Literal.{pos}
 use Rattle.clauses.specs.Meaning.{Assign, lit}
-use Rattle.netlist.specs.Meaning.{Inputs, nodeVal}
+use Rattle.netlist.specs.Meaning.{Inputs}
+use Rattle.netlist.specs.Inner.Value.{nodeVal}
 use Rattle.netlist.specs.Node.{Node}
 use Rattle.netlist.specs.declared.Net.{Net}
 

@@ -22,11 +22,12 @@ use Rattle.netlist.proofs.Literals.{lit-false, lit-pos}
 use Rattle.netlist.proofs.Model.{Before, WellFormed}
 use Rattle.netlist.proofs.Nodes.{Sized, and-sized, none-sized, sized-then}
 use Rattle.netlist.proofs.Truth.{Models, models-append}
-use Rattle.netlist.specs.Emit.{Emitted}
+use Rattle.netlist.specs.Inner.Emit.{Emitted}
 use Rattle.netlist.specs.Literal.{pos}
-use Rattle.clauses.specs.Clause.{Written}
+use Rattle.clauses.specs.Inner.Append.{Written}
 use Rattle.clauses.specs.Meaning.{Assign, lit}
-use Rattle.netlist.specs.Meaning.{Inputs, nodeVal}
+use Rattle.netlist.specs.Meaning.{Inputs}
+use Rattle.netlist.specs.Inner.Value.{nodeVal}
 use Rattle.netlist.specs.Node.{Node, and, clausesOf}
 use Rattle.netlist.specs.declared.Net.{Net}
 

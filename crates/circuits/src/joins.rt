@@ -10,7 +10,7 @@ ghost use lib.ListN.{length};
 ghost use Rattle.bits.specs.Bits.{litAt, tabulate};
 ghost use Rattle.bits.specs.Extend.{extend};
 ghost use Rattle.circuits.specs.Join.{join, joinBit, joinOne};
-ghost use Rattle.netlist.specs.Emit.{Emitted, Ready};
+ghost use Rattle.netlist.specs.Inner.Emit.{Emitted, Ready};
 ghost use Rattle.netlist.specs.Literal.{pos};
 
 // One place of two arms joined: a MUX where the literals differ.

@@ -11,8 +11,8 @@ ghost use Prim.Native.Nat.{_*_, _+_, _/_, _^_, _≤_};
 ghost use lib.ListN.{length};
 ghost use Rattle.bits.specs.Bits.{litAt, tabulate};
 ghost use Rattle.circuits.specs.Product.{accBit, addRow, product, row, rowBit};
-ghost use Rattle.clauses.specs.Clause.{Lent, Written};
-ghost use Rattle.netlist.specs.Emit.{Counted, Emitted, Ready};
+ghost use Rattle.clauses.specs.Inner.Append.{Lent, Written};
+ghost use Rattle.netlist.specs.Inner.Emit.{Counted, Emitted, Ready};
 ghost use Rattle.netlist.specs.Node.{clausesOf};
 
 // Writes the AND of the first m bits of s with t, for which there is room.

@@ -14,7 +14,7 @@ use Rattle.command.specs.declared.Simple.{Simple}
 use Rattle.command.specs.declared.Command.{Command}
 use Rattle.command.proofs.Sizes.{simple-size}
 use Rattle.routine.specs.Routine.{Arm}
-use Rattle.routine.specs.Stands.{Stands, SomeArm}
+use Rattle.routine.specs.Inner.Stands.{Stands, SomeArm}
 use Rattle.routine.proofs.Views.{by-if}
 use Rattle.routine.proofs.Walking as walking
 use Rattle.routine.proofs.Standing.{simple-known, if-ends}
@@ -22,9 +22,9 @@ use Rattle.machine.specs.State.{carry}
 use Rattle.machine.specs.declared.Outcome.{Outcome}
 use Rattle.machine.specs.declared.State.{State}
 use Rattle.run.specs.Run.{Event, Stretch, unlessStopped, andThen, eventsAt, runArm}
-use Rattle.run.specs.Walker.{isOver}
+use Rattle.run.specs.Inner.Walker.{isOver}
 use Rattle.course.specs.Course.{course}
-use Rattle.course.specs.Walker.{settled, isDone, wayAt, stepOn, stretchOfIf, Arrives, FollowsArm, FollowsIf}
+use Rattle.course.specs.Inner.Walker.{settled, isDone, wayAt, stepOn, stretchOfIf, Arrives, FollowsArm, FollowsIf}
 use Rattle.course.specs.declared.Course.{Course}
 use Rattle.course.specs.declared.Way.{Way}
 use Rattle.course.proofs.Laws.{course-append}

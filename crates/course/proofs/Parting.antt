@@ -9,16 +9,16 @@ use Rattle.faults.specs.Step.{oneIf, accesses}
 use Rattle.command.specs.declared.Condition.{Condition}
 use Rattle.faults.specs.declared.Counts.{Counts}
 use Rattle.routine.specs.Routine.{Arm}
-use Rattle.routine.specs.Stands.{Stands, SomeArm, SomeIf}
-use Rattle.routine.specs.Passes.{Passes}
+use Rattle.routine.specs.Inner.Stands.{Stands, SomeArm, SomeIf}
+use Rattle.routine.specs.Inner.Passes.{Passes}
 use Rattle.routine.specs.declared.Passed.{Passed}
 use Rattle.machine.specs.State.{take, holds}
 use Rattle.machine.specs.declared.State.{State}
 use Rattle.run.specs.Run as run
 use Rattle.run.specs.Run.{Stretch, took, runArm}
-use Rattle.run.specs.Walker.{isOver}
+use Rattle.run.specs.Inner.Walker.{isOver}
 use Rattle.course.specs.Course.{keeps, course}
-use Rattle.course.specs.Walker.{settled, isDone, wayAt, armAt, stretchOfIf, Arrives, FollowsArm, FollowsIf}
+use Rattle.course.specs.Inner.Walker.{settled, isDone, wayAt, armAt, stretchOfIf, Arrives, FollowsArm, FollowsIf}
 use Rattle.course.specs.declared.Course.{Course}
 use Rattle.course.specs.declared.Way.{Way}
 use Rattle.course.proofs.Following.{going, either}

@@ -1,3 +1,3 @@
 pub mod Course
 pub mod Goes
-pub mod Walker
+pub mod Inner

@@ -7,7 +7,7 @@ use header::Header;
 use header::first_command;
 use machine::State;
 ghost use Rattle.routine.specs.Decode.{IsRoutine};
-ghost use Rattle.course.specs.Walker.{FollowsRoutine};
+ghost use Rattle.course.specs.Inner.Walker.{FollowsRoutine};
 
 // What a run did as far as the access.
 pub enum Course {

@@ -24,11 +24,11 @@ ghost use Prim.Native.Nat.{_+_, _<_, _≤_};
 ghost use Rattle.header.specs.Header.{width};
 ghost use Rattle.command.specs.Command.{sizeOfSimple};
 ghost use Rattle.faults.specs.Step.{oneIf, accesses, tooMany};
-ghost use Rattle.faults.specs.Sound.{Sound, SoundIf, Fine};
-ghost use Rattle.routine.specs.Stands.{SomeArm, SomeIf};
+ghost use Rattle.faults.specs.Inner.Sound.{Sound, SoundIf, Fine};
+ghost use Rattle.routine.specs.Inner.Stands.{SomeArm, SomeIf};
 ghost use Rattle.run.specs.Run.{eventsAt};
 ghost use Rattle.course.specs.Course.{keeps, course};
-ghost use Rattle.course.specs.Walker.{isDone, wayAt, armAt, arrivalAt, stepOn, FollowsArm, FollowsIf};
+ghost use Rattle.course.specs.Inner.Walker.{isDone, wayAt, armAt, arrivalAt, stepOn, FollowsArm, FollowsIf};
 
 // Whether an arm taken at the if before which the counts are k is by the decisions, or the if stands after the access.
 fn keeps_to(decisions: &[u8], access: u8, k: Counts, arm: u8) -> bool

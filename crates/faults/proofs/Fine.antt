@@ -11,7 +11,7 @@ use borrow.Author.Tests.{ltb-true, leb-true, eqb-true}
 use Rattle.slices.specs.Bytes.{entry, half}
 use Rattle.header.specs.Header.{between, within, widthOk, sizeOk, firstBad, need, headerOf, width}
 use Rattle.faults.specs.Step.{inRange, widthsFit}
-use Rattle.faults.specs.Sound.{Sound, SoundIf, Fine}
+use Rattle.faults.specs.Inner.Sound.{Sound, SoundIf, Fine}
 use Rattle.faults.proofs.Tests.{both}
 use Rattle.header.specs.declared.Header.{Header}
 use Rattle.header.specs.declared.Head.{Head}

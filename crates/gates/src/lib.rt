@@ -6,7 +6,7 @@ use clauses::fits;
 use netlist::Net;
 use netlist::counted;
 ghost use mathlib.Core.List.{[], _∷_};
-ghost use Rattle.netlist.specs.Emit.{Emitted, Ready};
+ghost use Rattle.netlist.specs.Inner.Emit.{Emitted, Ready};
 ghost use Rattle.netlist.specs.Node.{and, maj, mux, xor};
 
 // The literal that both a and b hold.

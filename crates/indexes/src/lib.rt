@@ -7,7 +7,7 @@ use relations::accesses::above;
 ghost use mathlib.Core.Path.{_≡_};
 ghost use Prim.Native.Nat.{_*_, _≤_, _<_};
 ghost use lib.ListN.{length, take, drop};
-ghost use Rattle.netlist.specs.Emit.{Emitted, Ready};
+ghost use Rattle.netlist.specs.Inner.Emit.{Emitted, Ready};
 ghost use Rattle.bits.specs.Bits.{litAt};
 ghost use Rattle.indexes.specs.Index.{accessNodes, accessArrival, claimNodes, claimLit};
 

@@ -9,7 +9,7 @@ use Rattle.routine.specs.Decode.{routine, decode}
 use Rattle.header.specs.declared.Header.{Header}
 use Rattle.faults.specs.declared.Counts.{Counts}
 use Rattle.inputs.specs.Inputs.{inputVariables, firstGreat, listed}
-use Rattle.inputs.specs.Scan.{Lists}
+use Rattle.inputs.specs.Inner.Scan.{Lists}
 use Rattle.inputs.specs.declared.Listed.{Listed}
 
 module _ (bs ins : List ℕ) (h : Header) (k : Counts) where

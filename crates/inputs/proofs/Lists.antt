@@ -20,7 +20,7 @@ use Rattle.routine.proofs.Accepted.{decoded}
 use Rattle.command.proofs.Sizes.{size-pos}
 use Rattle.routine.proofs.Text.{Text, over, closes, forks, steps, text}
 use Rattle.inputs.specs.Inputs.{variablesFrom, joined, readVariables, firstGreat}
-use Rattle.inputs.specs.Scan.{readBy, ScansReads}
+use Rattle.inputs.specs.Inner.Scan.{readBy, ScansReads}
 use Rattle.inputs.specs.declared.Reads.{Reads}
 use Rattle.inputs.specs.declared.Listed.{Listed}
 

@@ -1,2 +1,2 @@
 pub mod Inputs
-pub mod Scan
+pub mod Inner

@@ -16,7 +16,7 @@ ghost use Rattle.slices.specs.Bytes.{entry};
 ghost use Rattle.header.specs.Header.{width};
 ghost use Rattle.inputs.specs.Inputs.{variablesFrom, firstGreat};
 ghost use Rattle.routine.specs.Decode.{IsRoutine};
-ghost use Rattle.inputs.specs.Scan.{readBy, ScansReads, Lists};
+ghost use Rattle.inputs.specs.Inner.Scan.{readBy, ScansReads, Lists};
 
 // What is said of an input list.
 pub enum Listed {

@@ -18,7 +18,8 @@ use Rattle.routine.specs.Decode.{Decoded, rejected, routine, decode, checked, I
 use Rattle.routine.specs.declared.Checked.{Checked}
 use Rattle.routine.specs.declared.Refusal as declared
 use Rattle.routine.proofs.Accepted.{accepted, refused-by}
-use Rattle.lead.specs.Lead.{Admission, refused, translates, firstOdd, unless, byLead, byRoutine, admission, withoutTree, admittedLead, admitted}
+use Rattle.lead.specs.Lead.{Admission, refused, translates, firstOdd, unless, byLead, byRoutine, admission, withoutTree, admittedLead}
+use Rattle.lead.specs.Inner.Admitted.{admitted}
 use Rattle.lead.specs.declared.Refusal.{Refusal}
 use Rattle.lead.specs.declared.Target.{Target}
 use Rattle.lead.specs.declared.Admitted.{Admitted}

@@ -58,7 +58,3 @@ withoutTree (translates h a k) = Admitted.Translates h
 -- what 11 and 12 say to a routine with these counts
 unfoldable pub admittedLead : Target → (ds : List ℕ) → Header → Counts → Admitted
 admittedLead t ds h k = withoutTree (byLead t ds h done k)
-
--- what `admit` answers
-unfoldable pub admitted : (bs : List ℕ) → Target → (ds : List ℕ) → Admitted
-admitted bs t ds = withoutTree (admission bs t ds)

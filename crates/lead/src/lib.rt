@@ -6,7 +6,8 @@ use header::Header;
 use routine::Checked;
 use slices::wide;
 ghost use mathlib.Core.Path.{_≡_};
-ghost use Rattle.lead.specs.Lead.{firstOdd, admittedLead, admitted};
+ghost use Rattle.lead.specs.Lead.{firstOdd, admittedLead};
+ghost use Rattle.lead.specs.Inner.Admitted.{admitted};
 
 // What a claim names: an access, and a side (0 below, 1 above).
 pub struct Target {

@@ -4,7 +4,7 @@ use mathlib.Core.List.{List}
 use Prim.Native.Nat.{ℕ, _≤_, _<_}
 use native.Mathlib.Omega.{arith}
 use Rattle.header.specs.Header.{width}
-use Rattle.faults.specs.Sound.{Sound, SoundIf, Fine}
+use Rattle.faults.specs.Inner.Sound.{Sound, SoundIf, Fine}
 use Rattle.header.specs.declared.Header.{Header}
 use Rattle.command.specs.declared.Condition.{Condition}
 use Rattle.command.specs.declared.Simple.{Simple}

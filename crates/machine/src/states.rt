@@ -18,7 +18,7 @@ use slices::entry_at;
 ghost use mathlib.Core.Path.{_≡_};
 ghost use Prim.Native.Nat.{_<_, _≤_};
 ghost use Rattle.header.specs.Header.{width};
-ghost use Rattle.faults.specs.Sound.{Sound, SoundIf, Fine};
+ghost use Rattle.faults.specs.Inner.Sound.{Sound, SoundIf, Fine};
 ghost use Rattle.machine.specs.State.{start, value, put, take, stop, converted, computed, holds, indexOf, lies, accessed, carry};
 
 // The word a of w bits as one of v bits: cut, extended by zeros or by its sign, or copied.

@@ -8,8 +8,8 @@ use Rattle.slices.specs.Bytes.{entry}
 use Rattle.faults.specs.Step.{accesses, after, oneIf}
 use Rattle.command.specs.Command.{sizeOfSimple}
 use Rattle.routine.specs.Routine.{Arm}
-use Rattle.routine.specs.Stands.{Stands}
-use Rattle.faults.specs.Sound.{Fine}
+use Rattle.routine.specs.Inner.Stands.{Stands}
+use Rattle.faults.specs.Inner.Sound.{Fine}
 use Rattle.header.specs.declared.Header.{Header}
 use Rattle.faults.specs.declared.Counts.{Counts}
 use Rattle.routine.proofs.Views.{induction}

@@ -17,8 +17,8 @@ use Rattle.slices.specs.Bytes.{entry}
 use Rattle.header.specs.Header.{width, arraySize}
 use Rattle.routine.specs.Routine.{Arm, done, plain, fork}
 use Rattle.routine.specs.Decode.{routine, decode}
-use Rattle.routine.specs.Stands.{Stands}
-use Rattle.faults.specs.Sound.{Sound, SoundIf, Fine}
+use Rattle.routine.specs.Inner.Stands.{Stands}
+use Rattle.faults.specs.Inner.Sound.{Sound, SoundIf, Fine}
 use Rattle.header.specs.declared.Header.{Header}
 use Rattle.command.specs.declared.Condition.{Condition}
 use Rattle.faults.specs.declared.Counts.{Counts}
@@ -28,7 +28,7 @@ use Rattle.routine.proofs.Accepted.{decoded}
 use Rattle.faults.proofs.Fine.{fine, compute-fine, read-fine, write-fine, condition-fine}
 use Rattle.routine.proofs.Counting.{few-ifs}
 use Rattle.netlist.specs.Literal.{opp}
-use Rattle.netlist.specs.Emit.{Ready}
+use Rattle.netlist.specs.Inner.Emit.{Ready}
 use Rattle.netlist.specs.declared.Net.{Net}
 use Rattle.bits.specs.Bits.{Bits}
 use Rattle.adders.specs.Adder.{adder, subtractor, oppBits}

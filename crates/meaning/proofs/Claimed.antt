@@ -9,7 +9,7 @@ use borrow.Author.Tests.{eqb-true, eqb-false}
 use Rattle.slices.specs.Bytes.{entry}
 use Rattle.faults.specs.Step.{accesses, after, oneIf}
 use Rattle.routine.specs.Routine.{Arm, done, plain, fork}
-use Rattle.routine.specs.Stands.{Stands}
+use Rattle.routine.specs.Inner.Stands.{Stands}
 use Rattle.header.specs.declared.Header.{Header}
 use Rattle.command.specs.declared.Condition.{Condition}
 use Rattle.faults.specs.declared.Counts.{Counts}

@@ -12,8 +12,8 @@ use Rattle.header.specs.Header.{arraySize, firstCommand}
 use Rattle.faults.specs.Step.{accesses}
 use Rattle.routine.specs.Routine.{Arm}
 use Rattle.routine.specs.Decode.{routine, decode, noCounts}
-use Rattle.routine.specs.Stands.{Stands}
-use Rattle.faults.specs.Sound.{Fine}
+use Rattle.routine.specs.Inner.Stands.{Stands}
+use Rattle.faults.specs.Inner.Sound.{Fine}
 use Rattle.header.specs.declared.Header.{Header}
 use Rattle.faults.specs.declared.Counts.{Counts}
 use Rattle.routine.proofs.Accepted.{decoded}
@@ -28,7 +28,8 @@ use Rattle.machine.specs.declared.State.{State}
 use Rattle.course.specs.declared.Course.{Course}
 use Rattle.netlist.specs.Node.{Node}
 use Rattle.clauses.specs.Meaning.{Assign, lit}
-use Rattle.netlist.specs.Meaning.{Inputs, nodeVal}
+use Rattle.netlist.specs.Meaning.{Inputs}
+use Rattle.netlist.specs.Inner.Value.{nodeVal}
 use Rattle.netlist.proofs.Literals.{lit-true}
 use Rattle.netlist.proofs.Model.{WellFormed, valueAt, eval, satisfied-iff, evaluated}
 use Rattle.netlist.proofs.Truth.{Models, models-iff, models-append}

@@ -14,7 +14,7 @@ use Rattle.header.specs.Header.{width}
 use Rattle.faults.specs.Step.{after}
 use Rattle.routine.specs.Routine.{Arm, done, plain, fork, textOf}
 use Rattle.routine.specs.Decode.{routine, decode, noCounts}
-use Rattle.routine.specs.Stands.{Stands}
+use Rattle.routine.specs.Inner.Stands.{Stands}
 use Rattle.header.specs.declared.Header.{Header}
 use Rattle.faults.specs.declared.Counts.{Counts}
 use Rattle.command.specs.declared.Simple.{Simple}

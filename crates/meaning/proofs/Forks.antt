@@ -11,7 +11,7 @@ use borrow.Author.Tests.{le-ltb}
 use Rattle.slices.specs.Bytes.{entry}
 use Rattle.bitvec.specs.Relation.{relates}
 use Rattle.header.specs.Header.{width}
-use Rattle.faults.specs.Sound.{SoundIf, Fine}
+use Rattle.faults.specs.Inner.Sound.{SoundIf, Fine}
 use Rattle.header.specs.declared.Header.{Header}
 use Rattle.command.specs.declared.Condition.{Condition}
 use Rattle.faults.proofs.Fine.{condition-fine}

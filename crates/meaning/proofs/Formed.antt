@@ -10,8 +10,8 @@ use lib.Dec.{eqb}
 use Rattle.slices.specs.Bytes.{entry}
 use Rattle.header.specs.Header.{width, arraySize}
 use Rattle.routine.specs.Routine.{Arm}
-use Rattle.routine.specs.Stands.{Stands}
-use Rattle.faults.specs.Sound.{Sound, SoundIf, Fine}
+use Rattle.routine.specs.Inner.Stands.{Stands}
+use Rattle.faults.specs.Inner.Sound.{Sound, SoundIf, Fine}
 use Rattle.header.specs.declared.Header.{Header}
 use Rattle.command.specs.declared.Condition.{Condition}
 use Rattle.faults.specs.declared.Counts.{Counts}

@@ -11,7 +11,8 @@ use Rattle.header.specs.declared.Header.{Header}
 use Rattle.netlist.specs.Literal.{opp, pos}
 use Rattle.netlist.specs.Node.{Node, and}
 use Rattle.clauses.specs.Meaning.{Assign, lit}
-use Rattle.netlist.specs.Meaning.{Inputs, nodeVal}
+use Rattle.netlist.specs.Meaning.{Inputs}
+use Rattle.netlist.specs.Inner.Value.{nodeVal}
 use Rattle.netlist.proofs.Literals.{lit-pos, lit-neg, lit-opp, lit-false}
 use Rattle.netlist.proofs.Truth.{Models, models-append}
 use Rattle.bits.specs.Bits.{Bits}

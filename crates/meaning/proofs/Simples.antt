@@ -14,7 +14,7 @@ use Rattle.bitvec.specs.Signed.{signed, signExtend}
 use Rattle.bitvec.specs.declared.Whole.{Whole}
 use Rattle.header.specs.Header.{width, arraySize}
 use Rattle.faults.specs.Step.{accesses, converts, widthsFit}
-use Rattle.faults.specs.Sound.{Sound, Fine}
+use Rattle.faults.specs.Inner.Sound.{Sound, Fine}
 use Rattle.header.specs.declared.Header.{Header}
 use Rattle.faults.specs.declared.Counts.{Counts}
 use Rattle.command.specs.declared.Simple.{Simple}

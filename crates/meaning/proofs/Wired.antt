@@ -7,7 +7,7 @@ use native.Mathlib.Nat.{add-assoc}
 use native.Mathlib.Omega.{arith}
 use lib.ListN.{length, length-append, getD}
 use Rattle.header.specs.Header.{width}
-use Rattle.faults.specs.Sound.{Fine}
+use Rattle.faults.specs.Inner.Sound.{Fine}
 use Rattle.header.specs.declared.Header.{Header}
 use Rattle.netlist.specs.Literal.{opp}
 use Rattle.netlist.specs.Node.{Node, and}

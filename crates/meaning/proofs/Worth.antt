@@ -12,7 +12,7 @@ use lib.Dec.{eqb}
 use borrow.Author.Tests.{eqb-true, eqb-false}
 use Rattle.slices.specs.Bytes.{entry}
 use Rattle.header.specs.Header.{width}
-use Rattle.faults.specs.Sound.{Fine}
+use Rattle.faults.specs.Inner.Sound.{Fine}
 use Rattle.header.specs.declared.Header.{Header}
 use Rattle.machine.specs.State.{over}
 use Rattle.clauses.specs.Meaning.{Assign, lit}

@@ -9,9 +9,10 @@ use lib.Dec.{eqb, leb}
 use lib.ListN.{length, length-append}
 use borrow.Author.Tests.{leb-true}
 use Rattle.clauses.proofs.Appending.{appended-none, appended-starts-length, appended-then, appended-words-length, appended-written, written-empty, written-then}
-use Rattle.clauses.specs.Clause.{Appended, Clause, Room, Written}
+use Rattle.clauses.specs.Clause.{Clause}
+use Rattle.clauses.specs.Inner.Append.{Appended, Room, Written}
 use Rattle.netlist.proofs.Nodes.{Sized, clausesOf-append, clausesOf-few, clausesOf-short}
-use Rattle.netlist.specs.Emit.{Counted, Emitted, Ready}
+use Rattle.netlist.specs.Inner.Emit.{Counted, Emitted, Ready}
 use Rattle.netlist.specs.Node.{Node, clausesOf}
 use Rattle.netlist.specs.declared.Net.{Net}
 

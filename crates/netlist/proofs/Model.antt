@@ -9,7 +9,8 @@ use native.Mathlib.Omega.{arith}
 use lib.ListN.{List·getD-append, getD, length, length-append}
 use lib.Seq.{getD-at}
 use Rattle.netlist.proofs.Truth.{Models, models-iff}
-use Rattle.netlist.specs.Meaning.{Agree, Extends, Inputs, majB, nodeVal, xorB}
+use Rattle.netlist.specs.Meaning.{Agree, Extends, Inputs}
+use Rattle.netlist.specs.Inner.Value.{majB, nodeVal, xorB}
 use Rattle.clauses.specs.Meaning.{Assign, lit, sat, turn}
 use Rattle.netlist.specs.Node.{Node, and, clausesOf, input, maj, mux, one, xor}
 

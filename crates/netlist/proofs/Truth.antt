@@ -9,7 +9,8 @@ use lib.ListN.{length}
 use Rattle.clauses.specs.Clause.{Clause}
 use Rattle.netlist.proofs.Literals.{lit-neg, lit-opp, lit-pos}
 use Rattle.clauses.specs.Meaning.{Assign, lit, sat, satClause}
-use Rattle.netlist.specs.Meaning.{Extends, InputOk, Inputs, majB, nodeVal, xorB}
+use Rattle.netlist.specs.Meaning.{Extends, InputOk, Inputs}
+use Rattle.netlist.specs.Inner.Value.{majB, nodeVal, xorB}
 use Rattle.netlist.specs.Node.{Node, and, clausesOf, input, maj, mux, nodeClauses, one, xor}
 
 -- every node, the first being variable g, has its value

@@ -2,7 +2,7 @@
 use clauses::Store;
 ghost use mathlib.Core.Path.{_≡_};
 ghost use Prim.Native.Nat.{_*_, _≤_};
-ghost use Rattle.netlist.specs.Emit.{Counted, Ready};
+ghost use Rattle.netlist.specs.Inner.Emit.{Counted, Ready};
 ghost use Rattle.netlist.specs.Literal.{opp};
 
 // The clause store's counts, and the next variable.

@@ -15,7 +15,7 @@ ghost use mathlib.Core.Bool.{cond};
 ghost use lib.Dec.{eqb};
 ghost use Prim.Native.Nat.{_*_, _≤_, _<_};
 ghost use lib.ListN.{length, take, drop};
-ghost use Rattle.netlist.specs.Emit.{Emitted, Ready};
+ghost use Rattle.netlist.specs.Inner.Emit.{Emitted, Ready};
 ghost use Rattle.bits.specs.Bits.{litAt, tabulate};
 ghost use Rattle.bits.specs.Extend.{extend};
 ghost use Rattle.circuits.specs.Join.{joinBit, join as joinOf};

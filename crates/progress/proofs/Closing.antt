@@ -12,16 +12,16 @@ use lib.Dec.{leb, ltb}
 use borrow.Author.Tests.{lt-ltb, le-ltb, le-leb, lt-leb}
 use Rattle.clauses.specs.Clause.{Clause, flatten}
 use Rattle.clauses.proofs.Appending.{flatten-append}
-use Rattle.propagation.specs.Stored.{startOf, clauseAt, clausesOf, Stands}
+use Rattle.propagation.specs.Stored.{startOf, clauseAt, clausesOf}
+use Rattle.propagation.specs.Inner.Standing.{Stands}
 use Rattle.propagation.proofs.Cases.{below-or}
 use Rattle.propagation.proofs.Standing.{clauses-length, clauses-same}
 use Rattle.step.specs.Phase.{going, conflicted, phaseAfter}
-use Rattle.step.specs.Stop.{refusedBy}
+use Rattle.step.specs.Inner.Stop.{refusedBy}
 use Rattle.progress.specs.State.{State, Limits, more, unless, size, afterClose}
 use Rattle.progress.specs.Check.{onClose}
-use Rattle.progress.specs.Lent.{Store}
+use Rattle.progress.specs.Inner.Held.{Store, literalsOf, stateOf, Held, Written, Did, withClose}
 use Rattle.progress.specs.Lent.{limitsOf}
-use Rattle.progress.specs.Held.{literalsOf, stateOf, Held, Written, Did, withClose}
 use Rattle.step.specs.declared.Phase.{Phase}
 use Rattle.step.specs.declared.Progress.{Progress}
 use Rattle.step.specs.declared.Refusal.{Refusal}

@@ -8,7 +8,7 @@ use borrow.Author.Tests.{le-leb, lt-leb}
 use Rattle.step.specs.Phase.{going}
 use Rattle.progress.specs.State.{stop, unless}
 use Rattle.progress.specs.Check.{onEnd}
-use Rattle.progress.specs.Held.{stateOf}
+use Rattle.progress.specs.Inner.Held.{stateOf}
 use Rattle.step.specs.declared.Progress.{Progress}
 use Rattle.step.specs.declared.Refusal.{Refusal}
 use Rattle.step.specs.declared.Verdict.{Verdict}

@@ -13,10 +13,10 @@ use Rattle.propagation.specs.Stored.{clauseAt}
 use Rattle.propagation.specs.declared.Hint.{Hint}
 use Rattle.propagation.proofs.Standing.{clauses-length, clauses-at}
 use Rattle.step.specs.Phase.{going, inLiterals, conflicted}
-use Rattle.step.specs.Stop.{refusedBy}
+use Rattle.step.specs.Inner.Stop.{refusedBy}
 use Rattle.progress.specs.State.{State, unless}
 use Rattle.progress.specs.Check.{afterHint, onHint}
-use Rattle.progress.specs.Held.{stateOf, Held, Written, Did, withHint}
+use Rattle.progress.specs.Inner.Held.{stateOf, Held, Written, Did, withHint}
 use Rattle.step.specs.declared.Phase.{Phase}
 use Rattle.step.specs.declared.Progress.{Progress}
 use Rattle.step.specs.declared.Refusal.{Refusal}

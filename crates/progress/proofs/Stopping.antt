@@ -4,9 +4,9 @@ use mathlib.Core.Path.{_≡_, refl, sym, ap, subst, _∙_}
 use mathlib.Core.List.{List}
 use mathlib.Core.Bool.{true}
 use Rattle.step.specs.Phase.{going, inLiterals, conflicted}
-use Rattle.step.specs.Stop.{refusedBy}
+use Rattle.step.specs.Inner.Stop.{refusedBy}
 use Rattle.progress.specs.State.{Next, stop}
-use Rattle.progress.specs.Held.{nextIs, Kept, Did}
+use Rattle.progress.specs.Inner.Held.{nextIs, Kept, Did}
 use Rattle.step.specs.declared.Phase.{Phase}
 use Rattle.step.specs.declared.Progress.{Progress}
 use Rattle.step.specs.declared.Refusal.{Refusal}

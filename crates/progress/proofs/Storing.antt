@@ -11,12 +11,12 @@ use lib.Seq.{slice, slice-empty, length-slice, take-set-le, take-suc-set, take-s
 use borrow.Author.Tests.{eq-eqb}
 use Rattle.clauses.specs.Clause.{flatten}
 use Rattle.propagation.specs.Marks.{undecided}
-use Rattle.propagation.specs.Stored.{LiteralsIn, startOf, endOf, clauseAt, clausesOf, Stands}
+use Rattle.propagation.specs.Stored.{startOf, endOf, clauseAt, clausesOf}
+use Rattle.propagation.specs.Inner.Standing.{LiteralsIn, Stands}
 use Rattle.propagation.proofs.Cases.{below-or}
 use Rattle.propagation.proofs.Standing.{clauses-same}
 use Rattle.progress.specs.Check.{fresh}
-use Rattle.progress.specs.Lent.{Store}
-use Rattle.progress.specs.Held.{Held, literalsOf}
+use Rattle.progress.specs.Inner.Held.{Store, Held, literalsOf}
 use Rattle.step.specs.declared.Progress.{Progress}
 use Rattle.slices.proofs.Zeroing.{getD-zeros}
 

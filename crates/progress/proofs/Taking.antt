@@ -11,14 +11,15 @@ use lib.Dec.{eqb, leb}
 use borrow.Author.Tests.{eqb-true, eqb-false, eq-eqb, ne-eqb, le-leb, lt-leb}
 use Rattle.clauses.specs.Clause.{Clause}
 use Rattle.propagation.specs.Marks.{falseMark, undecided}
-use Rattle.propagation.specs.Stored.{LiteralsIn, clausesOf}
+use Rattle.propagation.specs.Stored.{clausesOf}
+use Rattle.propagation.specs.Inner.Standing.{LiteralsIn}
 use Rattle.propagation.proofs.Cases.{both}
 use Rattle.step.specs.Phase.{going, inLiterals}
-use Rattle.step.specs.Stop.{refusedBy}
+use Rattle.step.specs.Inner.Stop.{refusedBy}
 use Rattle.progress.specs.State.{State, Limits, more, unless, size, afterLiteral}
 use Rattle.progress.specs.Check.{ofVariable, fresh, onLiteral}
 use Rattle.progress.specs.Lent.{limitsOf}
-use Rattle.progress.specs.Held.{literalsOf, stateOf, Held, Written, Did, withLiteral}
+use Rattle.progress.specs.Inner.Held.{literalsOf, stateOf, Held, Written, Did, withLiteral}
 use Rattle.step.specs.declared.Phase.{Phase}
 use Rattle.step.specs.declared.Progress.{Progress}
 use Rattle.step.specs.declared.Refusal.{Refusal}

@@ -6,10 +6,10 @@ use native.Mathlib.Omega.{arith}
 use lib.ListN.{length, set, replicate, length-set, length-replicate}
 use lib.Seq.{slice}
 use Rattle.propagation.specs.Marks.{trueMark, falseMark}
-use Rattle.propagation.specs.Clear.{clear}
+use Rattle.propagation.specs.Inner.Clear.{clear}
 use Rattle.propagation.proofs.Clearing.{mark-undone-first, mark-undone-second}
-use Rattle.step.specs.Stop.{refusedBy}
-use Rattle.progress.specs.Held.{literalsOf, Trailed, TrailedAfter, withLiteral, withHint, withClose}
+use Rattle.step.specs.Inner.Stop.{refusedBy}
+use Rattle.progress.specs.Inner.Held.{literalsOf, Trailed, TrailedAfter, withLiteral, withHint, withClose}
 use Rattle.step.specs.declared.Phase.{Phase}
 use Rattle.step.specs.declared.Progress.{Progress}
 use Rattle.step.specs.declared.Refusal.{Refusal}

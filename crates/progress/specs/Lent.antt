@@ -1,11 +1,9 @@
 -- A state of a check in the three lent buffers.
-use Prim.Native.Nat.{ℕ, _+_, _-_, _≤_, _<_}
-use mathlib.Core.Path.{_≡_}
+use Prim.Native.Nat.{ℕ, _+_, _-_}
 use mathlib.Core.List.{List}
 use lib.ListN.{length}
 use lib.Seq.{sets}
 use Rattle.clauses.specs.Clause.{flatten, offsets}
-use Rattle.propagation.specs.Stored.{clausesOf, Stands}
 use Rattle.progress.specs.State.{State, Limits}
 
 -- what there is room for: a mark for each variable and one more
@@ -19,10 +17,3 @@ wordsOf words s = sets (sets words 0 (flatten (s .clauses))) (length (flatten (s
 -- the starts in a state: the offset of each clause
 abbrev pub startsOf : List ℕ → State → List ℕ
 startsOf starts s = sets starts 0 (offsets 0 (s .clauses))
-
--- the first `count` clauses lie in the first `used` words, one after another
-pub record Store (words starts : List ℕ) (marks count used : ℕ) : Type 0 where
-  pub entries : count ≤ length starts
-  pub room : used ≤ length words
-  pub each : (i : ℕ) → i < count → Stands words starts marks used i
-  pub sized : used ≡ length (flatten (clausesOf words starts count))

@@ -1,4 +1,4 @@
 pub mod State
 pub mod Check
 pub mod Lent
-pub mod Held
+pub mod Inner

@@ -15,8 +15,8 @@ ghost use lib.ListN.{length, replicate};
 ghost use Rattle.propagation.specs.Stored.{clausesOf};
 ghost use Rattle.progress.specs.Lent.{limitsOf};
 ghost use Rattle.progress.specs.Check.{onClose};
-ghost use Rattle.step.specs.Undo.{Clean};
-ghost use Rattle.progress.specs.Held.{stateOf, Held, Did, Trailed, TrailedAfter, withClose};
+ghost use Rattle.step.specs.Inner.Undo.{Clean};
+ghost use Rattle.progress.specs.Inner.Held.{stateOf, Held, Did, Trailed, TrailedAfter, withClose};
 
 fn with_close(p: Progress, phase: Phase) -> Progress
     requires { ⌜ (p .at < 2 ^ 62) × (p .used < 2 ^ 62) × (p .literals < 2 ^ 62) × (p .count < 2 ^ 62) × (p .steps ≤ p .at) ⌝ }

@@ -8,7 +8,7 @@ ghost use mathlib.Core.List.{List};
 ghost use Prim.Native.Nat.{ℕ, _^_, _<_};
 ghost use Rattle.progress.specs.State.{stop};
 ghost use Rattle.progress.specs.Check.{onEnd};
-ghost use Rattle.progress.specs.Held.{stateOf};
+ghost use Rattle.progress.specs.Inner.Held.{stateOf};
 
 // It comes right after the empty clause, and last in the report.
 pub fn on_end(report: &[u8], p: Progress) -> Verdict

@@ -14,7 +14,7 @@ ghost use Prim.Native.Nat.{_+_, _/_, _^_, _≤_, _<_};
 ghost use lib.ListN.{length, set};
 ghost use Rattle.propagation.specs.Marks.{trueMark};
 ghost use Rattle.progress.specs.Check.{onHint};
-ghost use Rattle.progress.specs.Held.{stateOf, Held, Did, Trailed, TrailedAfter, withHint};
+ghost use Rattle.progress.specs.Inner.Held.{stateOf, Held, Did, Trailed, TrailedAfter, withHint};
 ghost use Rattle.step.specs.declared.Phase.{Phase};
 
 fn with_hint(p: Progress, phase: Phase, decided: usize) -> Progress

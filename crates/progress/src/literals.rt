@@ -13,7 +13,7 @@ ghost use Prim.Native.Nat.{ℕ, _+_, _^_, _≤_, _<_};
 ghost use lib.ListN.{length};
 ghost use Rattle.progress.specs.Lent.{limitsOf};
 ghost use Rattle.progress.specs.Check.{onLiteral};
-ghost use Rattle.progress.specs.Held.{stateOf, Held, Did, Trailed, TrailedAfter, withLiteral};
+ghost use Rattle.progress.specs.Inner.Held.{stateOf, Held, Did, Trailed, TrailedAfter, withLiteral};
 
 fn with_literal(p: Progress) -> Progress
     requires { ⌜ (p .at < 2 ^ 62) × (p .literals < 2 ^ 62) × (p .commands ≤ p .at) ⌝ }

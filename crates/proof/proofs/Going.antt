@@ -6,14 +6,14 @@ use mathlib.Core.Logic.{inl}
 use lib.ListN.{getD, set, replicate, length-set, length-replicate}
 use Rattle.propagation.specs.Marks.{trueMark, falseMark}
 use Rattle.propagation.specs.Hint.{hintOf}
-use Rattle.propagation.specs.Clear.{clear}
+use Rattle.propagation.specs.Inner.Clear.{clear}
 use Rattle.propagation.specs.declared.Hint.{Hint}
 use Rattle.propagation.proofs.Standing.{In, unit-in}
 use Rattle.propagation.proofs.Clearing.{clear-marked}
 use Rattle.reader.specs.Command.{commandAt}
 use Rattle.progress.specs.State.{State, Limits, Next, more, stop, afterLiteral, hinted, afterClose}
 use Rattle.progress.specs.Check.{onLiteral, afterHint, onHint, onClose}
-use Rattle.step.specs.Undo.{touches, touched, Clean}
+use Rattle.step.specs.Inner.Undo.{touches, touched, Clean}
 use Rattle.reader.specs.declared.Command.{Command}
 use Rattle.step.specs.declared.Phase.{Phase}
 use Rattle.step.specs.declared.Refusal.{Refusal}

@@ -8,10 +8,11 @@ use lib.ListN.{length, getD, take, drop, replicate, length-append, List·getD-ap
 use lib.Seq.{slice, sets, length-sets, take-at, drop-at, getD-append-seam, getD-drop, getD-take, ext-getD}
 use Rattle.clauses.specs.Clause.{Clause, flatten, offsets}
 use Rattle.clauses.proofs.Appending.{sets-front, sets-twice, length-offsets}
-use Rattle.propagation.specs.Stored.{LiteralsIn, startOf, endOf, clauseAt, clausesOf}
+use Rattle.propagation.specs.Stored.{startOf, endOf, clauseAt, clausesOf}
+use Rattle.propagation.specs.Inner.Standing.{LiteralsIn}
 use Rattle.propagation.proofs.Standing.{clauses-length, clauses-at}
-use Rattle.proof.specs.Answer.{Begins}
-use Rattle.progress.specs.Lent.{Store}
+use Rattle.proof.specs.Inner.Begins.{Begins}
+use Rattle.progress.specs.Inner.Held.{Store}
 
 -- literals of variables that have a mark
 abbrev pub Proper : ℕ → List Clause → Type 0

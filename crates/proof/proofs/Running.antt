@@ -8,13 +8,14 @@ use lib.ListN.{length, replicate}
 use lib.Seq.{slice}
 use Rattle.propagation.specs.Marks.{undecided}
 use Rattle.propagation.specs.Stored.{clausesOf}
-use Rattle.propagation.specs.Clear.{clear}
+use Rattle.propagation.specs.Inner.Clear.{clear}
 use Rattle.progress.specs.State.{State, Limits, more, stop}
 use Rattle.progress.specs.Check.{fresh, step, Outcome, follow, run, checkProof}
-use Rattle.proof.specs.Answer.{Answer, leaves, answer, Answers, Begins}
+use Rattle.proof.specs.Answer.{Answer, leaves, answer}
+use Rattle.proof.specs.Inner.Begins.{Answers, Begins}
 use Rattle.progress.specs.Lent.{limitsOf}
-use Rattle.step.specs.Undo.{touched, Clean}
-use Rattle.progress.specs.Held.{stateOf, nextIs, Written, Ready, ReadyAfter, Done}
+use Rattle.step.specs.Inner.Undo.{touched, Clean}
+use Rattle.progress.specs.Inner.Held.{stateOf, nextIs, Written, Ready, ReadyAfter, Done}
 use Rattle.proof.specs.Sound.{Refutes}
 use Rattle.step.specs.declared.Phase.{Phase}
 use Rattle.step.specs.declared.Progress.{Progress}

@@ -5,11 +5,11 @@ use mathlib.Core.List.{List}
 use native.Mathlib.Omega.{arith}
 use lib.ListN.{length}
 use Rattle.reader.specs.Command.{commandAt}
-use Rattle.step.specs.Stop.{refusedBy}
+use Rattle.step.specs.Inner.Stop.{refusedBy}
 use Rattle.progress.specs.State.{Next, more, stop}
 use Rattle.progress.specs.Check.{onLiteral, onHint, onClose, onEnd, obey, step}
 use Rattle.progress.specs.Lent.{limitsOf}
-use Rattle.progress.specs.Held.{stateOf, nextIs, Did, TrailedAfter, Ready, ReadyAfter, Done}
+use Rattle.progress.specs.Inner.Held.{stateOf, nextIs, Did, TrailedAfter, Ready, ReadyAfter, Done}
 use Rattle.reader.specs.declared.Command.{Command}
 use Rattle.step.specs.declared.Progress.{Progress}
 use Rattle.step.specs.declared.Refusal.{Refusal}

@@ -1,2 +1,3 @@
 pub mod Sound
 pub mod Answer
+pub mod Inner

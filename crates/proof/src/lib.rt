@@ -7,7 +7,7 @@ use step::Turn;
 use step::Verdict;
 use turns::turn;
 ghost use Rattle.propagation.specs.Stored.{clausesOf};
-ghost use Rattle.proof.specs.Answer.{Begins, Answers};
+ghost use Rattle.proof.specs.Inner.Begins.{Begins, Answers};
 ghost use Rattle.proof.specs.Sound.{Refutes};
 
 // The literals that a step's hints may make true so that its marks are undone by a list of them: a step with more is read again.

@@ -11,7 +11,7 @@ use step::Turn;
 use step::stops::refused;
 ghost use Rattle.progress.specs.Lent.{limitsOf};
 ghost use Rattle.progress.specs.Check.{step};
-ghost use Rattle.progress.specs.Held.{stateOf, Ready, Done};
+ghost use Rattle.progress.specs.Inner.Held.{stateOf, Ready, Done};
 
 // One command.
 pub fn turn(

@@ -8,7 +8,7 @@ use lib.ListN.{length, getD, set, replicate}
 use lib.Seq.{slice, slice-empty, set-set, set-comm}
 use lib.Dec.{eqb}
 use borrow.Author.Tests.{eqb-true, eqb-false}
-use Rattle.propagation.specs.Clear.{clear}
+use Rattle.propagation.specs.Inner.Clear.{clear}
 use Rattle.propagation.proofs.Cases.{both}
 use Rattle.propagation.proofs.Scanning.{turn-cons}
 use Rattle.propagation.proofs.Standing.{In}

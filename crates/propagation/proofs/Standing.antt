@@ -10,7 +10,8 @@ use lib.Seq.{slice, slice-empty, slice-cons, getD-append-seam}
 use Rattle.clauses.specs.Clause.{Clause}
 use Rattle.propagation.specs.Marks.{isFalse, undecided}
 use Rattle.propagation.specs.Hint.{notFalse, allSame, ofLeft, hintOf}
-use Rattle.propagation.specs.Stored.{startOf, endOf, clauseAt, clausesOf, Stands}
+use Rattle.propagation.specs.Stored.{startOf, endOf, clauseAt, clausesOf}
+use Rattle.propagation.specs.Inner.Standing.{Stands}
 use Rattle.propagation.specs.declared.Hint.{Hint}
 use Rattle.propagation.proofs.Cases.{both, below-or}
 

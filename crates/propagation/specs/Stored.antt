@@ -1,7 +1,7 @@
 -- The clauses that stand in two lists of words: clause i at the offset that is entry i of the starts, as its count and its literals.
-use Prim.Native.Nat.{ℕ, zero, suc, _+_, _/_, _≤_, _<_}
+use Prim.Native.Nat.{ℕ, zero, suc, _+_}
 use mathlib.Core.List.{List, [], _∷_, _++_}
-use lib.ListN.{length, getD}
+use lib.ListN.{getD}
 use lib.Seq.{slice}
 use Rattle.clauses.specs.Clause.{Clause}
 
@@ -22,17 +22,3 @@ unfoldable pub clausesOf : List ℕ → List ℕ → ℕ → List Clause
 unfolding clauseAt
 clausesOf words starts zero = []
 clausesOf words starts (suc n) = clausesOf words starts n ++ (clauseAt words starts n ∷ [])
-
--- the words from one offset up to another are literals of variables that have a mark
-abbrev pub LiteralsIn : List ℕ → ℕ → ℕ → ℕ → Type 0
-LiteralsIn words marks from to = (i : ℕ) → from ≤ i → i < to → (2 ≤ getD words i 0) × (getD words i 0 / 2 < marks)
-
--- clause i lies within the first `used` words, and its literals are of variables that have a mark
-pub record Stands (words starts : List ℕ) (marks used i : ℕ) : Type 0 where
-  pub listed : i < length starts
-  pub inside : endOf words starts i ≤ used
-  pub literals : LiteralsIn words marks (startOf starts i + 1) (endOf words starts i)
-
--- each of the first `count` clauses does
-abbrev pub AllStand : List ℕ → List ℕ → ℕ → ℕ → Type 0
-AllStand words starts marks count = (i : ℕ) → i < count → Stands words starts marks (length words) i

@@ -3,8 +3,9 @@ ghost use mathlib.Core.Path.{_≡_};
 ghost use Prim.Native.Nat.{_/_, _≤_};
 ghost use lib.ListN.{length, set};
 ghost use lib.Seq.{slice};
-ghost use Rattle.propagation.specs.Stored.{Stands, clauseAt};
-ghost use Rattle.propagation.specs.Clear.{clear};
+ghost use Rattle.propagation.specs.Stored.{clauseAt};
+ghost use Rattle.propagation.specs.Inner.Standing.{Stands};
+ghost use Rattle.propagation.specs.Inner.Clear.{clear};
 
 // One literal; one of no variable changes nothing.
 pub fn clear_literal(marks: &mut [u8], literal: u32)

@@ -6,7 +6,8 @@ ghost use Prim.Native.Nat.{_≤_};
 ghost use lib.ListN.{length};
 ghost use lib.Seq.{slice};
 ghost use Rattle.propagation.specs.Hint.{hintOf};
-ghost use Rattle.propagation.specs.Stored.{LiteralsIn, Stands, clauseAt};
+ghost use Rattle.propagation.specs.Stored.{clauseAt};
+ghost use Rattle.propagation.specs.Inner.Standing.{LiteralsIn, Stands};
 
 // The literals from one offset up to another. No literal is 0, so 0 stands for none found; a literal that comes again is the same one.
 fn scan_clause(words: &[u32], marks: &[u8], from: usize, to: usize) -> Hint

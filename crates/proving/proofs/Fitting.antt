@@ -13,12 +13,13 @@ use Rattle.slices.specs.Lent.{usable}
 use Rattle.header.specs.declared.Header.{Header}
 use Rattle.faults.specs.declared.Counts.{Counts}
 use Rattle.routine.specs.Routine.{Arm}
-use Rattle.routine.specs.Decode.{routine, decode, Counted}
+use Rattle.routine.specs.Decode.{routine, decode}
+use Rattle.routine.specs.Inner.Known.{Counted}
 use Rattle.clauses.specs.Clause.{Clause, flatten, offsets}
 use Rattle.wiring.specs.Command.{Stretch}
 use Rattle.lead.specs.declared.Target.{Target}
 use Rattle.translation.specs.Answer as answer
-use Rattle.translation.specs.Answer.{Fitted}
+use Rattle.translation.specs.Inner.Fitted.{Fitted}
 use Rattle.meaning.specs.Translation.{whole, clausesOfAll, sizeOf}
 use Rattle.translation.specs.declared.Buffer as translation
 use Rattle.translation.specs.declared.Refusal as translating
@@ -26,14 +27,14 @@ use Rattle.meaning.specs.declared.Size.{Size}
 use Rattle.translation.specs.declared.Translated.{Translated}
 use Rattle.propagation.specs.Stored.{clausesOf}
 use Rattle.proof.specs.Answer as proof
-use Rattle.proof.specs.Answer.{Begins, Answers}
+use Rattle.proof.specs.Inner.Begins.{Begins, Answers}
 use Rattle.progress.specs.Lent.{limitsOf}
 use Rattle.progress.specs.Check.{checkProof}
 use Rattle.proof.proofs.Laying.{Proper, begins-laid, clauses-laid}
 use Rattle.step.specs.declared.Verdict.{Verdict}
 use Rattle.witness.specs.Lead.{decisionsIn, proofAt}
 use Rattle.proving.specs.Proving.{Room, byVerdict, provedBy}
-use Rattle.proving.specs.Parts.{roomOf, byTranslation, Proves}
+use Rattle.proving.specs.Inner.Parts.{roomOf, byTranslation, Proves}
 use Rattle.proving.specs.declared.Buffer.{Buffer}
 use Rattle.proving.specs.declared.Refusal.{Refusal}
 use Rattle.proving.specs.declared.Proved.{Proved}

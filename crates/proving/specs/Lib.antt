@@ -1,2 +1,2 @@
 pub mod Proving
-pub mod Parts
+pub mod Inner

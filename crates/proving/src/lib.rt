@@ -13,14 +13,14 @@ use witness::leads::proof_at;
 ghost use mathlib.Core.Path.{_≡_};
 ghost use Prim.Native.Nat.{_≤_};
 ghost use lib.ListN.{length, replicate};
-ghost use Rattle.routine.specs.Decode.{Counted};
-ghost use Rattle.proof.specs.Answer.{Begins};
+ghost use Rattle.routine.specs.Inner.Known.{Counted};
+ghost use Rattle.proof.specs.Inner.Begins.{Begins};
 ghost use Rattle.progress.specs.Lent.{limitsOf};
 ghost use Rattle.progress.specs.Check.{checkProof};
 ghost use Rattle.propagation.specs.Stored.{clausesOf};
 ghost use Rattle.witness.specs.Lead.{proofAt};
 ghost use Rattle.proving.specs.Proving.{byVerdict};
-ghost use Rattle.proving.specs.Parts.{roomOf, Proves, byTranslation};
+ghost use Rattle.proving.specs.Inner.Parts.{roomOf, Proves, byTranslation};
 
 // A lent buffer.
 pub enum Buffer {

@@ -22,10 +22,11 @@ use Rattle.netlist.proofs.Literals.{lit-neg, lit-opp, lit-pos, lit-true}
 use Rattle.netlist.proofs.Model.{Before, WellFormed}
 use Rattle.netlist.proofs.Nodes.{Sized, and-sized, none-sized, sized-then, xor-sized}
 use Rattle.netlist.proofs.Truth.{Models, models-append}
-use Rattle.netlist.specs.Emit.{Emitted}
+use Rattle.netlist.specs.Inner.Emit.{Emitted}
 use Rattle.netlist.specs.Literal.{neg, opp}
 use Rattle.clauses.specs.Meaning.{Assign, lit}
-use Rattle.netlist.specs.Meaning.{Inputs, nodeVal, xorB}
+use Rattle.netlist.specs.Meaning.{Inputs}
+use Rattle.netlist.specs.Inner.Value.{nodeVal, xorB}
 use Rattle.netlist.specs.Node.{Node}
 use Rattle.netlist.specs.declared.Net.{Net}
 

@@ -8,7 +8,7 @@ ghost use Prim.Native.Nat.{_<_, _≤_};
 ghost use lib.ListN.{length};
 ghost use Rattle.relations.specs.Access.{aboveLit, aboveNodes};
 ghost use Rattle.bits.specs.Bits.{litAt};
-ghost use Rattle.netlist.specs.Emit.{Emitted, Ready};
+ghost use Rattle.netlist.specs.Inner.Emit.{Emitted, Ready};
 
 // Literal 3, without gates, where no index of this width reaches the size; else the opposite of index <s size.
 pub fn above(words: &mut [u32], starts: &mut [u32], n: Net, index: &[u32], size: u32) -> Test

@@ -12,7 +12,7 @@ ghost use Rattle.adders.specs.Adder.{carryAt, subtractor};
 ghost use Rattle.bits.specs.Bits.{litAt, tabulate};
 ghost use Rattle.bits.specs.Extend.{extend};
 ghost use Rattle.relations.specs.Compare.{equality, flipped, same, sameAt, signedLess};
-ghost use Rattle.netlist.specs.Emit.{Counted, Emitted, Ready};
+ghost use Rattle.netlist.specs.Inner.Emit.{Counted, Emitted, Ready};
 ghost use Rattle.netlist.specs.Literal.{opp};
 
 // Whether the first number is below the second, unsigned: the opposite of the last carry.

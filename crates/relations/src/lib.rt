@@ -11,7 +11,7 @@ ghost use Prim.Native.Nat.{_*_, _<_, _≤_};
 ghost use lib.ListN.{length};
 ghost use Rattle.bits.specs.Bits.{litAt};
 ghost use Rattle.relations.specs.Relation.{relLit, relNodes};
-ghost use Rattle.netlist.specs.Emit.{Emitted, Ready};
+ghost use Rattle.netlist.specs.Inner.Emit.{Emitted, Ready};
 ghost use Rattle.netlist.specs.Literal.{opp};
 
 // What a comparison makes: the state, and the literal that says whether it holds.

@@ -10,7 +10,7 @@ use lib.Dec.{ltb, leb, eqb, lit≤}
 use borrow.Author.Tests.{lt-ltb, le-leb, eq-eqb, leb-true}
 use Rattle.slices.specs.Bytes.{entry, half}
 use Rattle.header.specs.Header.{between, within, widthOk, sizeOk, firstBad, need, headerOf, firstCommand}
-use Rattle.faults.specs.Sound.{Fine}
+use Rattle.faults.specs.Inner.Sound.{Fine}
 use Rattle.rendering.specs.Syntax.{Text, Syntax}
 use Rattle.rendering.specs.Render.{two, sizeBytes}
 use Rattle.rendering.specs.WellFormed.{Between}

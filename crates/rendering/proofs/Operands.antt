@@ -12,7 +12,7 @@ use lib.Dec.{ltb, eqb}
 use borrow.Author.Tests.{lt-ltb, eq-eqb, ne-eqb, ltb-true, eqb-true, eqb-false}
 use Rattle.header.specs.Header.{width}
 use Rattle.faults.specs.Step.{inRange, converts, widthsFit}
-use Rattle.faults.specs.Sound.{Sound, SoundIf}
+use Rattle.faults.specs.Inner.Sound.{Sound, SoundIf}
 use Rattle.rendering.specs.Syntax.{Syntax}
 use Rattle.rendering.specs.WellFormed.{Between, Variable, widthOf, Converts, Good, GoodIf}
 use Rattle.header.specs.declared.Header.{Header}

@@ -11,9 +11,9 @@ use borrow.Author.Tests.{eq-eqb, lt-ltb, lt-leb}
 use Rattle.command.specs.Command.{sizeOfSimple, commandAt}
 use Rattle.faults.specs.Step.{tooMany, after, simpleStep, oneIf, ifStep, stepOf}
 use Rattle.faults.specs.Step as step
-use Rattle.faults.specs.Sound.{Sound, SoundIf}
+use Rattle.faults.specs.Inner.Sound.{Sound, SoundIf}
 use Rattle.routine.specs.Routine.{Arm, done, plain, fork, armStep, stepAt, arm}
-use Rattle.routine.specs.Stands.{Stands}
+use Rattle.routine.specs.Inner.Stands.{Stands}
 use Rattle.rendering.specs.Syntax.{Text, none, simple, branch, Syntax}
 use Rattle.rendering.specs.Render.{four, simpleBytes, textBytes}
 use Rattle.rendering.specs.WellFormed.{Variable, widthOf, AllGood, depth, ifs, oneRead, oneWrite, reads, writes, accesses}

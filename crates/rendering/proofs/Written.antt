@@ -11,7 +11,7 @@ use Rattle.command.specs.Command.{sizeOfSimple, commandAt}
 use Rattle.faults.specs.Step.{after, stepOf}
 use Rattle.faults.specs.Step as step
 use Rattle.routine.specs.Routine.{Arm, done, plain, fork, refused, parsed, armStep, arm}
-use Rattle.routine.specs.Stands.{Stands}
+use Rattle.routine.specs.Inner.Stands.{Stands}
 use Rattle.rendering.specs.Syntax.{Syntax}
 use Rattle.rendering.specs.Render.{simpleBytes, textBytes}
 use Rattle.rendering.specs.WellFormed.{AllGood, depth, ifs, oneRead, oneWrite, reads, writes, accesses}

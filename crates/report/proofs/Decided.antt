@@ -6,24 +6,25 @@ use lib.ListN.{length}
 use Rattle.bitvec.specs.declared.Whole.{Whole}
 use Rattle.header.specs.declared.Header.{Header}
 use Rattle.faults.specs.declared.Counts.{Counts}
-use Rattle.routine.specs.Decode.{checked, Counted}
+use Rattle.routine.specs.Decode.{checked}
+use Rattle.routine.specs.Inner.Known.{Counted}
 use Rattle.routine.specs.declared.Checked.{Checked}
 use Rattle.routine.specs.declared.Refusal as declared
 use Rattle.routine.proofs.Accepted.{accepted, refused-by}
 use Rattle.lead.specs.declared.Refusal as lead
 use Rattle.lead.specs.declared.Target.{Target}
 use Rattle.witness.specs.Lead.{proofAt}
-use Rattle.witness.specs.Witness.{Witnesses}
+use Rattle.witness.specs.Inner.Settles.{Witnesses}
 use Rattle.witness.specs.declared.Refusal as witness
 use Rattle.witness.specs.declared.Witness.{Witness}
 use Rattle.witness.proofs.Opening.{Lets, lets}
 use Rattle.witness.proofs.Standing.{stood}
 use Rattle.proving.specs.Proving.{Room}
-use Rattle.proving.specs.Parts.{Proves}
+use Rattle.proving.specs.Inner.Parts.{Proves}
 use Rattle.proving.specs.declared.Proved.{Proved}
 use Rattle.proving.specs.declared.Refusal.{Refusal}
 use Rattle.report.specs.Judging.{byProof, byWitness, judgement}
-use Rattle.report.specs.Parts.{Claims}
+use Rattle.report.specs.Inner.Parts.{Claims}
 use Rattle.report.specs.declared.Judged.{Judged}
 
 -- ---- what `check` of routine answered

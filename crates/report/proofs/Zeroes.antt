@@ -7,7 +7,7 @@ use native.Mathlib.Omega.{arith}
 use lib.ListN.{length, take, drop, replicate}
 use lib.Seq.{length-take-le}
 use Rattle.slices.specs.Lent.{usable}
-use Rattle.report.specs.Parts.{JudgesParts}
+use Rattle.report.specs.Inner.Parts.{JudgesParts}
 use Rattle.report.specs.Zeroed.{zeroed, Judges}
 use Rattle.report.specs.declared.Judged.{Judged}
 

@@ -1,4 +1,4 @@
 pub mod Judging
 pub mod Demand
 pub mod Zeroed
-pub mod Parts
+pub mod Inner

@@ -14,10 +14,10 @@ use witness::run_witness;
 ghost use mathlib.Core.Path.{_≡_};
 ghost use Prim.Native.Nat.{_≤_};
 ghost use lib.ListN.{length};
-ghost use Rattle.routine.specs.Decode.{Counted};
-ghost use Rattle.proving.specs.Parts.{roomOf};
+ghost use Rattle.routine.specs.Inner.Known.{Counted};
+ghost use Rattle.proving.specs.Inner.Parts.{roomOf};
 ghost use Rattle.report.specs.Judging.{byProof, judgement};
-ghost use Rattle.report.specs.Parts.{Claims};
+ghost use Rattle.report.specs.Inner.Parts.{Claims};
 
 // The answer, from what is said of the proof.
 fn by_proof(routine: &[u8], h: Header, t: Target, array: u8, index: Whole, proved: Proved) -> Judged

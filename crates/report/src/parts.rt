@@ -5,7 +5,7 @@ use slices::zero_bytes;
 use slices::zero_words;
 ghost use Prim.Native.Nat.{_≤_};
 ghost use lib.ListN.{length};
-ghost use Rattle.report.specs.Parts.{JudgesParts};
+ghost use Rattle.report.specs.Inner.Parts.{JudgesParts};
 
 // Decides, then zeroes what was lent, whatever the answer.
 pub fn judge_parts(

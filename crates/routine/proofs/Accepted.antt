@@ -10,7 +10,7 @@ use borrow.Author.Tests.{eqb-true, leb-true}
 use Rattle.header.specs.Header.{headerOf, firstCommand}
 use Rattle.routine.specs.Routine.{Arm, Parsed, refused, parsed, arm}
 use Rattle.routine.specs.Decode.{Decoded, rejected, routine, noCounts, decodeArm, decodeHead, decode, answer, checked}
-use Rattle.routine.specs.Stands.{Stands}
+use Rattle.routine.specs.Inner.Stands.{Stands}
 use Rattle.header.specs.declared.Header.{Header}
 use Rattle.header.specs.declared.Head.{Head}
 use Rattle.faults.specs.declared.Counts.{Counts}

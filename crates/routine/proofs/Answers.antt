@@ -6,8 +6,10 @@ use Prim.Native.Nat.{ℕ}
 use lib.ListN.{length}
 use lib.Dec.{eqb}
 use Rattle.header.specs.Header.{firstCommand}
-use Rattle.routine.specs.Routine.{Arm, Parsed, refused, parsed, arm, walked, walkArm}
-use Rattle.routine.specs.Decode.{Decoded, rejected, routine, noCounts, decodeArm, answer, checkedCommands}
+use Rattle.routine.specs.Routine.{Arm, Parsed, refused, parsed, arm}
+use Rattle.routine.specs.Inner.Walk.{walked, walkArm}
+use Rattle.routine.specs.Decode.{Decoded, rejected, routine, noCounts, decodeArm, answer}
+use Rattle.routine.specs.Inner.Known.{checkedCommands}
 use Rattle.header.specs.declared.Header.{Header}
 use Rattle.routine.specs.declared.Walked.{Walked}
 use Rattle.routine.specs.declared.Refusal.{Refusal}

@@ -10,8 +10,9 @@ use borrow.Author.Tests.{leb-true, ltb-true}
 use Rattle.command.specs.Command.{sizeOf, sizeOfSimple, commandOf, commandAt}
 use Rattle.header.specs.Header.{width}
 use Rattle.faults.specs.Step.{inRange, widthsFit, tooMany, after, unless, refusing, simpleStep, oneIf, conditionInRange, ifStep, stepOf}
-use Rattle.routine.specs.Routine.{Parsed, refused, parsed, plain, fork, andThen, Reader, ifArms, armStep, stepAt, armBy, arm, walked, walkArm, walkIf}
-use Rattle.faults.specs.Sound.{Sound, SoundIf}
+use Rattle.routine.specs.Routine.{Parsed, refused, parsed, plain, fork, andThen, Reader, ifArms, armStep, stepAt, armBy, arm}
+use Rattle.routine.specs.Inner.Walk.{walked, walkArm, walkIf}
+use Rattle.faults.specs.Inner.Sound.{Sound, SoundIf}
 use Rattle.header.specs.declared.Header.{Header}
 use Rattle.command.specs.declared.Condition.{Condition}
 use Rattle.faults.specs.declared.Counts.{Counts}

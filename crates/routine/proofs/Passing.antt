@@ -3,9 +3,10 @@ use mathlib.Core.Path.{_≡_, ap, _∙_}
 use mathlib.Core.List.{List}
 use Prim.Native.Nat.{ℕ}
 use native.Mathlib.Omega.{arith}
-use Rattle.routine.specs.Routine.{Arm, walked, walkArm}
-use Rattle.routine.specs.Stands.{Stands, SomeArm}
-use Rattle.routine.specs.Passes.{Passes}
+use Rattle.routine.specs.Routine.{Arm}
+use Rattle.routine.specs.Inner.Walk.{walked, walkArm}
+use Rattle.routine.specs.Inner.Stands.{Stands, SomeArm}
+use Rattle.routine.specs.Inner.Passes.{Passes}
 use Rattle.header.specs.declared.Header.{Header}
 use Rattle.faults.specs.declared.Counts.{Counts}
 use Rattle.faults.specs.declared.Fault.{Fault}

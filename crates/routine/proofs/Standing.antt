@@ -8,13 +8,13 @@ use lib.ListN.{length}
 use Rattle.header.specs.declared.Header.{Header}
 use Rattle.command.specs.Command.{sizeOfSimple, commandAt}
 use Rattle.faults.specs.Step.{tooMany, oneIf}
-use Rattle.faults.specs.Sound.{Sound, SoundIf}
+use Rattle.faults.specs.Inner.Sound.{Sound, SoundIf}
 use Rattle.command.specs.declared.Condition.{Condition}
 use Rattle.faults.specs.declared.Counts.{Counts}
 use Rattle.command.specs.declared.Simple.{Simple}
 use Rattle.command.specs.declared.Command.{Command}
 use Rattle.routine.specs.Routine.{Arm}
-use Rattle.routine.specs.Stands.{SomeArm, SomeIf}
+use Rattle.routine.specs.Inner.Stands.{SomeArm, SomeIf}
 use Rattle.routine.proofs.Views.{onward, by-missing, by-close, by-simple, by-if, ByIf}
 
 -- the two arms of an if

@@ -5,7 +5,7 @@ use Prim.Native.Nat.{ℕ, _+_, _≤_}
 use lib.ListN.{length}
 use Rattle.command.specs.Command.{sizeOfSimple, commandAt}
 use Rattle.routine.specs.Routine.{Arm, textOf}
-use Rattle.routine.specs.Stands.{Stands}
+use Rattle.routine.specs.Inner.Stands.{Stands}
 use Rattle.header.specs.declared.Header.{Header}
 use Rattle.command.specs.declared.Condition.{Condition}
 use Rattle.faults.specs.declared.Counts.{Counts}

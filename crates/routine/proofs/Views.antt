@@ -9,8 +9,8 @@ use lib.ListN.{length}
 use Rattle.command.specs.Command.{sizeOfSimple, commandAt}
 use Rattle.faults.specs.Step.{tooMany, after, oneIf}
 use Rattle.routine.specs.Routine.{Arm, Parsed, refused, parsed, done, plain, fork, andThen, armStep, stepAt, arm}
-use Rattle.routine.specs.Stands.{Stands}
-use Rattle.faults.specs.Sound.{Sound, SoundIf}
+use Rattle.routine.specs.Inner.Stands.{Stands}
+use Rattle.faults.specs.Inner.Sound.{Sound, SoundIf}
 use Rattle.header.specs.declared.Header.{Header}
 use Rattle.faults.specs.declared.Counts.{Counts}
 use Rattle.faults.specs.declared.Step.{Step}

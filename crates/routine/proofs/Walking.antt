@@ -6,7 +6,7 @@ use Prim.Native.Nat.{ℕ, _+_}
 use Rattle.command.specs.Command.{sizeOfSimple, commandAt}
 use Rattle.faults.specs.Step.{after, oneIf}
 use Rattle.routine.specs.Routine.{Arm, done, plain, fork}
-use Rattle.routine.specs.Stands.{Stands}
+use Rattle.routine.specs.Inner.Stands.{Stands}
 use Rattle.header.specs.declared.Header.{Header}
 use Rattle.command.specs.declared.Condition.{Condition}
 use Rattle.faults.specs.declared.Counts.{Counts}

@@ -45,17 +45,8 @@ answer (routine h a k) = Checked.Accepted h k
 unfoldable pub checked : List ℕ → Checked
 checked bs = answer (decode bs)
 
--- what `check_commands` answers: the header is known to be whole
-unfoldable pub checkedCommands : List ℕ → Header → Checked
-checkedCommands bs h = answer (decodeHead bs (Head.Whole h))
-
 -- the bytes are a routine with this header
 pub record IsRoutine (bs : List ℕ) (h : Header) : Type 0 where
   pub commands : Arm
   pub counts : Counts
   pub decodes : decode bs ≡ routine h commands counts
-
--- the bytes are a routine with this header and these counts
-pub record Counted (bs : List ℕ) (h : Header) (k : Counts) : Type 0 where
-  pub commands : Arm
-  pub decodes : decode bs ≡ routine h commands k

@@ -1,4 +1,3 @@
 pub mod Routine
 pub mod Decode
-pub mod Stands
-pub mod Passes
+pub mod Inner

@@ -10,7 +10,6 @@ use Rattle.faults.specs.declared.Counts.{Counts}
 use Rattle.command.specs.declared.Simple.{Simple}
 use Rattle.faults.specs.declared.Fault.{Fault}
 use Rattle.faults.specs.declared.Step.{Step}
-use Rattle.routine.specs.declared.Walked.{Walked}
 
 -- An arm: its commands, each with its offset and the counts before it, by which it is numbered: an if by its `ifs`, a read by its `reads`, an
 -- access by its `accesses`. An if has two arms, and the arm that it stands in goes on after it.
@@ -70,16 +69,3 @@ armBy (suc n) bs h depth close at k = armStep (armBy n bs h) depth close at k (s
 -- The arm from `at` on.
 abbrev pub arm : List ℕ → Header → Reader
 arm bs = armBy (suc (length bs)) bs
-
--- What walking over an arm, or over an if, answers: the same without the tree.
-abbrev pub walked : {A : Type 0} → Parsed A → Walked
-walked (refused fault place) = Walked.Refused fault place
-walked (parsed a end k) = Walked.Ended end k
-
--- What walking over an arm answers.
-unfoldable pub walkArm : List ℕ → Header → (depth close at : ℕ) → Counts → Walked
-walkArm bs h depth close at k = walked (arm bs h depth close at k)
-
--- What walking over the two arms of an if answers.
-unfoldable pub walkIf : List ℕ → Header → (depth at : ℕ) → Counts → Walked
-walkIf bs h depth at k = walked (ifArms (arm bs h) depth at k)

@@ -13,10 +13,10 @@ use header::first_command;
 ghost use mathlib.Core.Path.{_≡_};
 ghost use Prim.Native.Nat.{_+_, _<_, _≤_};
 ghost use lib.ListN.{length};
-ghost use Rattle.routine.specs.Decode.{checkedCommands};
-ghost use Rattle.routine.specs.Routine.{walkArm, walkIf};
-ghost use Rattle.routine.specs.Stands.{SomeArm};
-ghost use Rattle.routine.specs.Passes.{Passes};
+ghost use Rattle.routine.specs.Inner.Known.{checkedCommands};
+ghost use Rattle.routine.specs.Inner.Walk.{walkArm, walkIf};
+ghost use Rattle.routine.specs.Inner.Stands.{SomeArm};
+ghost use Rattle.routine.specs.Inner.Passes.{Passes};
 
 // Walks over the arm from `from` on, inside `depth` ifs, that the command byte `close` ends, after the counts `before`.
 pub fn walk_arm(

@@ -18,9 +18,10 @@ use Rattle.routine.proofs.Counting.{few-ifs}
 use Rattle.faults.proofs.Fine.{fine}
 use Rattle.inputs.specs.Inputs.{listed}
 use Rattle.machine.specs.State.{over}
-use Rattle.run.specs.Walker.{RunsRoutine}
-use Rattle.inputs.specs.Scan.{Lists}
-use Rattle.run.specs.Answer.{Admission, refused, runs, byList, byRoutine, admission, withoutTree, admittedRoom, admitted, ranBy, answer, Answers}
+use Rattle.run.specs.Inner.Walker.{RunsRoutine}
+use Rattle.inputs.specs.Inner.Scan.{Lists}
+use Rattle.run.specs.Answer.{Admission, refused, runs, byList, byRoutine, admission, ranBy, answer, Answers}
+use Rattle.run.specs.Inner.Admitted.{withoutTree, admittedRoom, admitted}
 use Rattle.inputs.specs.declared.Listed.{Listed}
 use Rattle.run.specs.declared.Buffer.{Buffer}
 use Rattle.run.specs.declared.Refusal.{Refusal}

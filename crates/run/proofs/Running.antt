@@ -10,9 +10,9 @@ use Rattle.header.specs.Header.{firstCommand}
 use Rattle.faults.specs.Step.{after, oneIf, accesses}
 use Rattle.routine.specs.Routine.{Arm}
 use Rattle.routine.specs.Decode.{noCounts, IsRoutine}
-use Rattle.routine.specs.Stands.{Stands, SomeArm, SomeIf}
-use Rattle.faults.specs.Sound.{Fine}
-use Rattle.routine.specs.Passes.{Passes}
+use Rattle.routine.specs.Inner.Stands.{Stands, SomeArm, SomeIf}
+use Rattle.faults.specs.Inner.Sound.{Fine}
+use Rattle.routine.specs.Inner.Passes.{Passes}
 use Rattle.header.specs.declared.Header.{Header}
 use Rattle.command.specs.declared.Condition.{Condition}
 use Rattle.faults.specs.declared.Counts.{Counts}
@@ -27,7 +27,7 @@ use Rattle.routine.proofs.Standing.{if-ends}
 use Rattle.machine.specs.State.{start, take, holds, carry}
 use Rattle.run.specs.Run as run
 use Rattle.run.specs.Run.{Event, Stretch, unlessStopped, andThen, eventsAt, runArm, runOf}
-use Rattle.run.specs.Walker.{isOver, reachedAt, Arrives, RunsArm, RunsIf, ranIf, RunsRoutine}
+use Rattle.run.specs.Inner.Walker.{isOver, reachedAt, Arrives, RunsArm, RunsIf, ranIf, RunsRoutine}
 use Rattle.machine.specs.declared.Outcome.{Outcome}
 use Rattle.machine.specs.declared.State.{State}
 use Rattle.run.specs.declared.Reached.{Reached}

@@ -5,7 +5,7 @@ use mathlib.Core.List.{List}
 use mathlib.Core.Bool.{cond}
 use lib.ListN.{length}
 use lib.Dec.{leb}
-use Rattle.routine.specs.Routine.{Arm, done}
+use Rattle.routine.specs.Routine.{Arm}
 use Rattle.routine.specs.Decode.{Decoded, rejected, routine, decode}
 use Rattle.header.specs.declared.Header.{Header}
 use Rattle.faults.specs.declared.Counts.{Counts}
@@ -17,7 +17,6 @@ use Rattle.machine.specs.declared.Outcome.{Outcome}
 use Rattle.machine.specs.declared.State.{State}
 use Rattle.run.specs.declared.Buffer.{Buffer}
 use Rattle.run.specs.declared.Refusal.{Refusal}
-use Rattle.run.specs.declared.Admitted.{Admitted}
 use Rattle.run.specs.declared.Ran.{Ran}
 
 -- whether there is a run: the refusal, or the routine
@@ -46,19 +45,6 @@ byRoutine bs ins values trail (routine h a k) = byList (length ins) values trail
 -- whether there is a run of the routine on the input list, with so many values and trail bytes lent
 unfoldable pub admission : (bs ins : List ℕ) → (values trail : ℕ) → Admission
 admission bs ins values trail = byRoutine bs ins values trail (decode bs)
-
--- the same without the tree
-abbrev pub withoutTree : Admission → Admitted
-withoutTree (refused refusal) = Admitted.Refused refusal
-withoutTree (runs h a k) = Admitted.Runs h k
-
--- what 16 says to a routine and an input list that passed
-unfoldable pub admittedRoom : (values trail : ℕ) → Header → Counts → Admitted
-admittedRoom values trail h k = withoutTree (roomy values trail h done k)
-
--- what `admit` answers
-unfoldable pub admitted : (bs ins : List ℕ) → (values trail : ℕ) → Admitted
-admitted bs ins values trail = withoutTree (admission bs ins values trail)
 
 -- the answer of a run that is over
 abbrev pub ranBy : Outcome → Ran

@@ -1,3 +1,3 @@
 pub mod Run
-pub mod Walker
 pub mod Answer
+pub mod Inner

@@ -8,7 +8,7 @@ use inputs::Listed;
 use inputs::check_inputs;
 use routine::Checked;
 ghost use mathlib.Core.Path.{_≡_};
-ghost use Rattle.run.specs.Answer.{admitted, admittedRoom};
+ghost use Rattle.run.specs.Inner.Admitted.{admitted, admittedRoom};
 
 // 16: a value for each variable, a trail byte for each if.
 fn admit_room(h: Header, k: Counts, values: usize, trail: usize) -> Admitted

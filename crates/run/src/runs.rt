@@ -17,9 +17,9 @@ ghost use mathlib.Core.Path.{_≡_};
 ghost use Prim.Native.Nat.{_<_};
 ghost use Rattle.faults.specs.Step.{oneIf};
 ghost use Rattle.routine.specs.Decode.{IsRoutine};
-ghost use Rattle.routine.specs.Stands.{SomeArm, SomeIf};
-ghost use Rattle.faults.specs.Sound.{SoundIf, Fine};
-ghost use Rattle.run.specs.Walker.{isOver, reachedAt, RunsArm, RunsIf, RunsRoutine};
+ghost use Rattle.routine.specs.Inner.Stands.{SomeArm, SomeIf};
+ghost use Rattle.faults.specs.Inner.Sound.{SoundIf, Fine};
+ghost use Rattle.run.specs.Inner.Walker.{isOver, reachedAt, RunsArm, RunsIf, RunsRoutine};
 ghost use Rattle.run.specs.Answer.{ranBy};
 
 // Runs the arm that stands where the walk is, inside `depth` ifs and ended by the command byte `close`.

@@ -7,11 +7,11 @@ use native.Mathlib.Numerals.{add-one}
 use lib.ListN.{length, set, List·getD-eq-default}
 use Rattle.clauses.specs.Clause.{Clause}
 use Rattle.propagation.specs.Stored.{clauseAt, clausesOf}
-use Rattle.propagation.specs.Clear.{clear}
+use Rattle.propagation.specs.Inner.Clear.{clear}
 use Rattle.propagation.proofs.Standing.{clauses-at, clauses-length}
 use Rattle.propagation.proofs.Clearing.{clear-append, clear-swap, clear-zeros}
 use Rattle.reader.specs.Command.{commandAt}
-use Rattle.step.specs.Undo.{touches, touched, Clean}
+use Rattle.step.specs.Inner.Undo.{touches, touched, Clean}
 use Rattle.reader.specs.declared.Command.{Command}
 
 -- one command more, the last first

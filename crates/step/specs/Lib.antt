@@ -1,3 +1,2 @@
-pub mod Stop
 pub mod Phase
-pub mod Undo
+pub mod Inner

@@ -3,7 +3,7 @@ use crate::Refusal;
 use crate::Turn;
 use crate::Verdict;
 ghost use mathlib.Core.Path.{_≡_};
-ghost use Rattle.step.specs.Stop.{refusedBy};
+ghost use Rattle.step.specs.Inner.Stop.{refusedBy};
 
 // The check stops with a refusal.
 pub fn refused(refusal: Refusal) -> Turn

@@ -6,10 +6,11 @@ use reader::read_command;
 ghost use mathlib.Core.Path.{_≡_};
 ghost use Prim.Native.Nat.{_*_, _≤_};
 ghost use lib.ListN.{length};
-ghost use Rattle.propagation.specs.Stored.{clausesOf, AllStand};
-ghost use Rattle.propagation.specs.Clear.{clear};
+ghost use Rattle.propagation.specs.Stored.{clausesOf};
+ghost use Rattle.propagation.specs.Inner.Standing.{AllStand};
+ghost use Rattle.propagation.specs.Inner.Clear.{clear};
 ghost use Rattle.reader.specs.Command.{commandAt};
-ghost use Rattle.step.specs.Undo.{touches, touched};
+ghost use Rattle.step.specs.Inner.Undo.{touches, touched};
 
 // Clears what the command at an offset may have marked.
 fn clear_command(

@@ -3,12 +3,13 @@ use mathlib.Core.Path.{_≡_}
 use mathlib.Core.List.{List}
 use Prim.Native.Nat.{ℕ}
 use Rattle.header.specs.declared.Header.{Header}
-use Rattle.lead.specs.Lead.{admitted}
+use Rattle.lead.specs.Inner.Admitted.{admitted}
 use Rattle.lead.specs.declared.Target.{Target}
 use Rattle.lead.specs.declared.Refusal as declared
 use Rattle.lead.specs.declared.Admitted.{Admitted}
 use Rattle.lead.proofs.Leads.{admits, refused-with}
-use Rattle.translation.specs.Answer.{Fitted, answer, Answers}
+use Rattle.translation.specs.Answer.{answer, Answers}
+use Rattle.translation.specs.Inner.Fitted.{Fitted}
 use Rattle.translation.specs.declared.Refusal.{Refusal}
 use Rattle.translation.specs.declared.Translated.{Translated}
 

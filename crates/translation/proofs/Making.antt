@@ -8,22 +8,23 @@ use lib.ListN.{length}
 use Rattle.header.specs.Header.{firstCommand}
 use Rattle.routine.specs.Routine.{Arm}
 use Rattle.routine.specs.Decode.{routine, decode, IsRoutine}
-use Rattle.faults.specs.Sound.{Fine}
+use Rattle.faults.specs.Inner.Sound.{Fine}
 use Rattle.header.specs.declared.Header.{Header}
 use Rattle.faults.specs.declared.Counts.{Counts}
 use Rattle.routine.proofs.Accepted.{decoded}
 use Rattle.faults.proofs.Fine.{fine}
-use Rattle.clauses.specs.Clause.{Clause, Appended, Room}
+use Rattle.clauses.specs.Clause.{Clause}
+use Rattle.clauses.specs.Inner.Append.{Appended, Room}
 use Rattle.clauses.specs.declared.Store.{Store}
 use Rattle.clauses.proofs.Appending.{appended-then, appended-words-length, appended-starts-length, room-weaken}
 use Rattle.netlist.specs.Node.{one, nodeClauses, clausesOf}
-use Rattle.netlist.specs.Emit.{Emitted, Ready}
+use Rattle.netlist.specs.Inner.Emit.{Emitted, Ready}
 use Rattle.netlist.specs.declared.Net.{Net}
 use Rattle.netlist.proofs.Emitting.{emitted-then, emitted-words-length, emitted-starts-length, ready-after, ready-room}
 use Rattle.wiring.specs.Command.{Stretch, after}
 use Rattle.meaning.specs.Walk.{armOf}
 use Rattle.meaning.specs.Translation.{parameterNodes, start, whole, lastClauses, clausesOfAll, sizeOf}
-use Rattle.walking.specs.Walker.{wiresAt, beginning, Arrives, Roomy, ArmMade, ArmRoom, Begun, WholeMade}
+use Rattle.walking.specs.Inner.Walker.{wiresAt, beginning, Arrives, Roomy, ArmMade, ArmRoom, Begun, WholeMade}
 use Rattle.meaning.specs.declared.Size.{Size}
 use Rattle.lead.specs.declared.Target.{Target}
 use Rattle.walking.specs.declared.Walk.{Walk}

@@ -13,9 +13,9 @@ use Rattle.faults.specs.declared.Counts.{Counts}
 use Rattle.clauses.specs.Clause.{flatten, offsets}
 use Rattle.clauses.proofs.Appending.{length-offsets}
 use Rattle.meaning.specs.Translation.{whole, clausesOfAll, sizeOf}
-use Rattle.walking.specs.Walker.{WholeMade}
+use Rattle.walking.specs.Inner.Walker.{WholeMade}
 use Rattle.slices.specs.Lent.{usable}
-use Rattle.translation.specs.Answer.{Fitted}
+use Rattle.translation.specs.Inner.Fitted.{Fitted}
 use Rattle.translation.specs.declared.Buffer.{Buffer}
 use Rattle.translation.specs.declared.Refusal.{Refusal}
 use Rattle.meaning.specs.declared.Size.{Size}

@@ -36,11 +36,6 @@ fitted words starts x =
     (record { translated = Translated.Refused (Refusal.TooSmall Buffer.Starts); words = words; starts = starts }))
     (record { translated = Translated.Refused (Refusal.TooSmall Buffer.Words); words = words; starts = starts })
 
--- the same of whatever was decoded: the answer is r, and the buffers became words₁ and starts₁
-pub record Fitted (bs : List ℕ) (h : Header) (t : Target) (ds words starts words₁ starts₁ : List ℕ) (r : Translated) : Type 0 where
-  pub tells : (a : Arm) (k : Counts) → decode bs ≡ routine h a k
-      → _≡_ {A = Answer} (record { translated = r; words = words₁; starts = starts₁ }) (fitted words starts (whole bs t ds h a))
-
 -- a refusal leaves both buffers unchanged
 abbrev pub answerBy : (bs : List ℕ) → Target → (ds words starts : List ℕ) → Admission → Answer
 answerBy bs t ds words starts (refused refusal) = record { translated = Translated.Refused (Refusal.Lead refusal); words = words; starts = starts }

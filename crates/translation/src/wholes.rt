@@ -16,10 +16,10 @@ use walking::parameters::first_walk;
 use walking::walks::arm_made;
 use wires::Claim;
 ghost use Rattle.routine.specs.Decode.{IsRoutine};
-ghost use Rattle.clauses.specs.Clause.{Appended, Room};
+ghost use Rattle.clauses.specs.Inner.Append.{Appended, Room};
 ghost use Rattle.meaning.specs.Translation.{lastClauses};
-ghost use Rattle.walking.specs.Walker.{WholeMade};
-ghost use Rattle.translation.specs.Answer.{Fitted};
+ghost use Rattle.walking.specs.Inner.Walker.{WholeMade};
+ghost use Rattle.translation.specs.Inner.Fitted.{Fitted};
 
 // The last two clauses: {arrival}, {-side literal}.
 fn append_claim(words: &mut [u32], starts: &mut [u32], s: Store, claim: Claim) -> Store

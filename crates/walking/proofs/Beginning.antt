@@ -7,14 +7,15 @@ use native.Mathlib.Numerals.{add-one}
 use lib.ListN.{length, take, length-append}
 use lib.Seq.{sets, length-sets}
 use Rattle.header.specs.Header.{width}
-use Rattle.faults.specs.Sound.{Fine}
+use Rattle.faults.specs.Inner.Sound.{Fine}
 use Rattle.header.specs.declared.Header.{Header}
 use Rattle.netlist.specs.Node.{Node}
-use Rattle.netlist.specs.Emit.{Emitted}
+use Rattle.netlist.specs.Inner.Emit.{Emitted}
 use Rattle.netlist.specs.declared.Net.{Net}
 use Rattle.netlist.proofs.Emitting.{emitted-then}
 use Rattle.bits.specs.Bits.{tabulate}
-use Rattle.bits.specs.Input.{inputs, inBit, TakesInputs}
+use Rattle.bits.specs.Input.{inputs, inBit}
+use Rattle.bits.specs.Inner.Taken.{TakesInputs}
 use Rattle.bits.proofs.Input.{length-inputs}
 use Rattle.bits.proofs.Laws.{sized-table}
 use Rattle.meaning.specs.Translation.{parameterNodes, parameterLits}

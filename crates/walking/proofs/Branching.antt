@@ -6,16 +6,16 @@ use Prim.Native.Nat.{ℕ, _+_, _*_, _-_, _<_}
 use native.Mathlib.Omega.{arith}
 use lib.ListN.{length}
 use Rattle.slices.specs.Bytes.{entry}
-use Rattle.faults.specs.Sound.{Fine}
+use Rattle.faults.specs.Inner.Sound.{Fine}
 use Rattle.header.specs.declared.Header.{Header}
 use Rattle.command.specs.declared.Condition.{Condition}
 use Rattle.routine.proofs.Standing.{else-room, second-falls}
-use Rattle.netlist.specs.Emit.{Ready}
+use Rattle.netlist.specs.Inner.Emit.{Ready}
 use Rattle.netlist.proofs.Emitting.{emitted-starts-length, emitted-words-length}
 use Rattle.wires.specs.Wires.{isMade}
 use Rattle.branching.specs.Branch.{joined}
-use Rattle.branching.specs.Branched.{Branched}
-use Rattle.walking.specs.Walker.{wiresAt, inFirst, inElse, Arrives, ArmMade, ArmRoom, ifOf, IfMade, IfRoom}
+use Rattle.branching.specs.Inner.Branched.{Branched}
+use Rattle.walking.specs.Inner.Walker.{wiresAt, inFirst, inElse, Arrives, ArmMade, ArmRoom, ifOf, IfMade, IfRoom}
 use Rattle.lead.specs.declared.Target.{Target}
 use Rattle.walking.specs.declared.Walk.{Walk}
 use Rattle.branching.specs.declared.Branches.{Branches}

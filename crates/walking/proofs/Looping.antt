@@ -7,19 +7,19 @@ use native.Mathlib.Omega.{arith}
 use lib.ListN.{length}
 use Rattle.command.specs.Command.{sizeOfSimple, commandAt}
 use Rattle.faults.specs.Step.{tooMany, after}
-use Rattle.faults.specs.Sound.{Sound, SoundIf, Fine}
-use Rattle.routine.specs.Stands.{SomeArm}
+use Rattle.faults.specs.Inner.Sound.{Sound, SoundIf, Fine}
+use Rattle.routine.specs.Inner.Stands.{SomeArm}
 use Rattle.header.specs.declared.Header.{Header}
 use Rattle.command.specs.declared.Condition.{Condition}
 use Rattle.command.specs.declared.Simple.{Simple}
 use Rattle.command.specs.declared.Command.{Command}
 use Rattle.command.proofs.Sizes.{simple-size}
 use Rattle.routine.proofs.Standing.{not-missing, close-room, simple-known, some-if}
-use Rattle.netlist.specs.Emit.{Ready}
+use Rattle.netlist.specs.Inner.Emit.{Ready}
 use Rattle.netlist.proofs.Emitting.{emitted-starts-length, emitted-words-length, ready-weaken}
 use Rattle.wires.specs.Wires.{isMade}
 use Rattle.wiring.specs.Command.{simple}
-use Rattle.walking.specs.Walker.{wiresAt, Arrives, ArmMade, ArmRoom, IfMade, IfRoom}
+use Rattle.walking.specs.Inner.Walker.{wiresAt, Arrives, ArmMade, ArmRoom, IfMade, IfRoom}
 use Rattle.lead.specs.declared.Target.{Target}
 use Rattle.walking.specs.declared.Walk.{Walk}
 use Rattle.walking.proofs.Translating.{Left, begun, arm-told, some-here, room-here, closed, stepped, stopped, if-roomy, forked-on, fork-stopped, if-falls}

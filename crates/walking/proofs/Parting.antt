@@ -8,19 +8,19 @@ use native.Mathlib.Omega.{arith}
 use lib.ListN.{length, length-append}
 use Rattle.slices.specs.Bytes.{entry}
 use Rattle.faults.specs.Step.{oneIf}
-use Rattle.routine.specs.Stands.{Stands, SomeIf}
+use Rattle.routine.specs.Inner.Stands.{Stands, SomeIf}
 use Rattle.header.specs.declared.Header.{Header}
 use Rattle.command.specs.declared.Condition.{Condition}
 use Rattle.faults.specs.declared.Counts.{Counts}
 use Rattle.netlist.specs.Node.{Node}
-use Rattle.netlist.specs.Emit.{Emitted, Ready}
+use Rattle.netlist.specs.Inner.Emit.{Emitted, Ready}
 use Rattle.netlist.proofs.Emitting.{emitted-then, ready-after}
 use Rattle.wires.specs.Wires.{Wires, arriving, isMade}
 use Rattle.wiring.specs.Command.{Stretch, after}
 use Rattle.meaning.specs.Walk.{forked, armOf}
 use Rattle.branching.specs.Branch.{conditionNodes, conditionLit, branchNodes, joined}
-use Rattle.walking.specs.Walker.{wiresAt, inFirst, inElse, Arrives, Roomy, ArmMade, ArmRoom, ifOf, IfMade}
-use Rattle.branching.specs.Branched.{Branched}
+use Rattle.walking.specs.Inner.Walker.{wiresAt, inFirst, inElse, Arrives, Roomy, ArmMade, ArmRoom, ifOf, IfMade}
+use Rattle.branching.specs.Inner.Branched.{Branched}
 use Rattle.lead.specs.declared.Target.{Target}
 use Rattle.walking.specs.declared.Walk.{Walk}
 use Rattle.branching.specs.declared.Branches.{Branches}

@@ -8,7 +8,7 @@ use lib.ListN.{length, length-append}
 use Rattle.command.specs.Command.{sizeOfSimple, commandAt}
 use Rattle.faults.specs.Step as step
 use Rattle.routine.specs.Routine.{Arm, parsed}
-use Rattle.routine.specs.Stands.{Stands, SomeArm}
+use Rattle.routine.specs.Inner.Stands.{Stands, SomeArm}
 use Rattle.header.specs.declared.Header.{Header}
 use Rattle.command.specs.declared.Condition.{Condition}
 use Rattle.faults.specs.declared.Counts.{Counts}
@@ -17,15 +17,15 @@ use Rattle.command.specs.declared.Command.{Command}
 use Rattle.routine.proofs.Views.{by-close, by-simple, by-if, BySimple, ByIf}
 use Rattle.routine.proofs.Standing.{arms-of, if-ends}
 use Rattle.netlist.specs.Node.{Node}
-use Rattle.netlist.specs.Emit.{Emitted}
+use Rattle.netlist.specs.Inner.Emit.{Emitted}
 use Rattle.netlist.specs.declared.Net.{Net}
 use Rattle.netlist.proofs.Emitting.{emitted-none, emitted-then, ready-after, ready-weaken}
 use Rattle.wires.specs.Wires.{Wires, isMade}
 use Rattle.wiring.specs.Command.{Stretch, after, still, simple}
 use Rattle.meaning.specs.Walk.{andThen, armOf}
-use Rattle.walking.specs.Walker.{wiresAt, Arrives, Roomy, ArmMade, ifOf, IfMade, IfRoom}
-use Rattle.wiring.specs.Makes.{Makes}
-use Rattle.branching.specs.Branched.{Branched}
+use Rattle.walking.specs.Inner.Walker.{wiresAt, Arrives, Roomy, ArmMade, ifOf, IfMade, IfRoom}
+use Rattle.wiring.specs.Inner.Makes.{Makes}
+use Rattle.branching.specs.Inner.Branched.{Branched}
 use Rattle.lead.specs.declared.Target.{Target}
 use Rattle.walking.specs.declared.Walk.{Walk}
 use Rattle.branching.specs.declared.Branches.{Branches}

@@ -1,1 +1,1 @@
-pub mod Walker
+pub mod Inner

@@ -11,9 +11,9 @@ use wires::Reach;
 use wires::literals::store_bits;
 ghost use mathlib.Core.Path.{_≡_};
 ghost use lib.ListN.{replicate};
-ghost use Rattle.faults.specs.Sound.{Fine};
-ghost use Rattle.netlist.specs.Emit.{Ready};
-ghost use Rattle.walking.specs.Walker.{Begun, beginning};
+ghost use Rattle.faults.specs.Inner.Sound.{Fine};
+ghost use Rattle.netlist.specs.Inner.Emit.{Ready};
+ghost use Rattle.walking.specs.Inner.Walker.{Begun, beginning};
 
 // The parameters' bits take the next variables; other bits begin as literal 3.
 pub fn begin(lits: &mut [u32], n: Net, bytes: &[u8], h: Header) -> Net

@@ -17,12 +17,12 @@ ghost use Prim.Native.Nat.{_+_, _<_, _≤_};
 ghost use lib.ListN.{length};
 ghost use Rattle.command.specs.Command.{sizeOfSimple};
 ghost use Rattle.faults.specs.Step.{tooMany, after};
-ghost use Rattle.faults.specs.Sound.{Sound, Fine};
-ghost use Rattle.netlist.specs.Emit.{Ready};
+ghost use Rattle.faults.specs.Inner.Sound.{Sound, Fine};
+ghost use Rattle.netlist.specs.Inner.Emit.{Ready};
 ghost use Rattle.wires.specs.Wires.{isMade};
 ghost use Rattle.wiring.specs.Command.{simple};
 ghost use Rattle.branching.specs.Branch.{joined};
-ghost use Rattle.walking.specs.Walker.{Arrives, wiresAt, inFirst, inElse};
+ghost use Rattle.walking.specs.Inner.Walker.{Arrives, wiresAt, inFirst, inElse};
 
 // Whether the claim was made, so that the translation is over.
 pub fn is_over(p: Walk) -> bool

@@ -16,9 +16,9 @@ use wires::literals::copied;
 ghost use mathlib.Core.Path.{_≡_};
 ghost use mathlib.Core.Bool.{false};
 ghost use Prim.Native.Nat.{_<_};
-ghost use Rattle.faults.specs.Sound.{SoundIf, Fine};
+ghost use Rattle.faults.specs.Inner.Sound.{SoundIf, Fine};
 ghost use Rattle.wires.specs.Wires.{isMade};
-ghost use Rattle.walking.specs.Walker.{ArmMade, ArmRoom, IfMade, IfRoom};
+ghost use Rattle.walking.specs.Inner.Walker.{ArmMade, ArmRoom, IfMade, IfRoom};
 
 // Translates the arm that stands where the walk is, inside `depth` ifs and ended by the command byte `close`; ds are the decisions.
 pub fn arm_made(

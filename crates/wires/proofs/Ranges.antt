@@ -3,7 +3,7 @@ use mathlib.Core.List.{List}
 use Prim.Native.Nat.{ℕ, _≤_, _<_}
 use native.Mathlib.Omega.{arith}
 use Rattle.header.specs.Header.{width}
-use Rattle.faults.specs.Sound.{Fine}
+use Rattle.faults.specs.Inner.Sound.{Fine}
 use Rattle.header.specs.declared.Header.{Header}
 
 -- a variable of the routine, and its width

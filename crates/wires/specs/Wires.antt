@@ -8,21 +8,12 @@ use lib.Seq.{sets}
 use Rattle.header.specs.Header.{width}
 use Rattle.bits.specs.Bits.{Bits, litAt, tabulate}
 use Rattle.wires.specs.declared.Claim.{Claim}
-use Rattle.wires.specs.declared.Reach.{Reach}
 
 -- a literal for each bit of each variable, arrival, and the claim
 pub record Wires : Type 0 where
   pub lits : List ℕ
   pub arrival : ℕ
   pub claim : Claim
-
--- the wires, from the lent literals and what is carried beside them
-abbrev pub wiresOf : (lits : List ℕ) → Reach → Wires
-wiresOf lits s = record { lits = lits; arrival = s .arrival; claim = s .claim }
-
--- another arrival, beside the literals
-abbrev pub reaching : Reach → (arrival : ℕ) → Reach
-reaching s arrival = record { arrival = arrival; claim = s .claim }
 
 -- the bits of variable v: the places of its width, from place 32 v on
 abbrev pub bitsIn : (bs lits : List ℕ) → (v : ℕ) → Bits

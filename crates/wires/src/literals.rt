@@ -5,7 +5,8 @@ ghost use mathlib.Core.Path.{_≡_};
 ghost use Prim.Native.Nat.{_≤_, _<_, _*_};
 ghost use lib.ListN.{length, take};
 ghost use lib.Seq.{sets};
-ghost use Rattle.wires.specs.Wires.{reaching, isMade};
+ghost use Rattle.wires.specs.Wires.{isMade};
+ghost use Rattle.wires.specs.Inner.Reach.{reaching};
 
 // The first w of r become the literals of variable v.
 pub fn store_bits(lits: &mut [u32], v: u8, r: &[u32], w: usize)

@@ -16,15 +16,17 @@ use Rattle.command.specs.declared.Simple.{Simple}
 use Rattle.netlist.specs.declared.Net.{Net}
 use Rattle.netlist.proofs.Emitting.{emitted-then}
 use Rattle.bits.specs.Bits.{Bits, litAt, tabulate}
-use Rattle.bits.specs.Input.{inBit, TakesInputs}
+use Rattle.bits.specs.Input.{inBit}
+use Rattle.bits.specs.Inner.Taken.{TakesInputs}
 use Rattle.bits.proofs.Laws.{sized-table}
 use Rattle.relations.specs.Access.{aboveNodes}
 use Rattle.relations.proofs.Access.{above-short}
-use Rattle.wires.specs.Wires.{Wires, wiresOf, bitsIn, bitsPut, bitsOf, put, arriving, claiming, isMade}
+use Rattle.wires.specs.Wires.{Wires, bitsIn, bitsPut, bitsOf, put, arriving, claiming, isMade}
+use Rattle.wires.specs.Inner.Reach.{wiresOf}
 use Rattle.wiring.specs.Command.{Stretch, after, still, claimed, passed, readInto, simple}
 use Rattle.operands.specs.Operation.{computeNodes}
 use Rattle.indexes.specs.Index.{claimNodes, claimLit, accessNodes, accessArrival}
-use Rattle.wiring.specs.Makes.{accessOf, Makes}
+use Rattle.wiring.specs.Inner.Makes.{accessOf, Makes}
 use Rattle.lead.specs.declared.Target.{Target}
 use Rattle.wiring.specs.declared.Made.{Made}
 use Rattle.faults.proofs.Tests.{not-both}

@@ -1,2 +1,2 @@
 pub mod Command
-pub mod Makes
+pub mod Inner

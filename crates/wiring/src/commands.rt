@@ -25,13 +25,14 @@ ghost use mathlib.Core.Path.{_≡_};
 ghost use mathlib.Core.Bool.{false};
 ghost use Prim.Native.Nat.{_<_};
 ghost use lib.ListN.{length};
-ghost use Rattle.faults.specs.Sound.{Sound, Fine};
-ghost use Rattle.netlist.specs.Emit.{Emitted, Ready};
+ghost use Rattle.faults.specs.Inner.Sound.{Sound, Fine};
+ghost use Rattle.netlist.specs.Inner.Emit.{Emitted, Ready};
 ghost use Rattle.bits.specs.Extend.{constBit};
-ghost use Rattle.wires.specs.Wires.{bitsIn, bitsPut, wiresOf, isMade};
+ghost use Rattle.wires.specs.Wires.{bitsIn, bitsPut, isMade};
+ghost use Rattle.wires.specs.Inner.Reach.{wiresOf};
 ghost use Rattle.operands.specs.Operation.{convertBits, computeNodes, computeBits};
 ghost use Rattle.wiring.specs.Command.{simple};
-ghost use Rattle.wiring.specs.Makes.{accessOf, Makes};
+ghost use Rattle.wiring.specs.Inner.Makes.{accessOf, Makes};
 ghost use Rattle.header.specs.Header.{width};
 ghost use Rattle.command.specs.declared.Simple.{Simple};
 

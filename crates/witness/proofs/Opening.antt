@@ -13,7 +13,8 @@ use Rattle.lead.specs.Lead.{admittedLead}
 use Rattle.lead.specs.declared.Admitted.{Admitted}
 use Rattle.lead.specs.declared.Target.{Target}
 use Rattle.lead.proofs.Leads.{InRange, in-range}
-use Rattle.routine.specs.Decode.{IsRoutine, Counted}
+use Rattle.routine.specs.Decode.{IsRoutine}
+use Rattle.routine.specs.Inner.Known.{Counted}
 use Rattle.routine.proofs.Accepted.{decoded}
 use Rattle.routine.proofs.Counting.{few-accesses}
 use Rattle.faults.proofs.Fine.{fine}

@@ -9,14 +9,15 @@ use Rattle.routine.specs.Routine.{Arm}
 use Rattle.routine.specs.Decode.{routine, decode}
 use Rattle.inputs.specs.Inputs.{listed}
 use Rattle.run.specs.Run.{runOf}
-use Rattle.inputs.specs.Scan.{Lists}
+use Rattle.inputs.specs.Inner.Scan.{Lists}
 use Rattle.inputs.specs.declared.Listed.{Listed}
 use Rattle.course.specs.Course.{course}
-use Rattle.course.specs.Walker.{FollowsRoutine}
+use Rattle.course.specs.Inner.Walker.{FollowsRoutine}
 use Rattle.course.specs.declared.Course.{Course}
 use Rattle.lead.specs.declared.Target.{Target}
 use Rattle.witness.specs.Lead.{decisionsIn, wordsFrom, inputCount, witnessIn, leadOf}
-use Rattle.witness.specs.Witness.{byCourse, byOpened, witnessOf, Witnesses, Settles}
+use Rattle.witness.specs.Witness.{byCourse, byOpened, witnessOf}
+use Rattle.witness.specs.Inner.Settles.{Witnesses, Settles}
 use Rattle.witness.specs.declared.Opened.{Opened}
 use Rattle.witness.specs.declared.Refusal.{Refusal}
 use Rattle.witness.specs.declared.Witness.{Witness}

@@ -1,6 +1,5 @@
 -- The witness: its input list is accepted, and its run goes the report's way, comes to the named access, and has its index there on the side.
 use Prim.Native.Nat.{ℕ}
-use mathlib.Core.Path.{_≡_}
 use mathlib.Core.List.{List}
 use mathlib.Core.Bool.{Bool, false, cond}
 use lib.ListN.{length}
@@ -9,7 +8,6 @@ use Rattle.header.specs.Header.{arraySize}
 use Rattle.header.specs.declared.Header.{Header}
 use Rattle.faults.specs.declared.Counts.{Counts}
 use Rattle.routine.specs.Routine.{Arm}
-use Rattle.routine.specs.Decode.{routine, decode}
 use Rattle.machine.specs.Side.{sideNumber}
 use Rattle.machine.specs.State.{lies}
 use Rattle.machine.specs.declared.Lies.{Lies}
@@ -54,11 +52,3 @@ byOpened bs r h a k (Opened.Opens t) = byListed bs r h t (witnessCourse bs r h a
 -- what is said of a report on a routine, as far as its proof
 unfoldable pub witnessOf : (bs r : List ℕ) → Header → Arm → Counts → Witness
 witnessOf bs r h a k = byOpened bs r h a k (leadOf r h k)
-
--- this is said of a report on whatever was decoded
-pub record Witnesses (bs r : List ℕ) (h : Header) (k : Counts) (w : Witness) : Type 0 where
-  pub tells : (a : Arm) → decode bs ≡ routine h a k → w ≡ witnessOf bs r h a k
-
--- the same of a report whose lead names the target
-pub record Settles (bs r : List ℕ) (h : Header) (k : Counts) (t : Target) (w : Witness) : Type 0 where
-  pub tells : (a : Arm) → decode bs ≡ routine h a k → w ≡ byOpened bs r h a k (Opened.Opens t)

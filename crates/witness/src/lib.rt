@@ -7,8 +7,8 @@ use bitvec::Whole;
 use faults::Counts;
 use header::Header;
 use lead::Target;
-ghost use Rattle.routine.specs.Decode.{Counted};
-ghost use Rattle.witness.specs.Witness.{Witnesses};
+ghost use Rattle.routine.specs.Inner.Known.{Counted};
+ghost use Rattle.witness.specs.Inner.Settles.{Witnesses};
 
 // Why a report is turned down before its proof is looked at.
 pub enum Refusal {

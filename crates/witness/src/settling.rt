@@ -19,7 +19,8 @@ ghost use Prim.Native.Nat.{_≤_};
 ghost use lib.ListN.{length};
 ghost use Rattle.routine.specs.Decode.{IsRoutine};
 ghost use Rattle.witness.specs.Lead.{inputCount, proofAt};
-ghost use Rattle.witness.specs.Witness.{isOn, byCourse, Settles};
+ghost use Rattle.witness.specs.Witness.{isOn, byCourse};
+ghost use Rattle.witness.specs.Inner.Settles.{Settles};
 
 // Whether an index lies on the side of a number.
 fn is_on(side: u8, lies: Lies) -> bool

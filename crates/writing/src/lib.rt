@@ -4,7 +4,7 @@ use netlist::opposite;
 ghost use mathlib.Core.List.{[], _∷_};
 ghost use Prim.Native.Nat.{_<_, _^_};
 ghost use lib.ListN.{length};
-ghost use Rattle.clauses.specs.Clause.{Lent, Written};
+ghost use Rattle.clauses.specs.Inner.Append.{Lent, Written};
 ghost use Rattle.netlist.specs.Node.{and, clausesOf, maj, mux, xor};
 
 // Writes a clause of two literals, for which there is room.

@@ -9,7 +9,7 @@ use Rattle.adders.proofs.add_tight.Statement.{statement}
 use Rattle.adders.specs.Adder.{adder, carryAt}
 use Rattle.bits.specs.Bits.{litAt}
 use Rattle.netlist.proofs.Emitting.{emitted-none, emitted-starts-length, emitted-words-length, ready-after}
-use Rattle.netlist.specs.Emit.{Emitted, Ready}
+use Rattle.netlist.specs.Inner.Emit.{Emitted, Ready}
 use Rattle.adders.proofs.add_tight.Tie as tie
 
 abbrev Inv-loop : tie.InvT-loop

@@ -5,7 +5,7 @@ use borrow.Author.Needs.{needs}
 use denote.Ref.{now}
 use lib.ListN.{length}
 use Rattle.clauses.proofs.Appending.{lent-kept, lent-within, written-none, written-starts-length, written-words-length}
-use Rattle.clauses.specs.Clause.{Written}
+use Rattle.clauses.specs.Inner.Append.{Written}
 use Rattle.netlist.specs.Node.{clausesOf}
 use Rattle.bits.specs.Bits.{litAt}
 use Rattle.adders.proofs.Adder.{adder-written, carry-written}

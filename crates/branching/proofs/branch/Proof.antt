@@ -3,7 +3,7 @@ use Rattle.faults.proofs.Fine.{condition-fine}
 use Rattle.netlist.proofs.Emitting.{ready-after, ready-weaken}
 use Rattle.wires.proofs.Ranges.{ranged}
 use Rattle.branching.proofs.Branching.{arm-few, condition-ready, branch-made}
-use Rattle.wires.specs.Wires.{wiresOf}
+use Rattle.wires.specs.Inner.Reach.{wiresOf}
 use borrow.Author.Needs.{needs}
 use native.Mathlib.Omega.{arith}
 use denote.Ref.{now}

@@ -1,6 +1,6 @@
 use Rattle.netlist.proofs.Emitting.{ready-after, ready-weaken}
 use Rattle.branching.proofs.Branching.{join-few, arms-joined}
-use Rattle.wires.specs.Wires.{wiresOf}
+use Rattle.wires.specs.Inner.Reach.{wiresOf}
 use borrow.Author.Needs.{needs}
 use native.Mathlib.Omega.{arith}
 use denote.Ref.{now}

@@ -2,7 +2,7 @@ use mathlib.Core.Path.{_≡_, refl, sym, _∙_}
 use Prim.Native.Nat.{_-_, _≤_}
 use lib.ListN.{length}
 use Rattle.bits.proofs.Laws.{table-length}
-use Rattle.netlist.specs.Emit.{Emitted}
+use Rattle.netlist.specs.Inner.Emit.{Emitted}
 use Rattle.netlist.proofs.Emitting.{emitted-none, emitted-words-length, emitted-starts-length, ready-after}
 use Rattle.wires.proofs.Ranges.{ranged}
 use Rattle.branching.proofs.Branching.{join-few, variable-joined, variable-wired}

@@ -7,16 +7,16 @@ use lib.ListN.{length}
 use borrow.Author.Needs.{needs}
 use Rattle.header.specs.Header.{firstCommand}
 use Rattle.header.specs.declared.Header.{Header}
-use Rattle.faults.specs.Sound.{Fine}
+use Rattle.faults.specs.Inner.Sound.{Fine}
 use Rattle.faults.proofs.Fine.{fine}
 use Rattle.routine.specs.Decode.{noCounts, IsRoutine}
-use Rattle.routine.specs.Stands.{SomeArm}
+use Rattle.routine.specs.Inner.Stands.{SomeArm}
 use Rattle.routine.proofs.Accepted.{decoded}
 use Rattle.machine.specs.State.{start}
 use Rattle.machine.specs.declared.State.{State}
 use Rattle.run.specs.Run.{runArm, runOf}
 use Rattle.course.specs.Course.{course}
-use Rattle.course.specs.Walker.{wayAt, FollowsArm, FollowsRoutine}
+use Rattle.course.specs.Inner.Walker.{wayAt, FollowsArm, FollowsRoutine}
 use Rattle.course.specs.declared.Course.{Course}
 use Rattle.course.specs.declared.Way.{Way}
 use Rattle.course.proofs.follow.Statement.{statement}

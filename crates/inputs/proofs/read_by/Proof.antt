@@ -1,5 +1,5 @@
 use borrow.Author.Needs.{needs}
-use Rattle.inputs.specs.Scan.{readBy}
+use Rattle.inputs.specs.Inner.Scan.{readBy}
 use Rattle.inputs.proofs.read_by.Statement.{statement}
 use Rattle.inputs.proofs.read_by.Tie as tie
 

@@ -1,7 +1,8 @@
 use native.Mathlib.Omega.{arith}
 use lib.ListN.{length}
 use borrow.Author.Tests.{le-leb, lt-leb}
-use Rattle.routine.specs.Decode.{decode, checked, checkedCommands}
+use Rattle.routine.specs.Decode.{decode, checked}
+use Rattle.routine.specs.Inner.Known.{checkedCommands}
 use borrow.Author.Needs.{needs}
 use Rattle.routine.proofs.check.Statement.{statement}
 use Rattle.routine.proofs.check.Tie as tie

@@ -10,7 +10,7 @@ use Rattle.bits.specs.Bits.{litAt, tabulate}
 use Rattle.bits.specs.Extend.{extend}
 use Rattle.circuits.specs.Join.{join, joinBit}
 use Rattle.netlist.proofs.Emitting.{emitted-none, emitted-starts-length, emitted-words-length, ready-after}
-use Rattle.netlist.specs.Emit.{Emitted}
+use Rattle.netlist.specs.Inner.Emit.{Emitted}
 use Rattle.circuits.proofs.joins.join.Statement.{statement}
 use Rattle.circuits.proofs.joins.join.Tie as tie
 

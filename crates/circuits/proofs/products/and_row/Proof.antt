@@ -8,7 +8,7 @@ use Rattle.circuits.proofs.products.and_row.Statement.{statement}
 use Rattle.bits.specs.Bits.{litAt}
 use Rattle.circuits.specs.Product.{row}
 use Rattle.netlist.proofs.Emitting.{emitted-none, emitted-starts-length, emitted-words-length, emitted-written, ready-after, ready-clauses}
-use Rattle.netlist.specs.Emit.{Emitted}
+use Rattle.netlist.specs.Inner.Emit.{Emitted}
 use Rattle.circuits.proofs.products.and_row.Tie as tie
 
 abbrev Inv-loop : tie.InvT-loop

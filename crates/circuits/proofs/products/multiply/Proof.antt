@@ -13,7 +13,7 @@ use Rattle.adders.specs.Adder.{sumBit}
 use Rattle.bits.specs.Bits.{litAt, tabulate}
 use Rattle.circuits.specs.Product.{accBit, product, rowStart}
 use Rattle.netlist.proofs.Emitting.{emitted-counted, emitted-none, emitted-starts-length, emitted-words-length, ready-after}
-use Rattle.netlist.specs.Emit.{Emitted, Ready}
+use Rattle.netlist.specs.Inner.Emit.{Emitted, Ready}
 use Rattle.circuits.proofs.products.multiply.Tie as tie
 
 abbrev Inv-loop : tie.InvT-loop

@@ -4,7 +4,7 @@ use native.Mathlib.Omega.{arith}
 use borrow.Author.Needs.{needs}
 use denote.Ref.{now}
 use Rattle.clauses.proofs.Appending.{lent-kept, lent-within, written-none, written-starts-length, written-words-length}
-use Rattle.clauses.specs.Clause.{Written}
+use Rattle.clauses.specs.Inner.Append.{Written}
 use Rattle.netlist.specs.Node.{clausesOf}
 use Rattle.bits.specs.Bits.{litAt}
 use Rattle.circuits.proofs.Product.{row-written}

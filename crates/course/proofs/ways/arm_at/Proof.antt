@@ -1,6 +1,6 @@
 -- The arm that an if takes. Assumes nothing.
 use borrow.Author.Needs.{needs}
-use Rattle.course.specs.Walker.{armAt}
+use Rattle.course.specs.Inner.Walker.{armAt}
 use Rattle.course.proofs.ways.arm_at.Statement.{statement}
 use Rattle.course.proofs.ways.arm_at.Tie as tie
 

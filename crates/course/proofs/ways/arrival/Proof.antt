@@ -1,7 +1,7 @@
 -- The access that the run came to, if it is the named one. Assumes nothing.
 use borrow.Author.Needs.{needs}
 use borrow.Author.Tests.{eq-eqb, ne-eqb}
-use Rattle.course.specs.Walker.{arrivalAt}
+use Rattle.course.specs.Inner.Walker.{arrivalAt}
 use Rattle.course.proofs.ways.arrival.Statement.{statement}
 use Rattle.course.proofs.ways.arrival.Tie as tie
 

@@ -6,11 +6,11 @@ use native.Mathlib.Omega.{arith}
 use borrow.Author.Needs.{needs}
 use Rattle.header.specs.Header.{width}
 use Rattle.header.specs.declared.Header.{Header}
-use Rattle.faults.specs.Sound.{Sound, Fine}
+use Rattle.faults.specs.Inner.Sound.{Sound, Fine}
 use Rattle.command.specs.declared.Simple.{Simple}
 use Rattle.faults.proofs.Fine.{read-fine, write-fine}
 use Rattle.course.specs.Course.{course}
-use Rattle.course.specs.Walker.{arrivalAt}
+use Rattle.course.specs.Inner.Walker.{arrivalAt}
 use Rattle.course.proofs.ways.course_at.Statement.{statement}
 use Rattle.course.proofs.ways.course_at.Tie as tie
 

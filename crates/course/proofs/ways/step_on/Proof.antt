@@ -1,7 +1,7 @@
 -- The walk after a command that is no if. Assumes nothing.
 use mathlib.Core.Path.{_∙_}
 use borrow.Author.Needs.{needs}
-use Rattle.course.specs.Walker.{stepOn}
+use Rattle.course.specs.Inner.Walker.{stepOn}
 use Rattle.course.proofs.ways.step_on.Statement.{statement}
 use Rattle.course.proofs.ways.step_on.Tie as tie
 

@@ -1,6 +1,6 @@
 use mathlib.Core.Path.{_∙_}
 use lib.ListN.{length}
-use Rattle.step.specs.Undo.{Clean}
+use Rattle.step.specs.Inner.Undo.{Clean}
 use Rattle.progress.proofs.Storing.{stands}
 use Rattle.progress.proofs.Trailing.{trail-undoes}
 use borrow.Author.Needs.{needs}

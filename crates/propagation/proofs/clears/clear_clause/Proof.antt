@@ -4,7 +4,7 @@ use Prim.Native.Nat.{_≤_, _-_}
 use mathlib.Core.Path.{_≡_, refl, sym, _∙_}
 use lib.ListN.{length}
 use lib.Seq.{slice}
-use Rattle.propagation.specs.Clear.{clear}
+use Rattle.propagation.specs.Inner.Clear.{clear}
 use Rattle.propagation.proofs.Clearing.{clear-turn, clear-end}
 use Rattle.propagation.proofs.clears.clear_clause.Statement.{statement}
 use Rattle.propagation.proofs.clears.clear_clause.Tie as tie

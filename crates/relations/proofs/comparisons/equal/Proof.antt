@@ -9,7 +9,7 @@ use Rattle.relations.proofs.comparisons.equal.Statement.{statement}
 use Rattle.bits.specs.Bits.{litAt}
 use Rattle.relations.specs.Compare.{equality, sameAt}
 use Rattle.netlist.proofs.Emitting.{emitted-counted, emitted-none, emitted-starts-length, emitted-words-length, ready-after}
-use Rattle.netlist.specs.Emit.{Emitted, Ready}
+use Rattle.netlist.specs.Inner.Emit.{Emitted, Ready}
 use Rattle.relations.proofs.comparisons.equal.Tie as tie
 
 abbrev Inv-loop : tie.InvT-loop

@@ -4,7 +4,7 @@ use native.Mathlib.Omega.{arith}
 use mathlib.Core.Path.{_≡_, refl, sym, _∙_}
 use Prim.Native.Nat.{ℕ, _<_, _≤_, _+_, _*_, _-_}
 use lib.ListN.{length}
-use Rattle.routine.specs.Routine.{walkArm}
+use Rattle.routine.specs.Inner.Walk.{walkArm}
 use Rattle.faults.specs.declared.Step.{Step}
 use Rattle.routine.specs.declared.Walked.{Walked}
 use Rattle.command.proofs.Sizes.{simple-size}

@@ -1,6 +1,6 @@
 use borrow.Author.Tests.{le-leb, lt-leb}
 use borrow.Author.Needs.{needs}
-use Rattle.run.specs.Answer.{admittedRoom}
+use Rattle.run.specs.Inner.Admitted.{admittedRoom}
 use Rattle.run.proofs.admission.admit_room.Statement.{statement}
 use Rattle.run.proofs.admission.admit_room.Tie as tie
 

@@ -4,8 +4,8 @@ use Prim.Native.Nat.{_≤_, _*_}
 use mathlib.Core.Path.{_≡_, refl, sym, _∙_}
 use lib.ListN.{length}
 use Rattle.propagation.specs.Stored.{clausesOf}
-use Rattle.propagation.specs.Clear.{clear}
-use Rattle.step.specs.Undo.{touched}
+use Rattle.propagation.specs.Inner.Clear.{clear}
+use Rattle.step.specs.Inner.Undo.{touched}
 use Rattle.step.proofs.Cleaning.{touched-more, touched-none}
 use Rattle.step.proofs.undoing.clear_step.Statement.{statement}
 use Rattle.step.proofs.undoing.clear_step.Tie as tie

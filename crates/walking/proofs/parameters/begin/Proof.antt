@@ -3,7 +3,7 @@ use mathlib.Core.List.{List, []}
 use Prim.Native.Nat.{ℕ, _-_, _≤_}
 use lib.ListN.{length, length-replicate}
 use Rattle.bits.proofs.Laws.{table-length}
-use Rattle.netlist.specs.Emit.{Emitted}
+use Rattle.netlist.specs.Inner.Emit.{Emitted}
 use Rattle.netlist.proofs.Emitting.{emitted-none, ready-after, ready-weaken}
 use Rattle.meaning.specs.Translation.{parameterNodes, parameterLits}
 use Rattle.wires.proofs.Ranges.{ranged}

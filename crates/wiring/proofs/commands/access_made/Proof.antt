@@ -2,7 +2,7 @@ use mathlib.Core.Path.{sym, _∙_}
 use Rattle.netlist.proofs.Emitting.{ready-weaken}
 use Rattle.wires.proofs.Ranges.{ranged}
 use Rattle.wiring.proofs.Commanding.{claim-at, pass-at, makes-as}
-use Rattle.wires.specs.Wires.{wiresOf, reaching}
+use Rattle.wires.specs.Inner.Reach.{wiresOf, reaching}
 use Rattle.wires.specs.declared.Claim.{Claim}
 use borrow.Author.Needs.{needs}
 use native.Mathlib.Omega.{arith}

@@ -3,7 +3,8 @@ use Rattle.faults.proofs.Fine.{read-fine}
 use Rattle.netlist.proofs.Emitting.{ready-after, ready-weaken}
 use Rattle.wires.proofs.Ranges.{ranged}
 use Rattle.wiring.proofs.Commanding.{stored, access-few, read-claimed, read-goes, makes-as, read-makes}
-use Rattle.wires.specs.Wires.{Wires, wiresOf, isMade}
+use Rattle.wires.specs.Wires.{Wires, isMade}
+use Rattle.wires.specs.Inner.Reach.{wiresOf}
 use Rattle.bits.proofs.Laws.{table-length}
 use borrow.Author.Needs.{needs}
 use native.Mathlib.Omega.{arith}

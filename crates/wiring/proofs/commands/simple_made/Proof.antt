@@ -4,7 +4,7 @@ use Prim.Native.Nat.{ℕ}
 use Rattle.faults.proofs.Fine.{write-fine}
 use Rattle.netlist.proofs.Emitting.{emitted-none}
 use Rattle.wiring.proofs.Commanding.{write-is, makes-as}
-use Rattle.wires.specs.Wires.{wiresOf}
+use Rattle.wires.specs.Inner.Reach.{wiresOf}
 use Rattle.wiring.specs.Command.{simple}
 use borrow.Author.Needs.{needs}
 use denote.Ref.{now}

@@ -9,15 +9,16 @@ use Rattle.slices.specs.Bytes.{entry}
 use Rattle.faults.specs.Step.{oneIf}
 use Rattle.routine.specs.Routine.{Arm}
 use Rattle.routine.specs.Decode.{routine, decode, noCounts}
-use Rattle.routine.specs.Stands.{Stands, SomeArm, SomeIf}
+use Rattle.routine.specs.Inner.Stands.{Stands, SomeArm, SomeIf}
 use Rattle.header.specs.declared.Header.{Header}
 use Rattle.command.specs.declared.Condition.{Condition}
 use Rattle.faults.specs.declared.Counts.{Counts}
 use Rattle.clauses.specs.Clause.{flatten, offsets}
-use Rattle.netlist.specs.Emit.{Emitted, Ready}
+use Rattle.netlist.specs.Inner.Emit.{Emitted, Ready}
 use Rattle.netlist.specs.declared.Net.{Net}
 use Rattle.wiring.specs.Command.{Stretch}
-use Rattle.wires.specs.Wires.{Wires, wiresOf, reaching, isMade}
+use Rattle.wires.specs.Wires.{Wires, isMade}
+use Rattle.wires.specs.Inner.Reach.{wiresOf, reaching}
 use Rattle.meaning.specs.Walk.{forked, armOf}
 use Rattle.meaning.specs.Translation.{parameterNodes, parameterLits, whole, clausesOfAll, sizeOf}
 use Rattle.lead.specs.declared.Target.{Target}

@@ -8,7 +8,7 @@ use Rattle.command.specs.Command.{sizeOfSimple}
 use Rattle.faults.specs.Step.{oneIf, accesses, after}
 use Rattle.routine.specs.Routine.{Arm}
 use Rattle.routine.specs.Decode.{routine, decode}
-use Rattle.routine.specs.Stands.{Stands}
+use Rattle.routine.specs.Inner.Stands.{Stands}
 use Rattle.header.specs.declared.Header.{Header}
 use Rattle.command.specs.declared.Condition.{Condition}
 use Rattle.faults.specs.declared.Counts.{Counts}
@@ -17,7 +17,7 @@ use Rattle.machine.specs.State.{take, holds, indexOf, carry}
 use Rattle.machine.specs.declared.State.{State}
 use Rattle.run.specs.Run.{Stretch, took, eventsAt, runArm, runOf}
 use Rattle.run.specs.Run as run
-use Rattle.run.specs.Walker.{isOver}
+use Rattle.run.specs.Inner.Walker.{isOver}
 use Rattle.course.specs.Course.{course}
 use Rattle.course.specs.declared.Course.{Course}
 use Rattle.course.specs.declared.Way.{Way}

@@ -9,7 +9,7 @@ use Rattle.routine.specs.Routine.{Arm}
 use Rattle.routine.specs.Decode.{routine, decode}
 use Rattle.witness.specs.Witness.{witnessOf}
 use Rattle.proving.specs.Proving.{Room}
-use Rattle.proving.specs.Parts.{roomOf}
+use Rattle.proving.specs.Inner.Parts.{roomOf}
 use Rattle.report.specs.Judging.{byWitness, judgement}
 use Rattle.report.specs.declared.Judged.{Judged}
 

@@ -6,17 +6,26 @@ use mathlib.Core.Bool.{true}
 use mathlib.Core.Logic.{_⊎_}
 use lib.ListN.{length, replicate}
 use lib.Seq.{slice}
-use Rattle.propagation.specs.Clear.{clear}
+use Rattle.propagation.specs.Inner.Clear.{clear}
 use Rattle.propagation.specs.Marks.{undecided}
-use Rattle.propagation.specs.Stored.{LiteralsIn, clausesOf}
+use Rattle.propagation.specs.Stored.{clausesOf}
+use Rattle.propagation.specs.Inner.Standing.{LiteralsIn, Stands}
 use Rattle.step.specs.Phase.{inLiterals}
 use Rattle.progress.specs.State.{State, Next, more, stop}
 use Rattle.progress.specs.Check as Check
-use Rattle.progress.specs.Lent.{wordsOf, startsOf, Store}
-use Rattle.step.specs.Undo.{Clean}
+use Rattle.progress.specs.Lent.{wordsOf, startsOf}
+use Rattle.step.specs.Inner.Undo.{Clean}
 use Rattle.step.specs.declared.Phase.{Phase}
 use Rattle.step.specs.declared.Progress.{Progress}
 use Rattle.step.specs.declared.Turn.{Turn}
+use Rattle.clauses.specs.Clause.{flatten}
+
+-- the first `count` clauses lie in the first `used` words, one after another
+pub record Store (words starts : List ℕ) (marks count used : ℕ) : Type 0 where
+  pub entries : count ≤ length starts
+  pub room : used ≤ length words
+  pub each : (i : ℕ) → i < count → Stands words starts marks used i
+  pub sized : used ≡ length (flatten (clausesOf words starts count))
 
 -- the step's literals stand after the word for their count
 abbrev pub literalsOf : List ℕ → Progress → List ℕ

@@ -3,7 +3,7 @@ use mathlib.Core.List.{List}
 use mathlib.Core.Path.{_≡_}
 use Prim.Native.Nat.{_*_, _+_, _^_, _≤_, ℕ}
 use lib.ListN.{length}
-use Rattle.clauses.specs.Clause.{Appended}
+use Rattle.clauses.specs.Inner.Append.{Appended}
 use Rattle.netlist.specs.Node.{Node, clausesOf}
 use Rattle.netlist.specs.declared.Net.{Net}
 

@@ -7,9 +7,10 @@ use lib.Dec.{eqb}
 use Rattle.header.specs.declared.Header.{Header}
 use Rattle.faults.specs.Step.{accesses}
 use Rattle.faults.specs.declared.Counts.{Counts}
-use Rattle.netlist.specs.Emit.{Emitted}
+use Rattle.netlist.specs.Inner.Emit.{Emitted}
 use Rattle.netlist.specs.declared.Net.{Net}
-use Rattle.wires.specs.Wires.{Wires, wiresOf}
+use Rattle.wires.specs.Wires.{Wires}
+use Rattle.wires.specs.Inner.Reach.{wiresOf}
 use Rattle.wiring.specs.Command.{Stretch, claimed, passed}
 use Rattle.lead.specs.declared.Target.{Target}
 use Rattle.wiring.specs.declared.Made.{Made}

@@ -4,7 +4,7 @@ use mathlib.Core.Path.{_≡_}
 use mathlib.Core.List.{List, _++_}
 use lib.ListN.{length}
 use Rattle.command.specs.declared.Condition.{Condition}
-use Rattle.netlist.specs.Emit.{Emitted}
+use Rattle.netlist.specs.Inner.Emit.{Emitted}
 use Rattle.netlist.specs.declared.Net.{Net}
 use Rattle.wires.specs.Wires.{Wires}
 use Rattle.branching.specs.Branch.{conditionNodes, conditionLit, branchNodes, firstLit, elseLit}
