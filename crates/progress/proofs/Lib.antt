@@ -1,9 +1,8 @@
 -- What the proofs of several functions use, and the laws for the layers above.
 pub mod Storing
-mod Stopping
-mod Writing
+pub mod Stopping
+pub mod Writing
 pub mod Trailing
 mod Taking
 mod Ending
 mod Hinting
-mod Closing

@@ -1,5 +1,4 @@
-// What each command of a proof does: to the three buffers, and to where the check stands.
-pub mod closes;
+// What the commands of a proof but the close do: to the three buffers, and to where the check stands.
 pub mod ends;
 pub mod hints;
 pub mod literals;

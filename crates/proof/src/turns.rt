@@ -1,5 +1,5 @@
 // One command of a proof after another.
-use progress::closes::on_close;
+use closing::on_close;
 use progress::ends::on_end;
 use progress::hints::on_hint;
 use progress::literals::on_literal;

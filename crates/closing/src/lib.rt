@@ -1,4 +1,4 @@
-// The close of a step.
+// The close of a step: its clause takes the next number, and its marks are undone.
 use propagation::clears::clear_clause;
 use step::Phase;
 use step::Progress;

@@ -2,11 +2,11 @@ use mathlib.Core.Path.{sym, ap, _∙_}
 use borrow.Author.Tests.{not-true, not-false}
 use lib.ListN.{length, set}
 use Rattle.step.specs.declared.Turn.{Turn}
 use Rattle.progress.proofs.Trailing.{trailed-stop, trailed-close}
-use Rattle.progress.proofs.Closing.{close-over, close-early, full-words, full-starts, did-close}
+use Rattle.closing.proofs.Adding.{close-over, close-early, full-words, full-starts, did-close}
 use borrow.Author.Needs.{needs}
-use Rattle.progress.proofs.closes.on_close.Statement.{statement}
-use Rattle.progress.proofs.closes.on_close.Tie as tie
+use Rattle.closing.proofs.on_close.Statement.{statement}
+use Rattle.closing.proofs.on_close.Tie as tie
 
 is-going-requires : tie.Need-is-going-requires
 is-going-requires c κs = search needs

@@ -1,11 +1,11 @@
 use mathlib.Core.Path.{_∙_}
 use lib.ListN.{length}
 use Rattle.step.specs.Inner.Undo.{Clean}
 use Rattle.progress.proofs.Storing.{stands}
 use Rattle.progress.proofs.Trailing.{trail-undoes}
 use borrow.Author.Needs.{needs}
-use Rattle.progress.proofs.closes.undo.Statement.{statement}
-use Rattle.progress.proofs.closes.undo.Tie as tie
+use Rattle.closing.proofs.undo.Statement.{statement}
+use Rattle.closing.proofs.undo.Tie as tie
 
 add-from : tie.Need-add-from
 add-from c = search needs

@@ -1,0 +1,2 @@
+-- What the proof of the close uses.
+mod Adding
