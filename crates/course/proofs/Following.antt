@@ -21,10 +21,10 @@ use Rattle.routine.proofs.Standing.{simple-known, if-ends}
 use Rattle.machine.specs.State.{carry}
 use Rattle.machine.specs.declared.Outcome.{Outcome}
 use Rattle.machine.specs.declared.State.{State}
-use Rattle.run.specs.Run.{Event, Stretch, unlessStopped, andThen, eventsAt, runArm}
+use Rattle.run.specs.Run.{Event, Stretch, unlessStopped, andThen, eventsAt, runArm, runIf}
 use Rattle.run.specs.Inner.Walker.{isOver}
 use Rattle.course.specs.Course.{course}
-use Rattle.course.specs.Inner.Walker.{settled, isDone, wayAt, stepOn, stretchOfIf, Arrives, FollowsArm, FollowsIf}
+use Rattle.course.specs.Inner.Walker.{settled, isDone, wayAt, stepOn, Arrives, FollowsArm, FollowsIf}
 use Rattle.course.specs.declared.Course.{Course}
 use Rattle.course.specs.declared.Way.{Way}
 use Rattle.course.proofs.Laws.{course-append}
@@ -213,7 +213,7 @@ module _ (bs ins ds : List ℕ) (access : ℕ) (h : Header) (depth close : ℕ) 
       module _ (c : Condition) (q : r ≡ Command.If c) (t : Way) (f : FollowsIf bs ins ds access h depth c w t) where
         arrives : (k : Counts) → w .counts ≡ k → (first second : Arm) (else : ℕ) (k₂ : Counts) (next : ℕ) (k₃ : Counts)
             → Stands bs h (depth + 1) 12 (w .next + 4) (oneIf k) first else k₂ → Stands bs h (depth + 1) 13 else k₂ second next k₃
-            → Arrives ds access (stretchOfIf bs ins h c k first second (w .state)) next k₃ t
+            → Arrives ds access (runIf bs c k (runArm bs ins h first) (runArm bs ins h second) (w .state)) next k₃ t
         arrives k e first second else k₂ next k₃ x y = rw (← e) (f .tells first else k₂ second next k₃ (rw e x) y)
 
         pub forked : isDone t ≡ false → Going w₀ t
@@ -222,7 +222,7 @@ module _ (bs ins ds : List ℕ) (access : ℕ) (h : Header) (depth close : ℕ) 
             walking.at-if bs h depth close Meant Tied (w₀ .next) (w₀ .state, w₀ .counts) (w .next) (w .state, w .counts) g r is c q (t .next) (t .state, t .counts)
             (λ k first second rest else k₂ next k₃ u x y.
             let z = arrives k u first second else k₂ next k₃ x y in
-            (z .next e, z .counts e, then-on ds access (stretchOfIf bs ins h c k first second (w .state)) (runArm bs ins h rest) t (z .course) (z .state) e))
+            (z .next e, z .counts e, then-on ds access (runIf bs c k (runArm bs ins h first) (runArm bs ins h second) (w .state)) (runArm bs ins h rest) t (z .course) (z .state) e))
 
         pub fork-done : isDone t ≡ true → FollowsArm bs ins ds access h depth close w₀ t
         unfolding Going runArm
@@ -233,7 +233,7 @@ module _ (bs ins ds : List ℕ) (access : ℕ) (h : Header) (depth close : ℕ) 
               (seen (t .course) (t .state))
               (λ k first second rest else k₂ next k₃ u y z.
               let p = arrives k u first second else k₂ next k₃ y z in
-              then-off ds access (stretchOfIf bs ins h c k first second (w .state)) (runArm bs ins h rest) t (p .course) (p .state) e)
+              then-off ds access (runIf bs c k (runArm bs ins h first) (runArm bs ins h second) (w .state)) (runArm bs ins h rest) t (p .course) (p .state) e)
               (w₀ .counts) a end k₁ refl x)
               (either t e) (either t e);
         }

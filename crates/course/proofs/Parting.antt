@@ -15,10 +15,10 @@ use Rattle.routine.specs.declared.Passed.{Passed}
 use Rattle.machine.specs.State.{take, holds}
 use Rattle.machine.specs.declared.State.{State}
 use Rattle.run.specs.Run as run
-use Rattle.run.specs.Run.{Stretch, took, runArm}
+use Rattle.run.specs.Run.{Stretch, took, runArm, runIf}
 use Rattle.run.specs.Inner.Walker.{isOver}
 use Rattle.course.specs.Course.{keeps, course}
-use Rattle.course.specs.Inner.Walker.{settled, isDone, wayAt, armAt, stretchOfIf, Arrives, FollowsArm, FollowsIf}
+use Rattle.course.specs.Inner.Walker.{settled, isDone, wayAt, armAt, Arrives, FollowsArm, FollowsIf}
 use Rattle.course.specs.declared.Course.{Course}
 use Rattle.course.specs.declared.Way.{Way}
 use Rattle.course.proofs.Following.{going, either}
@@ -101,7 +101,7 @@ module _ (bs ins ds : List ℕ) (access : ℕ) (h : Header) (depth : ℕ) (c : C
   module _ (e : b ≡ true) (inside : Counts) (k : inside ≡ oneIf (w .counts)) (s : State) where
     -- what the arm that was taken comes to is what the if comes to
     kept : (first second : Arm) (x : Stretch) → x ≡ cond (holds bs c (w .state)) (firstOf first) (secondOf second)
-        → (end : ℕ) (k₁ : Counts) (r : Way) → Arrives ds access x end k₁ r → Arrives ds access (stretchOfIf bs ins h c (w .counts) first second (w .state)) end k₁ r
+        → (end : ℕ) (k₁ : Counts) (r : Way) → Arrives ds access x end k₁ r → Arrives ds access (runIf bs c (w .counts) (runArm bs ins h first) (runArm bs ins h second) (w .state)) end k₁ r
     kept first second x q end k₁ r a =
         let p = fork-kept ds access (w .counts .ifs) (accesses (w .counts)) (firstOf first) (secondOf second) (holds bs c (w .state)) (decision ∙ e) in
         record {
@@ -114,7 +114,7 @@ module _ (bs ins ds : List ℕ) (access : ℕ) (h : Header) (depth : ℕ) (c : C
     module _ (z : arm ≡ 0) (t : s ≡ take (w .state) (w .counts .ifs) 0) (v : Way) (f : v ≡ wayAt (w .next + 4) inside s Course.Passing)
         (r : Way) (x : FollowsArm bs ins ds access h (depth + 1) 12 v r) where
       first-tells : (first second : Arm) (else : ℕ) (k₁ : Counts) → Stands bs h (depth + 1) 12 (w .next + 4) (oneIf (w .counts)) first else k₁
-          → Arrives ds access (stretchOfIf bs ins h c (w .counts) first second (w .state)) else k₁ r
+          → Arrives ds access (runIf bs c (w .counts) (runArm bs ins h first) (runArm bs ins h second) (w .state)) else k₁ r
       unfolding armAt
       first-tells first second else k₁ p =
           kept first second (runArm bs ins h first s)

@@ -7,6 +7,7 @@ use Rattle.faults.specs.Step.{accesses}
 use Rattle.routine.specs.Routine.{Arm, done, plain, fork}
 use Rattle.header.specs.declared.Header.{Header}
 use Rattle.faults.specs.declared.Counts.{Counts}
+use Rattle.command.specs.declared.Condition.{Condition}
 use Rattle.command.specs.declared.Simple.{Simple}
 use Rattle.machine.specs.State.{start, take, holds, indexOf, carry}
 use Rattle.machine.specs.declared.Outcome.{Outcome}
@@ -44,17 +45,20 @@ eventsAt bs (Simple.Compute op d a b) k s = []
 eventsAt bs (Simple.Read d array i) k s = came (accesses k) array (indexOf bs s i) ∷ []
 eventsAt bs (Simple.Write array i a) k s = came (accesses k) array (indexOf bs s i) ∷ []
 
+-- an if with these arms, where the counts are k: the arm that its condition chooses
+abbrev pub runIf : List ℕ → Condition → Counts → (first second : State → Stretch) → State → Stretch
+runIf bs c k first second s =
+    cond (holds bs c s)
+    (after (took (k .ifs) 0 (accesses k) ∷ []) (first (take s (k .ifs) 0)))
+    (after (took (k .ifs) 1 (accesses k) ∷ []) (second (take s (k .ifs) 1)))
+
 -- the run of an arm from a state
 unfoldable pub runArm : (bs ins : List ℕ) → Header → Arm → State → Stretch
 runArm bs ins h done s = record { events = []; state = s }
 runArm bs ins h (plain at c k rest) s =
     andThen (record { events = eventsAt bs c k s; state = carry bs ins h c k s }) (runArm bs ins h rest)
 runArm bs ins h (fork at c k first second rest) s =
-    andThen
-    (cond (holds bs c s)
-    (after (took (k .ifs) 0 (accesses k) ∷ []) (runArm bs ins h first (take s (k .ifs) 0)))
-    (after (took (k .ifs) 1 (accesses k) ∷ []) (runArm bs ins h second (take s (k .ifs) 1))))
-    (runArm bs ins h rest)
+    andThen (runIf bs c k (runArm bs ins h first) (runArm bs ins h second) s) (runArm bs ins h rest)
 
 -- the run of a routine on an input list
 unfoldable pub runOf : (bs ins : List ℕ) → Header → Arm → Stretch

@@ -1,7 +1,7 @@
 -- What the walkers over the bytes of an accepted routine tell of the course: of whatever tree was decoded, of whatever arm stands there.
 use Prim.Native.Nat.{ℕ, _+_}
 use mathlib.Core.Path.{_≡_}
-use mathlib.Core.List.{List, _∷_, []}
+use mathlib.Core.List.{List, []}
 use mathlib.Core.Bool.{Bool, true, false, cond}
 use lib.Dec.{eqb}
 use Rattle.command.specs.Command.{sizeOfSimple}
@@ -13,10 +13,9 @@ use Rattle.header.specs.declared.Header.{Header}
 use Rattle.command.specs.declared.Condition.{Condition}
 use Rattle.faults.specs.declared.Counts.{Counts}
 use Rattle.command.specs.declared.Simple.{Simple}
-use Rattle.machine.specs.State.{take, holds, indexOf, carry}
+use Rattle.machine.specs.State.{holds, indexOf, carry}
 use Rattle.machine.specs.declared.State.{State}
-use Rattle.run.specs.Run.{Stretch, took, eventsAt, runArm, runOf}
-use Rattle.run.specs.Run as run
+use Rattle.run.specs.Run.{Stretch, eventsAt, runArm, runIf, runOf}
 use Rattle.run.specs.Inner.Walker.{isOver}
 use Rattle.course.specs.Course.{course}
 use Rattle.course.specs.declared.Course.{Course}
@@ -62,18 +61,11 @@ pub record FollowsArm (bs ins ds : List ℕ) (access : ℕ) (h : Header) (depth 
   pub tells : (a : Arm) (end : ℕ) (k₁ : Counts) → Stands bs h depth close (w .next) (w .counts) a end k₁
       → Arrives ds access (runArm bs ins h a (w .state)) end k₁ r
 
--- the stretch of an if with these arms, where the counts are k
-abbrev pub stretchOfIf : (bs ins : List ℕ) → Header → Condition → Counts → (first second : Arm) → State → Stretch
-stretchOfIf bs ins h c k first second s =
-    cond (holds bs c s)
-    (run.after (took (k .ifs) 0 (accesses k) ∷ []) (runArm bs ins h first (take s (k .ifs) 0)))
-    (run.after (took (k .ifs) 1 (accesses k) ∷ []) (runArm bs ins h second (take s (k .ifs) 1)))
-
 -- an if, followed from where the walk w is
 pub record FollowsIf (bs ins ds : List ℕ) (access : ℕ) (h : Header) (depth : ℕ) (c : Condition) (w r : Way) : Type 0 where
   pub tells : (first : Arm) (else : ℕ) (k₁ : Counts) (second : Arm) (end : ℕ) (k₂ : Counts)
       → Stands bs h (depth + 1) 0x0C (w .next + 4) (oneIf (w .counts)) first else k₁ → Stands bs h (depth + 1) 0x0D else k₁ second end k₂
-      → Arrives ds access (stretchOfIf bs ins h c (w .counts) first second (w .state)) end k₂ r
+      → Arrives ds access (runIf bs c (w .counts) (runArm bs ins h first) (runArm bs ins h second) (w .state)) end k₂ r
 
 -- the course of the whole run is r
 pub record FollowsRoutine (bs ins ds : List ℕ) (access : ℕ) (h : Header) (r : Course) : Type 0 where
