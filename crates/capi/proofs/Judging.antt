@@ -15,7 +15,7 @@ use Rattle.refusals.specs.Witness as witness
 use Rattle.witness.specs.declared.Refusal as unwitnessed
 use Rattle.refusals.specs.Proof as step
 use Rattle.step.specs.declared.Refusal as unproved
-use Rattle.refusals.specs.Report.{numberOf}
+use Rattle.refusals.specs.Report.{rowOf}
 use Rattle.report.specs.Zeroed.{Judges}
 use Rattle.report.specs.Demand.{Demand3}
 use Rattle.report.specs.declared.Judged.{Judged}
@@ -49,18 +49,18 @@ fault Fault.Widths = omega arith
 fault Fault.Misplaced = omega arith
 fault Fault.TooMany = omega arith
 
-of-routine : (x : unread.Refusal) → 1 ≤ routine.numberOf x
+of-routine : (x : unread.Refusal) → 1 ≤ routine.rowOf x .number
 of-routine unread.Refusal.Length = omega arith
 of-routine (unread.Refusal.Header at) = omega arith
 of-routine (unread.Refusal.Command x at) = fault x
 of-routine (unread.Refusal.Trailing at) = omega arith
 
-of-lead : (x : misled.Refusal) → 1 ≤ lead.numberOf x
+of-lead : (x : misled.Refusal) → 1 ≤ lead.rowOf x .number
 of-lead (misled.Refusal.Routine x) = of-routine x
 of-lead (misled.Refusal.DecisionCount given) = omega arith
 of-lead (misled.Refusal.OutOfRange at) = omega arith
 
-of-witness : (x : unwitnessed.Refusal) → 1 ≤ witness.numberOf x
+of-witness : (x : unwitnessed.Refusal) → 1 ≤ witness.rowOf x .number
 of-witness (unwitnessed.Refusal.Lead x) = of-lead x
 of-witness (unwitnessed.Refusal.Cut length) = omega arith
 of-witness (unwitnessed.Refusal.Input number) = omega arith
@@ -68,7 +68,7 @@ of-witness (unwitnessed.Refusal.Astray number) = omega arith
 of-witness (unwitnessed.Refusal.Missed access) = omega arith
 of-witness (unwitnessed.Refusal.OffSide access) = omega arith
 
-of-proof : (x : unproved.Refusal) → 1 ≤ step.numberOf x
+of-proof : (x : unproved.Refusal) → 1 ≤ step.rowOf x .number
 of-proof (unproved.Refusal.Unreadable at) = omega arith
 of-proof (unproved.Refusal.Literal at) = omega arith
 of-proof (unproved.Refusal.NoClause at) = omega arith
@@ -79,7 +79,7 @@ of-proof (unproved.Refusal.OutOfPlace at) = omega arith
 of-proof (unproved.Refusal.Trailing after) = omega arith
 of-proof (unproved.Refusal.Full at) = omega arith
 
-of-report : (x : Refusal) → 1 ≤ numberOf x
+of-report : (x : Refusal) → 1 ≤ rowOf x .number
 of-report (Refusal.Witness x) = of-witness x
 of-report (Refusal.TooSmall buffer) = omega arith
 of-report (Refusal.Proof x) = of-proof x
@@ -103,7 +103,7 @@ finds bs r ans ans₁ code (Judged.Accepted access side array size index steps h
 finds bs r ans ans₁ code (Judged.Refused refusal) f d = record {
   found = λ z.
       let p = of-report refusal in
-      let q : code ≡ numberOf refusal = ap (λ (y : Reply). y .code) (f .equal) in
+      let q : code ≡ rowOf refusal .number = ap (λ (y : Reply). y .code) (f .equal) in
       absurd (omega arith);
 }
 

@@ -3,7 +3,7 @@ use Prim.Native.Nat.{ℕ, zero, suc}
 use Prim.Native.String.{String}
 use mathlib.Core.List.{List, _++_}
 use Rattle.bitvec.specs.declared.Whole.{Whole}
-use Rattle.refusals.specs.Report.{numberOf, placeOf}
+use Rattle.refusals.specs.Report.{rowOf}
 use Rattle.proving.specs.declared.Refusal.{Refusal}
 use Rattle.report.specs.declared.Judged.{Judged}
 use Rattle.line.specs.Text.{bytes, decimal}
@@ -33,7 +33,7 @@ shown index steps hints = bytes " index " ++ signed index ++ named " steps " ste
 
 -- a refusal, by its number and its place
 unfoldable pub refused : Refusal → List ℕ
-refused refusal = named "refused " (numberOf refusal) ++ named " place " (placeOf refusal) ++ bytes "\n"
+refused refusal = named "refused " (rowOf refusal .number) ++ named " place " (rowOf refusal .place) ++ bytes "\n"
 
 -- the whole line
 unfoldable pub lineOf : Judged → List ℕ

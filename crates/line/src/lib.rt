@@ -5,8 +5,7 @@ mod texts;
 
 use numbers::put_named;
 use proving::Refusal;
-use refusals::of_report::number_of;
-use refusals::of_report::place_of;
+use refusals::of_report::row_of;
 use report::Judged;
 pub use texts::put_text;
 ghost use Prim.Native.Nat.{_≤_};
@@ -43,7 +42,8 @@ fn put_refusal(refusal: Refusal, out: &mut [u8]) -> usize
     ensures { λ r. ⌜ Puts (now (out .entry)) 0 (refused refusal) (now (out .exit)) r ⌝ }
     ensures { λ r. ⌜ r ≤ 200 ⌝ }
 {
-    let next = put_named(b"refused ", number_of(refusal) as usize, out, 0);
-    let next = put_named(b" place ", place_of(refusal), out, next);
+    let row = row_of(refusal);
+    let next = put_named(b"refused ", row.number as usize, out, 0);
+    let next = put_named(b" place ", row.place, out, next);
     put_text(b"\n", out, next)
 }

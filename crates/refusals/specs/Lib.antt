@@ -1,3 +1,4 @@
+pub mod Row
 pub mod Routine
 pub mod Run
 pub mod Lead

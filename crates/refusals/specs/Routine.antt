@@ -1,5 +1,7 @@
 -- The number and the place of each refusal of a routine, as the table of document 01 has them.
 use Prim.Native.Nat.{ℕ}
+use Rattle.refusals.specs.declared.Row.{Row}
+use Rattle.refusals.specs.Row.{row}
 use Rattle.faults.specs.declared.Fault.{Fault}
 use Rattle.routine.specs.declared.Refusal.{Refusal}
 
@@ -11,16 +13,9 @@ numberOfFault Fault.Widths = 5
 numberOfFault Fault.Misplaced = 6
 numberOfFault Fault.TooMany = 7
 
--- the number
-abbrev pub numberOf : Refusal → ℕ
-numberOf Refusal.Length = 1
-numberOf (Refusal.Header at) = 2
-numberOf (Refusal.Command fault at) = numberOfFault fault
-numberOf (Refusal.Trailing at) = 8
-
--- the place
-abbrev pub placeOf : Refusal → ℕ
-placeOf Refusal.Length = 0
-placeOf (Refusal.Header at) = at
-placeOf (Refusal.Command fault at) = at
-placeOf (Refusal.Trailing at) = at
+-- the row
+abbrev pub rowOf : Refusal → Row
+rowOf Refusal.Length = row 1 0
+rowOf (Refusal.Header at) = row 2 at
+rowOf (Refusal.Command fault at) = row (numberOfFault fault) at
+rowOf (Refusal.Trailing at) = row 8 at

@@ -1,5 +1,7 @@
 -- The number and the place of each refusal of a run, as the table of document 01 has them.
 use Prim.Native.Nat.{ℕ}
+use Rattle.refusals.specs.declared.Row.{Row}
+use Rattle.refusals.specs.Row.{row}
 use Rattle.refusals.specs.Routine as routine
 use Rattle.run.specs.declared.Buffer.{Buffer}
 use Rattle.run.specs.declared.Refusal.{Refusal}
@@ -9,16 +11,9 @@ abbrev pub bufferNumber : Buffer → ℕ
 bufferNumber Buffer.Values = 3
 bufferNumber Buffer.Trail = 4
 
--- the number
-abbrev pub numberOf : Refusal → ℕ
-numberOf (Refusal.Routine refusal) = routine.numberOf refusal
-numberOf (Refusal.InputCount given) = 9
-numberOf (Refusal.Input number) = 10
-numberOf (Refusal.TooSmall buffer) = 16
-
--- the place
-abbrev pub placeOf : Refusal → ℕ
-placeOf (Refusal.Routine refusal) = routine.placeOf refusal
-placeOf (Refusal.InputCount given) = given
-placeOf (Refusal.Input number) = number
-placeOf (Refusal.TooSmall buffer) = bufferNumber buffer
+-- the row
+abbrev pub rowOf : Refusal → Row
+rowOf (Refusal.Routine refusal) = routine.rowOf refusal
+rowOf (Refusal.InputCount given) = row 9 given
+rowOf (Refusal.Input number) = row 10 number
+rowOf (Refusal.TooSmall buffer) = row 16 (bufferNumber buffer)

@@ -1,22 +1,14 @@
 -- The number and the place of each refusal of a report as far as its proof, as the table of document 01 has them.
-use Prim.Native.Nat.{ℕ}
+use Rattle.refusals.specs.declared.Row.{Row}
+use Rattle.refusals.specs.Row.{row}
 use Rattle.refusals.specs.Lead as lead
 use Rattle.witness.specs.declared.Refusal.{Refusal}
 
--- the number
-abbrev pub numberOf : Refusal → ℕ
-numberOf (Refusal.Lead refusal) = lead.numberOf refusal
-numberOf (Refusal.Cut length) = 11
-numberOf (Refusal.Input number) = 10
-numberOf (Refusal.Astray number) = 13
-numberOf (Refusal.Missed access) = 14
-numberOf (Refusal.OffSide access) = 15
-
--- the place
-abbrev pub placeOf : Refusal → ℕ
-placeOf (Refusal.Lead refusal) = lead.placeOf refusal
-placeOf (Refusal.Cut length) = length
-placeOf (Refusal.Input number) = number
-placeOf (Refusal.Astray number) = number
-placeOf (Refusal.Missed access) = access
-placeOf (Refusal.OffSide access) = access
+-- the row
+abbrev pub rowOf : Refusal → Row
+rowOf (Refusal.Lead refusal) = lead.rowOf refusal
+rowOf (Refusal.Cut length) = row 11 length
+rowOf (Refusal.Input number) = row 10 number
+rowOf (Refusal.Astray number) = row 13 number
+rowOf (Refusal.Missed access) = row 14 access
+rowOf (Refusal.OffSide access) = row 15 access

@@ -1,36 +1,21 @@
 // Refusals of a proof.
+use crate::Row;
 use step::Refusal;
 ghost use mathlib.Core.Path.{_≡_};
-ghost use Rattle.refusals.specs.Proof.{numberOf, placeOf};
+ghost use Rattle.refusals.specs.Proof.{rowOf};
 
-pub fn number_of(refusal: Refusal) -> u8
-    ensures { λ r. ⌜ r ≡ numberOf refusal ⌝ }
+pub fn row_of(refusal: Refusal) -> Row
+    ensures { λ r. ⌜ r ≡ rowOf refusal ⌝ }
 {
     match refusal {
-        Refusal::Unreadable(_) => 17,
-        Refusal::Literal(_) => 18,
-        Refusal::NoClause(_) => 19,
-        Refusal::Neither(_) => 20,
-        Refusal::NoConflict(_) => 21,
-        Refusal::AfterConflict(_) => 22,
-        Refusal::OutOfPlace(_) => 23,
-        Refusal::Trailing(_) => 24,
-        Refusal::Full(_) => 25,
-    }
-}
-
-pub fn place_of(refusal: Refusal) -> usize
-    ensures { λ r. ⌜ r ≡ placeOf refusal ⌝ }
-{
-    match refusal {
-        Refusal::Unreadable(at) => at,
-        Refusal::Literal(at) => at,
-        Refusal::NoClause(at) => at,
-        Refusal::Neither(at) => at,
-        Refusal::NoConflict(at) => at,
-        Refusal::AfterConflict(at) => at,
-        Refusal::OutOfPlace(at) => at,
-        Refusal::Trailing(after) => after,
-        Refusal::Full(at) => at,
+        Refusal::Unreadable(at) => Row::of(17, at),
+        Refusal::Literal(at) => Row::of(18, at),
+        Refusal::NoClause(at) => Row::of(19, at),
+        Refusal::Neither(at) => Row::of(20, at),
+        Refusal::NoConflict(at) => Row::of(21, at),
+        Refusal::AfterConflict(at) => Row::of(22, at),
+        Refusal::OutOfPlace(at) => Row::of(23, at),
+        Refusal::Trailing(after) => Row::of(24, after),
+        Refusal::Full(at) => Row::of(25, at),
     }
 }

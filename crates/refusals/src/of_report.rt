@@ -1,28 +1,19 @@
 // Refusals of a report.
+use crate::Row;
 use crate::of_proof;
 use crate::of_witness;
 use proving::Buffer;
 use proving::Refusal;
 ghost use mathlib.Core.Path.{_≡_};
-ghost use Rattle.refusals.specs.Report.{bufferNumber, numberOf, placeOf};
+ghost use Rattle.refusals.specs.Report.{bufferNumber, rowOf};
 
-pub fn number_of(refusal: Refusal) -> u8
-    ensures { λ r. ⌜ r ≡ numberOf refusal ⌝ }
+pub fn row_of(refusal: Refusal) -> Row
+    ensures { λ r. ⌜ r ≡ rowOf refusal ⌝ }
 {
     match refusal {
-        Refusal::Witness(inner) => of_witness::number_of(inner),
-        Refusal::TooSmall(_) => 16,
-        Refusal::Proof(inner) => of_proof::number_of(inner),
-    }
-}
-
-pub fn place_of(refusal: Refusal) -> usize
-    ensures { λ r. ⌜ r ≡ placeOf refusal ⌝ }
-{
-    match refusal {
-        Refusal::Witness(inner) => of_witness::place_of(inner),
-        Refusal::TooSmall(buffer) => number_of_buffer(buffer),
-        Refusal::Proof(inner) => of_proof::place_of(inner),
+        Refusal::Witness(inner) => of_witness::row_of(inner),
+        Refusal::TooSmall(buffer) => Row::of(16, number_of_buffer(buffer)),
+        Refusal::Proof(inner) => of_proof::row_of(inner),
     }
 }
 

@@ -1,8 +1,9 @@
 // Refusals of a routine.
+use crate::Row;
 use faults::Fault;
 use routine::Refusal;
 ghost use mathlib.Core.Path.{_≡_};
-ghost use Rattle.refusals.specs.Routine.{numberOfFault, numberOf, placeOf};
+ghost use Rattle.refusals.specs.Routine.{numberOfFault, rowOf};
 
 fn number_of_fault(fault: Fault) -> u8
     ensures { λ r. ⌜ r ≡ numberOfFault fault ⌝ }
@@ -16,24 +17,13 @@ fn number_of_fault(fault: Fault) -> u8
     }
 }
 
-pub fn number_of(refusal: Refusal) -> u8
-    ensures { λ r. ⌜ r ≡ numberOf refusal ⌝ }
+pub fn row_of(refusal: Refusal) -> Row
+    ensures { λ r. ⌜ r ≡ rowOf refusal ⌝ }
 {
     match refusal {
-        Refusal::Length => 1,
-        Refusal::Header(_) => 2,
-        Refusal::Command(fault, _) => number_of_fault(fault),
-        Refusal::Trailing(_) => 8,
-    }
-}
-
-pub fn place_of(refusal: Refusal) -> usize
-    ensures { λ r. ⌜ r ≡ placeOf refusal ⌝ }
-{
-    match refusal {
-        Refusal::Length => 0,
-        Refusal::Header(at) => at,
-        Refusal::Command(_, at) => at,
-        Refusal::Trailing(at) => at,
+        Refusal::Length => Row::of(1, 0),
+        Refusal::Header(at) => Row::of(2, at),
+        Refusal::Command(fault, at) => Row::of(number_of_fault(fault), at),
+        Refusal::Trailing(at) => Row::of(8, at),
     }
 }

@@ -1,9 +1,10 @@
 // Refusals of a run.
+use crate::Row;
 use crate::of_routine;
 use run::Buffer;
 use run::Refusal;
 ghost use mathlib.Core.Path.{_≡_};
-ghost use Rattle.refusals.specs.Run.{bufferNumber, numberOf, placeOf};
+ghost use Rattle.refusals.specs.Run.{bufferNumber, rowOf};
 
 fn buffer_number(buffer: Buffer) -> usize
     ensures { λ r. ⌜ r ≡ bufferNumber buffer ⌝ }
@@ -14,24 +15,13 @@ fn buffer_number(buffer: Buffer) -> usize
     }
 }
 
-pub fn number_of(refusal: Refusal) -> u8
-    ensures { λ r. ⌜ r ≡ numberOf refusal ⌝ }
+pub fn row_of(refusal: Refusal) -> Row
+    ensures { λ r. ⌜ r ≡ rowOf refusal ⌝ }
 {
     match refusal {
-        Refusal::Routine(inner) => of_routine::number_of(inner),
-        Refusal::InputCount(_) => 9,
-        Refusal::Input(_) => 10,
-        Refusal::TooSmall(_) => 16,
-    }
-}
-
-pub fn place_of(refusal: Refusal) -> usize
-    ensures { λ r. ⌜ r ≡ placeOf refusal ⌝ }
-{
-    match refusal {
-        Refusal::Routine(inner) => of_routine::place_of(inner),
-        Refusal::InputCount(given) => given,
-        Refusal::Input(number) => number,
-        Refusal::TooSmall(buffer) => buffer_number(buffer),
+        Refusal::Routine(inner) => of_routine::row_of(inner),
+        Refusal::InputCount(given) => Row::of(9, given),
+        Refusal::Input(number) => Row::of(10, number),
+        Refusal::TooSmall(buffer) => Row::of(16, buffer_number(buffer)),
     }
 }

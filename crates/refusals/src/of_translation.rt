@@ -1,25 +1,17 @@
 // Refusals of a translation.
+use crate::Row;
 use crate::of_lead;
 use translation::Buffer;
 use translation::Refusal;
 ghost use mathlib.Core.Path.{_≡_};
-ghost use Rattle.refusals.specs.Translation.{numberOf, placeOf, bufferNumber};
+ghost use Rattle.refusals.specs.Translation.{bufferNumber, rowOf};
 
-pub fn number_of(refusal: Refusal) -> u8
-    ensures { λ r. ⌜ r ≡ numberOf refusal ⌝ }
+pub fn row_of(refusal: Refusal) -> Row
+    ensures { λ r. ⌜ r ≡ rowOf refusal ⌝ }
 {
     match refusal {
-        Refusal::Lead(inner) => of_lead::number_of(inner),
-        Refusal::TooSmall(_) => 16,
-    }
-}
-
-pub fn place_of(refusal: Refusal) -> usize
-    ensures { λ r. ⌜ r ≡ placeOf refusal ⌝ }
-{
-    match refusal {
-        Refusal::Lead(inner) => of_lead::place_of(inner),
-        Refusal::TooSmall(buffer) => number_of_buffer(buffer),
+        Refusal::Lead(inner) => of_lead::row_of(inner),
+        Refusal::TooSmall(buffer) => Row::of(16, number_of_buffer(buffer)),
     }
 }
 

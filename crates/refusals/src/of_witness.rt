@@ -1,31 +1,19 @@
 // Refusals of a report as far as its proof.
+use crate::Row;
 use crate::of_lead;
 use witness::Refusal;
 ghost use mathlib.Core.Path.{_≡_};
-ghost use Rattle.refusals.specs.Witness.{numberOf, placeOf};
+ghost use Rattle.refusals.specs.Witness.{rowOf};
 
-pub fn number_of(refusal: Refusal) -> u8
-    ensures { λ r. ⌜ r ≡ numberOf refusal ⌝ }
+pub fn row_of(refusal: Refusal) -> Row
+    ensures { λ r. ⌜ r ≡ rowOf refusal ⌝ }
 {
     match refusal {
-        Refusal::Lead(inner) => of_lead::number_of(inner),
-        Refusal::Cut(_) => 11,
-        Refusal::Input(_) => 10,
-        Refusal::Astray(_) => 13,
-        Refusal::Missed(_) => 14,
-        Refusal::OffSide(_) => 15,
-    }
-}
-
-pub fn place_of(refusal: Refusal) -> usize
-    ensures { λ r. ⌜ r ≡ placeOf refusal ⌝ }
-{
-    match refusal {
-        Refusal::Lead(inner) => of_lead::place_of(inner),
-        Refusal::Cut(length) => length,
-        Refusal::Input(number) => number,
-        Refusal::Astray(number) => number as usize,
-        Refusal::Missed(access) => access as usize,
-        Refusal::OffSide(access) => access as usize,
+        Refusal::Lead(inner) => of_lead::row_of(inner),
+        Refusal::Cut(length) => Row::of(11, length),
+        Refusal::Input(number) => Row::of(10, number),
+        Refusal::Astray(number) => Row::of(13, number as usize),
+        Refusal::Missed(access) => Row::of(14, access as usize),
+        Refusal::OffSide(access) => Row::of(15, access as usize),
     }
 }

@@ -27,35 +27,35 @@ pub record Reply : Type 0 where
 -- what checking a routine gives
 abbrev pub checkFills : Checked → List ℕ → Reply
 checkFills (Checked.Accepted h k) ans = record { code = 0; answer = sets ans 0 (countsOf h k) }
-checkFills (Checked.Refused refusal) ans = record { code = routine.numberOf refusal; answer = set ans 0 (routine.placeOf refusal) }
+checkFills (Checked.Refused refusal) ans = record { code = routine.rowOf refusal .number; answer = set ans 0 (routine.rowOf refusal .place) }
 
 -- what a run gives: 0 for an end, and nothing more
 abbrev pub runFills : Ran → List ℕ → Reply
 runFills Ran.Ended ans = record { code = 0; answer = set ans 0 0 }
 runFills (Ran.Stopped access index side) ans = record { code = 0; answer = sets ans 0 (stoppedOf access index side) }
-runFills (Ran.Refused refusal) ans = record { code = run.numberOf refusal; answer = set ans 0 (run.placeOf refusal) }
+runFills (Ran.Refused refusal) ans = record { code = run.rowOf refusal .number; answer = set ans 0 (run.rowOf refusal .place) }
 
 -- what a translation gives
 abbrev pub translateFills : Translated → List ℕ → Reply
 translateFills (Translated.Made size) ans = record { code = 0; answer = sets ans 0 (sizesOf size) }
-translateFills (Translated.Refused refusal) ans = record { code = translation.numberOf refusal; answer = set ans 0 (translation.placeOf refusal) }
+translateFills (Translated.Refused refusal) ans = record { code = translation.rowOf refusal .number; answer = set ans 0 (translation.rowOf refusal .place) }
 
 -- what checking a proof gives: steps closed and hints read; 254, no number of document 01, where the buffers do not hold what is asked
 abbrev pub proveFills : proved.Checked → List ℕ → Reply
 proveFills (Accepted steps hints) ans = record { code = 0; answer = sets ans 0 (steps ∷ hints ∷ []) }
-proveFills (Refused refusal) ans = record { code = proof.numberOf refusal; answer = set ans 0 (proof.placeOf refusal) }
+proveFills (Refused refusal) ans = record { code = proof.rowOf refusal .number; answer = set ans 0 (proof.rowOf refusal .place) }
 proveFills Unfit ans = record { code = 254; answer = ans }
 
 -- what judging a report gives
 abbrev pub judgeFills : Judged → List ℕ → Reply
 judgeFills (Judged.Accepted access side array size index steps hints) ans =
     record { code = 0; answer = sets ans 0 (judgedOf access side array size index steps hints) }
-judgeFills (Judged.Refused refusal) ans = record { code = proving.numberOf refusal; answer = set ans 0 (proving.placeOf refusal) }
+judgeFills (Judged.Refused refusal) ans = record { code = proving.rowOf refusal .number; answer = set ans 0 (proving.rowOf refusal .place) }
 
 -- what comparing two reports gives: 1 for alike
 abbrev pub alikeFills : Compared → List ℕ → Reply
 alikeFills (Compared.Alike b) ans = record { code = 0; answer = set ans 0 (answerNumber b) }
-alikeFills (Compared.Refused refusal) ans = record { code = witness.numberOf refusal; answer = set ans 0 (witness.placeOf refusal) }
+alikeFills (Compared.Refused refusal) ans = record { code = witness.rowOf refusal .number; answer = set ans 0 (witness.rowOf refusal .place) }
 
 -- the reply is the number r, and the answer became ans₁
 pub record Fills (reply : Reply) (ans₁ : List ℕ) (r : ℕ) : Type 0 where

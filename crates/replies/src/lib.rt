@@ -26,8 +26,9 @@ pub fn fill_check(checked: Checked, answer: &mut [u64]) -> u8
             0
         }
         Checked::Refused(refusal) => {
-            fill_place(refusals::of_routine::place_of(refusal), answer);
-            refusals::of_routine::number_of(refusal)
+            let row = refusals::of_routine::row_of(refusal);
+            fill_place(row.place, answer);
+            row.number
         }
     }
 }
@@ -51,8 +52,9 @@ pub fn fill_run(ran: Ran, answer: &mut [u64]) -> u8
             0
         }
         Ran::Refused(refusal) => {
-            fill_place(refusals::of_run::place_of(refusal), answer);
-            refusals::of_run::number_of(refusal)
+            let row = refusals::of_run::row_of(refusal);
+            fill_place(row.place, answer);
+            row.number
         }
     }
 }
@@ -68,8 +70,9 @@ pub fn fill_translate(translated: Translated, answer: &mut [u64]) -> u8
             0
         }
         Translated::Refused(refusal) => {
-            fill_place(refusals::of_translation::place_of(refusal), answer);
-            refusals::of_translation::number_of(refusal)
+            let row = refusals::of_translation::row_of(refusal);
+            fill_place(row.place, answer);
+            row.number
         }
     }
 }
@@ -85,8 +88,9 @@ pub fn fill_prove(checked: checker::Checked, answer: &mut [u64]) -> u8
             0
         }
         checker::Checked::Refused(refusal) => {
-            fill_place(refusals::of_proof::place_of(refusal), answer);
-            refusals::of_proof::number_of(refusal)
+            let row = refusals::of_proof::row_of(refusal);
+            fill_place(row.place, answer);
+            row.number
         }
         checker::Checked::Unfit => 254,
     }
@@ -111,8 +115,9 @@ pub fn fill_judge(judged: Judged, answer: &mut [u64]) -> u8
             0
         }
         Judged::Refused(refusal) => {
-            fill_place(refusals::of_report::place_of(refusal), answer);
-            refusals::of_report::number_of(refusal)
+            let row = refusals::of_report::row_of(refusal);
+            fill_place(row.place, answer);
+            row.number
         }
     }
 }
@@ -128,8 +133,9 @@ pub fn fill_alike(compared: Compared, answer: &mut [u64]) -> u8
             0
         }
         Compared::Refused(refusal) => {
-            fill_place(refusals::of_witness::place_of(refusal), answer);
-            refusals::of_witness::number_of(refusal)
+            let row = refusals::of_witness::row_of(refusal);
+            fill_place(row.place, answer);
+            row.number
         }
     }
 }

@@ -7,11 +7,11 @@ use borrow.Author.Needs.{needs}
 use Rattle.line.proofs.put_refusal.Statement.{statement}
 use Rattle.line.proofs.put_refusal.Tie as tie
 
+row-of-requires : tie.Need-row-of-requires
+row-of-requires c κs = search needs
+
 slice-aggregate-put-named : tie.Need-slice-aggregate-put-named
 slice-aggregate-put-named c = search needs
-
-number-of-requires : tie.Need-number-of-requires
-number-of-requires c κs = search needs
 
 cast-put-named : tie.Need-cast-put-named
 cast-put-named c = search needs
@@ -21,9 +21,6 @@ put-named-requires c κs = search needs
 
 slice-aggregate-put-named-2 : tie.Need-slice-aggregate-put-named-2
 slice-aggregate-put-named-2 c = search needs
-
-place-of-requires : tie.Need-place-of-requires
-place-of-requires c κs = search needs
 
 put-named-requires-2 : tie.Need-put-named-requires-2
 put-named-requires-2 c κs = search needs
@@ -42,19 +39,18 @@ unfolding bytes refused
 returns c =
     let end = c .before .before in
     let place = end .before .before .before .before .before in
-    let number = place .before .before .before .before .before .before in
-    (said (onward (onward (number .put-named .ensures .0) (place .put-named2 .ensures .0)) (end .put-text .ensures)) (rw (number .before .before .number-of .ensures, place .before .before .place-of .ensures) refl), omega (arith, end .put-text .ensures .ends))
+    let number = place .before .before .before .before .before in
+    (said (onward (onward (number .put-named .ensures .0) (place .put-named2 .ensures .0)) (end .put-text .ensures)) (rw (number .before .before .before .before .row-of .ensures) refl), omega (arith, end .put-text .ensures .ends))
 
 pub put-refusal-spec : {M : Type 1} → statement M
 put-refusal-spec =
     tie.close
     (tie.spec
+    row-of-requires
     slice-aggregate-put-named
-    number-of-requires
     cast-put-named
     put-named-requires
     slice-aggregate-put-named-2
-    place-of-requires
     put-named-requires-2
     slice-aggregate-put-text
     put-text-requires

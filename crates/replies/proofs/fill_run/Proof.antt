@@ -17,14 +17,11 @@ fill-stop-requires c κs = search needs
 enum-known-ran-2 : tie.Need-enum-known-ran-2
 enum-known-ran-2 c = search needs
 
-place-of-requires : tie.Need-place-of-requires
-place-of-requires c κs = search needs
+row-of-requires : tie.Need-row-of-requires
+row-of-requires c κs = search needs
 
 fill-place-requires : tie.Need-fill-place-requires
 fill-place-requires c κs = search needs
-
-number-of-requires : tie.Need-number-of-requires
-number-of-requires c κs = search needs
 
 same-length : tie.Need-same-length
 same-length c = search needs
@@ -42,7 +39,7 @@ same-length-3 : tie.Need-same-length-3
 same-length-3 c = search needs
 
 returns-3 : tie.Need-returns-3
-returns-3 c = record { equal = rw (c .before .before .before .before .before .before .before .ran2 .given .1, c .before .before .before .fill-place .ensures, c .before .before .before .before .before .place-of .ensures, c .number-of .ensures) }
+returns-3 c = record { equal = rw (c .before .before .before .before .before .before .ran2 .given .1, c .before .before .fill-place .ensures, c .before .before .before .before .row-of .ensures) }
 
 pub fill-run-spec : {M : Type 1} → statement M
 fill-run-spec =
@@ -53,9 +50,8 @@ fill-run-spec =
     enum-known-ran
     fill-stop-requires
     enum-known-ran-2
-    place-of-requires
+    row-of-requires
     fill-place-requires
-    number-of-requires
     same-length
     returns
     same-length-2
