@@ -8,7 +8,7 @@ use lib.Seq.{length-take-le}
 use Rattle.io.specs.Counts.{Counts}
 use Rattle.report.specs.Judging.{judgement}
 use Rattle.report.specs.declared.Judged.{Judged}
-use Rattle.line.specs.Text.{bytes}
+use Rattle.putting.specs.Text.{bytes}
 use Rattle.line.specs.Line.{lineOf}
 use Rattle.judging.specs.Printed.{lent, printed}
 

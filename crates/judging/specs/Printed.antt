@@ -6,9 +6,9 @@ use lib.ListN.{length}
 use lib.Dec.{ltb}
 use Rattle.proving.specs.Proving.{Room}
 use Rattle.report.specs.Judging.{judgement}
-use Rattle.line.specs.Text.{bytes}
+use Rattle.putting.specs.Text.{bytes}
 use Rattle.line.specs.Line.{lineOf}
-use Rattle.line.specs.Puts.{Puts}
+use Rattle.putting.specs.Puts.{Puts}
 
 -- how much is lent to the judging
 abbrev pub lent : Room

@@ -4,7 +4,7 @@ use Rattle.bitvec.specs.declared.Whole.{Whole}
 use Rattle.proving.specs.declared.Buffer.{Buffer}
 use Rattle.proving.specs.declared.Refusal.{Refusal}
 use Rattle.report.specs.declared.Judged.{Judged}
-use Rattle.line.specs.Text.{bytes, decimalBy, decimal}
+use Rattle.putting.specs.Text.{bytes, decimalBy, decimal}
 use Rattle.line.specs.Line.{sideWord, signed, claimed, shown, refused, lineOf}
 
 accepted : lineOf (Judged.Accepted 0 0 0 1 (Whole.Negative 1) 1 2) ≡ bytes "accepted access 0 side below array 0 size 1 index -1 steps 1 hints 2\n"

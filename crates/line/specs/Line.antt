@@ -6,7 +6,7 @@ use Rattle.bitvec.specs.declared.Whole.{Whole}
 use Rattle.refusals.specs.Report.{rowOf}
 use Rattle.proving.specs.declared.Refusal.{Refusal}
 use Rattle.report.specs.declared.Judged.{Judged}
-use Rattle.line.specs.Text.{bytes, decimal}
+use Rattle.putting.specs.Text.{bytes, decimal}
 
 -- a word and a number
 abbrev pub named : String → ℕ → List ℕ

@@ -1,12 +1,12 @@
 // The line of an accepted report, in two parts.
-use crate::numbers::put_named;
-use crate::numbers::put_number;
-use crate::texts::put_text;
 use bitvec::Whole;
+use putting::numbers::put_named;
+use putting::numbers::put_number;
+use putting::texts::put_text;
 ghost use Prim.Native.Nat.{_+_, _≤_};
 ghost use lib.ListN.{length};
 ghost use Rattle.line.specs.Line.{sideWord, signed, claimed, shown};
-ghost use Rattle.line.specs.Puts.{Puts};
+ghost use Rattle.putting.specs.Puts.{Puts};
 
 // Puts the access, its side, and the array and its size.
 pub fn put_claim(access: u8, side: u8, array: u8, size: u32, out: &mut [u8]) -> usize

@@ -1,17 +1,15 @@
 // The line that the judging program prints.
 mod accepted;
-mod numbers;
-mod texts;
 
-use numbers::put_named;
 use proving::Refusal;
+use putting::numbers::put_named;
+use putting::texts::put_text;
 use refusals::of_report::row_of;
 use report::Judged;
-pub use texts::put_text;
 ghost use Prim.Native.Nat.{_≤_};
 ghost use lib.ListN.{length};
 ghost use Rattle.line.specs.Line.{refused, lineOf};
-ghost use Rattle.line.specs.Puts.{Puts};
+ghost use Rattle.putting.specs.Puts.{Puts};
 
 // Writes the line at the beginning of `out`, and returns its length.
 pub fn write_line(judged: Judged, out: &mut [u8]) -> usize

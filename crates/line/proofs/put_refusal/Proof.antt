@@ -1,8 +1,8 @@
 use native.Mathlib.Omega.{arith}
 use mathlib.Core.Path.{refl}
-use Rattle.line.specs.Text.{bytes}
+use Rattle.putting.specs.Text.{bytes}
 use Rattle.line.specs.Line.{refused}
-use Rattle.line.proofs.Putting.{onward, said}
+use Rattle.putting.proofs.Laid.{onward, said}
 use borrow.Author.Needs.{needs}
 use Rattle.line.proofs.put_refusal.Statement.{statement}
 use Rattle.line.proofs.put_refusal.Tie as tie

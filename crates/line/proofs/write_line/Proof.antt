@@ -2,7 +2,7 @@
 use native.Mathlib.Omega.{arith}
 use mathlib.Core.Path.{sym, ap}
 use Rattle.line.specs.Line.{lineOf}
-use Rattle.line.proofs.Putting.{onward, said}
+use Rattle.putting.proofs.Laid.{onward, said}
 use borrow.Author.Needs.{needs}
 use Rattle.line.proofs.write_line.Statement.{statement}
 use Rattle.line.proofs.write_line.Tie as tie

@@ -1,7 +1,7 @@
 -- What is printed, where the report is too long and where it is judged.
 use native.Mathlib.Omega.{arith}
-use Rattle.line.specs.Text.{bytes}
-use Rattle.line.proofs.Putting.{said}
+use Rattle.putting.specs.Text.{bytes}
+use Rattle.putting.proofs.Laid.{said}
 use Rattle.judging.proofs.Printing.{too-long, judged, counted}
 use borrow.Author.Needs.{needs}
 use Rattle.judging.proofs.answers.answer.Statement.{statement}

@@ -2,9 +2,9 @@
 use native.Mathlib.Omega.{arith}
 use mathlib.Core.Path.{_≡_, refl, sym, ap}
 use Prim.Native.Nat.{ℕ, zero, suc}
-use Rattle.line.specs.Text.{bytes}
+use Rattle.putting.specs.Text.{bytes}
 use Rattle.line.specs.Line.{sideWord}
-use Rattle.line.proofs.Putting.{said}
+use Rattle.putting.proofs.Laid.{said}
 use borrow.Author.Needs.{needs}
 use Rattle.line.proofs.accepted.put_side.Statement.{statement}
 use Rattle.line.proofs.accepted.put_side.Tie as tie

@@ -1,8 +1,8 @@
 use native.Mathlib.Omega.{arith}
 use mathlib.Core.Path.{sym, ap}
-use Rattle.line.specs.Text.{bytes}
+use Rattle.putting.specs.Text.{bytes}
 use Rattle.line.specs.Line.{signed}
-use Rattle.line.proofs.Putting.{said}
+use Rattle.putting.proofs.Laid.{said}
 use borrow.Author.Needs.{needs}
 use Rattle.line.proofs.accepted.put_signed.Statement.{statement}
 use Rattle.line.proofs.accepted.put_signed.Tie as tie

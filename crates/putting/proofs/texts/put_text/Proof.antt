@@ -5,10 +5,10 @@ use native.Mathlib.Omega.{arith}
 use mathlib.Core.Path.{_≡_, refl, sym, _∙_}
 use lib.ListN.{length, take}
 use borrow.Author.Needs.{needs}
-use Rattle.line.specs.Puts.{Puts}
-use Rattle.line.proofs.Putting.{nothing, one-more, all-of}
-use Rattle.line.proofs.texts.put_text.Statement.{statement}
-use Rattle.line.proofs.texts.put_text.Tie as tie
+use Rattle.putting.specs.Puts.{Puts}
+use Rattle.putting.proofs.Laid.{nothing, one-more, all-of}
+use Rattle.putting.proofs.texts.put_text.Statement.{statement}
+use Rattle.putting.proofs.texts.put_text.Tie as tie
 
 abbrev Inv-loop : tie.InvT-loop
 Inv-loop text out₀ at i₀ next₀ out i next = (i ≤ length text) × (length out ≡ length out₀) × (next ≡ at + i) × Puts out₀ at (take i text) out next

@@ -5,8 +5,8 @@ ghost use mathlib.Core.Path.{_≡_};
 ghost use mathlib.Core.List.{_++_};
 ghost use Prim.Native.Nat.{_+_, _<_, _≤_};
 ghost use lib.ListN.{length};
-ghost use Rattle.line.specs.Text.{decimal};
-ghost use Rattle.line.specs.Puts.{Puts};
+ghost use Rattle.putting.specs.Text.{decimal};
+ghost use Rattle.putting.specs.Puts.{Puts};
 
 // The byte of a digit.
 fn digit(d: usize) -> u8

@@ -6,7 +6,7 @@ use mathlib.Core.Logic.{_⊎_, inl, inr}
 use mathlib.Core.List.{List, [], _∷_, _++_}
 use lib.ListN.{length, length-append}
 use native.Mathlib.Omega.{arith}
-use Rattle.line.specs.Text.{front, decimalBy, decimal}
+use Rattle.putting.specs.Text.{front, decimalBy, decimal}
 
 -- where something stands in front, it is the digits of the rest
 front-of : (f : ℕ → List ℕ) (q : ℕ) → 0 < q → front f q ≡ f q

@@ -1,8 +1,8 @@
 use native.Mathlib.Omega.{arith}
-use Rattle.line.proofs.Putting.{onward}
+use Rattle.putting.proofs.Laid.{onward}
 use borrow.Author.Needs.{needs}
-use Rattle.line.proofs.numbers.put_named.Statement.{statement}
-use Rattle.line.proofs.numbers.put_named.Tie as tie
+use Rattle.putting.proofs.numbers.put_named.Statement.{statement}
+use Rattle.putting.proofs.numbers.put_named.Tie as tie
 
 put-text-requires : tie.Need-put-text-requires
 put-text-requires c κs = search needs

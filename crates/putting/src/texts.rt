@@ -2,7 +2,7 @@
 ghost use mathlib.Core.List.{[], _∷_};
 ghost use Prim.Native.Nat.{_+_, _<_, _≤_};
 ghost use lib.ListN.{length};
-ghost use Rattle.line.specs.Puts.{Puts};
+ghost use Rattle.putting.specs.Puts.{Puts};
 
 // Puts a byte at `at`, and returns the number after it.
 pub fn put_byte(byte: u8, out: &mut [u8], at: usize) -> usize

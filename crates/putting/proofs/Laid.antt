@@ -7,7 +7,7 @@ use mathlib.Core.List.{List, [], _∷_, _++_}
 use lib.ListN.{length, length-append, take, getD}
 use lib.Seq.{sets, take-suc, take-all}
 use native.Mathlib.Omega.{arith}
-use Rattle.line.specs.Puts.{Puts}
+use Rattle.putting.specs.Puts.{Puts}
 
 -- laying one text after the other
 sets-append : (out : List ℕ) (at : ℕ) (a b : List ℕ) → sets (sets out at a) (at + length a) b ≡ sets out at (a ++ b)

@@ -2,19 +2,19 @@
 use native.Mathlib.Omega.{arith}
 use mathlib.Core.Path.{sym, ap, _∙_}
 use mathlib.Core.List.{[], _∷_, _++_}
-use Rattle.line.specs.Text.{decimal}
-use Rattle.line.proofs.Putting.{onward, said}
-use Rattle.line.proofs.Digits.{single, several, single-length, longer}
+use Rattle.putting.specs.Text.{decimal}
+use Rattle.putting.proofs.Laid.{onward, said}
+use Rattle.putting.proofs.Digits.{single, several, single-length, longer}
 use Prim.Native.Nat.{ℕ, _<_, _/_}
 use borrow.Fn.Kinds.{In}
 use borrow.Fn.PlainCycle.{Measures, is, falls, and}
-use Rattle.line.proofs.numbers.put_digits.Reads as put-digits
-use Rattle.line.proofs.numbers.put_digits.Kinds as put-digits-kinds
-use Rattle.line.proofs.numbers.+put_digits.Lts-put_digits as put-digits-lts
-use Rattle.line.proofs.numbers.digit.Reads as digit-reads
-use Rattle.line.proofs.texts.put_byte.Reads as put-byte-reads
-use Rattle.line.proofs.numbers.+put_digits.{statement}
-use Rattle.line.proofs.numbers.+put_digits.Tie.{close}
+use Rattle.putting.proofs.numbers.put_digits.Reads as put-digits
+use Rattle.putting.proofs.numbers.put_digits.Kinds as put-digits-kinds
+use Rattle.putting.proofs.numbers.+put_digits.Lts-put_digits as put-digits-lts
+use Rattle.putting.proofs.numbers.digit.Reads as digit-reads
+use Rattle.putting.proofs.texts.put_byte.Reads as put-byte-reads
+use Rattle.putting.proofs.numbers.+put_digits.{statement}
+use Rattle.putting.proofs.numbers.+put_digits.Tie.{close}
 
 abbrev μ-put-digits : Measures 1 put-digits-kinds.ps ℕ
 μ-put-digits κs a = a .0

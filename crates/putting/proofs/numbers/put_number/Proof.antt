@@ -1,9 +1,9 @@
 -- A number of 64 bits has at most 20 digits.
 use native.Mathlib.Omega.{arith}
-use Rattle.line.proofs.Digits.{twenty}
+use Rattle.putting.proofs.Digits.{twenty}
 use borrow.Author.Needs.{needs}
-use Rattle.line.proofs.numbers.put_number.Statement.{statement}
-use Rattle.line.proofs.numbers.put_number.Tie as tie
+use Rattle.putting.proofs.numbers.put_number.Statement.{statement}
+use Rattle.putting.proofs.numbers.put_number.Tie as tie
 
 put-digits-requires : tie.Need-put-digits-requires
 put-digits-requires c κs =

@@ -1,0 +1,3 @@
+// Texts and numbers, put into a lent buffer.
+pub mod numbers;
+pub mod texts;
