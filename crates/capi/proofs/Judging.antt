@@ -1,6 +1,6 @@
 -- The reply of a judging, from what it and the filling of the answer said; a return of 0 is no refusal's. Assumes nothing.
-use mathlib.Core.Path.{_≡_, ap, _∙_}
-use mathlib.Core.List.{List}
+use mathlib.Core.Path.{_≡_, ap}
+use mathlib.Core.List.{List, [], _∷_}
 use mathlib.Core.Bool.{false}
 use Prim.Native.Nat.{ℕ, _≤_}
 use native.Mathlib.Omega.{arith}
@@ -21,24 +21,17 @@ use Rattle.report.specs.Demand.{Demand3}
 use Rattle.report.specs.declared.Judged.{Judged}
 use Rattle.proving.specs.declared.Refusal.{Refusal}
 use Rattle.replies.specs.Reply.{Reply, Fills, judgeFills}
-use Rattle.capi.specs.Reply.{JudgeReply, judgeGives, judgeReply, JudgesReply, Finds}
-
-abbrev putJudged : ℕ → (words starts marks values trail ans : List ℕ) → JudgeReply
-putJudged code words starts marks values trail ans =
-    record { code = code; words = words; starts = starts; marks = marks; values = values; trail = trail; answer = ans }
+use Rattle.capi.specs.Reply.{Leaves, judgeLeaves, Finds}
+use Rattle.capi.proofs.Replies.{filled}
 
 module _ (bs r words starts marks values trail ans words₁ starts₁ marks₁ values₁ trail₁ ans₁ : List ℕ) (code : ℕ) {j : Judged} where
-  pub judge-replies : Fills (judgeFills j ans) ans₁ code
+  pub judge-leaves : Fills (judgeFills j ans) ans₁ code
       → Judges bs r words starts marks values trail words₁ starts₁ marks₁ values₁ trail₁ j
       → ltb (length ans) 8 ≡ false
-      → JudgesReply bs r words starts marks values trail ans words₁ starts₁ marks₁ values₁ trail₁ ans₁ code
-  unfolding judgeReply
-  judge-replies f x e = record {
-    equal =
-        ap (λ (y : Reply). putJudged (y .code) words₁ starts₁ marks₁ values₁ trail₁ (y .answer)) (f .equal)
-        ∙ rw (e, x .words-left, x .starts-left, x .marks-left, x .values-left, x .trail-left)
-        (ap (λ (y : Judged). judgeGives y words starts marks values trail ans) (x .answer));
-  }
+      → Leaves (judgeLeaves bs r words starts marks values trail ans) (words₁ ∷ starts₁ ∷ marks₁ ∷ values₁ ∷ trail₁ ∷ []) ans₁ code
+  unfolding judgeLeaves
+  judge-leaves f x e =
+      rw (← x .answer, x .words-left, x .starts-left, x .marks-left, x .values-left, x .trail-left) (filled _ _ ans (judgeFills j ans) ans₁ code f e)
 
 -- ---- no refusal has the number 0
 

@@ -1,54 +1,60 @@
--- The reply of a run, a translation or a check of a proof, from what it and the filling of the answer said. Assumes nothing.
-use mathlib.Core.Path.{_≡_, ap, _∙_}
-use mathlib.Core.List.{List}
-use mathlib.Core.Bool.{false}
+-- What a call leaves, from what its layer and the filling of the answer said. Assumes nothing.
+use mathlib.Core.Path.{_≡_, ap, subst}
+use mathlib.Core.List.{List, [], _∷_}
+use mathlib.Core.Bool.{true, false}
 use Prim.Native.Nat.{ℕ}
 use lib.ListN.{length}
 use lib.Dec.{ltb}
-use Rattle.run.specs.Answer.{Answer, Answers}
+use Rattle.routine.specs.Decode.{checked}
+use Rattle.routine.specs.declared.Checked as routine
+use Rattle.comparing.specs.Alike.{alike}
+use Rattle.comparing.specs.declared.Compared.{Compared}
+use Rattle.run.specs.Answer as ran
 use Rattle.run.specs.declared.Ran.{Ran}
 use Rattle.lead.specs.Lead.{targetOf}
 use Rattle.translation.specs.Answer as translated
 use Rattle.translation.specs.declared.Translated.{Translated}
 use Rattle.checker.specs.Checking.{Checking, Checks}
 use Rattle.checker.specs.declared.Checked.{Checked}
-use Rattle.replies.specs.Reply.{Reply, Fills, runFills, translateFills, proveFills}
-use Rattle.capi.specs.Reply.{RunReply, runGives, runReply, RunsReply, TranslateReply, translateGives, translateReply, TranslatesReply, ProveReply, proveGives, proveReply, ProvesReply}
+use Rattle.replies.specs.Reply.{Reply, Fills, alikeFills, checkFills, runFills, translateFills, proveFills}
+use Rattle.capi.specs.Reply.{Leaves, unlessShort, checkLeaves, alikeLeaves, ranLeft, runLeaves, translatedLeft, translateLeaves, provedLeft, proveLeaves}
 
-abbrev put : ℕ → (values trail ans : List ℕ) → RunReply
-put code values trail ans = record { code = code; values = values; trail = trail; answer = ans }
+module _ (before after : List (List ℕ)) (ans : List ℕ) (reply : Reply) where
+  -- a short answer
+  pub short : ltb (length ans) 8 ≡ true → Leaves (unlessShort before ans after reply) before ans 255
+  short e = record { equal = rw e }
 
-pub replies : (bs ins values trail ans values₁ trail₁ ans₁ : List ℕ) (r : ℕ) {ran : Ran} → Fills (runFills ran ans) ans₁ r
-    → Answers bs ins values trail values₁ trail₁ ran → ltb (length ans) 8 ≡ false → RunsReply bs ins values trail ans values₁ trail₁ ans₁ r
-unfolding runReply
-replies bs ins values trail ans values₁ trail₁ ans₁ r {ran} f x e = record {
-  equal =
-      ap (λ (y : Reply). put (y .code) values₁ trail₁ (y .answer)) (f .equal)
-      ∙ rw e (ap (λ (y : Answer). runGives y ans) (x .equal));
-}
+  -- an answer with its 8 entries
+  pub filled : (ans₁ : List ℕ) (r : ℕ) → Fills reply ans₁ r → ltb (length ans) 8 ≡ false → Leaves (unlessShort before ans after reply) after ans₁ r
+  filled ans₁ r f e = record { equal = rw e (ap (λ (y : Reply). record { code = y .code; buffers = after; answer = y .answer }) (f .equal)) }
 
-abbrev putTranslated : ℕ → (words starts ans : List ℕ) → TranslateReply
-putTranslated code words starts ans = record { code = code; words = words; starts = starts; answer = ans }
+pub check-leaves : (bs ans ans₁ : List ℕ) (r : ℕ) {x : routine.Checked} → Fills (checkFills x ans) ans₁ r → x ≡ checked bs → ltb (length ans) 8 ≡ false
+    → Leaves (checkLeaves bs ans) [] ans₁ r
+unfolding checkLeaves
+check-leaves bs ans ans₁ r f e q = rw (← e) (filled [] [] ans _ ans₁ r f q)
 
-pub translate-replies : (bs : List ℕ) (access side : ℕ) (ds words starts ans words₁ starts₁ ans₁ : List ℕ) (r : ℕ) {t : Translated}
+pub alike-leaves : (bs first second ans ans₁ : List ℕ) (r : ℕ) {x : Compared} → Fills (alikeFills x ans) ans₁ r → x ≡ alike bs first second
+    → ltb (length ans) 8 ≡ false → Leaves (alikeLeaves bs first second ans) [] ans₁ r
+unfolding alikeLeaves
+alike-leaves bs first second ans ans₁ r f e q = rw (← e) (filled [] [] ans _ ans₁ r f q)
+
+pub run-leaves : (bs ins values trail ans values₁ trail₁ ans₁ : List ℕ) (r : ℕ) {o : Ran} → Fills (runFills o ans) ans₁ r
+    → ran.Answers bs ins values trail values₁ trail₁ o → ltb (length ans) 8 ≡ false
+    → Leaves (runLeaves bs ins values trail ans) (values₁ ∷ trail₁ ∷ []) ans₁ r
+unfolding runLeaves
+run-leaves bs ins values trail ans values₁ trail₁ ans₁ r f x e =
+    subst (λ (y : ran.Answer). Leaves (ranLeft values trail ans y) (values₁ ∷ trail₁ ∷ []) ans₁ r) (x .equal) (filled _ _ ans _ ans₁ r f e)
+
+pub translate-leaves : (bs : List ℕ) (access side : ℕ) (ds words starts ans words₁ starts₁ ans₁ : List ℕ) (r : ℕ) {t : Translated}
     → Fills (translateFills t ans) ans₁ r → translated.Answers bs (targetOf access side) ds words starts words₁ starts₁ t
-    → ltb (length ans) 8 ≡ false → TranslatesReply bs access side ds words starts ans words₁ starts₁ ans₁ r
-unfolding translateReply
-translate-replies bs access side ds words starts ans words₁ starts₁ ans₁ r {t} f x e = record {
-  equal =
-      ap (λ (y : Reply). putTranslated (y .code) words₁ starts₁ (y .answer)) (f .equal)
-      ∙ rw e (ap (λ (y : translated.Answer). translateGives y ans) (x .equal));
-}
+    → ltb (length ans) 8 ≡ false → Leaves (translateLeaves bs access side ds words starts ans) (words₁ ∷ starts₁ ∷ []) ans₁ r
+unfolding translateLeaves
+translate-leaves bs access side ds words starts ans words₁ starts₁ ans₁ r f x e =
+    subst (λ (y : translated.Answer). Leaves (translatedLeft words starts ans y) (words₁ ∷ starts₁ ∷ []) ans₁ r) (x .equal) (filled _ _ ans _ ans₁ r f e)
 
-abbrev putProved : ℕ → (words starts marks ans : List ℕ) → ProveReply
-putProved code words starts marks ans = record { code = code; words = words; starts = starts; marks = marks; answer = ans }
-
-pub prove-replies : (r : List ℕ) (from clauses variables : ℕ) (words starts marks ans words₁ starts₁ marks₁ ans₁ : List ℕ) (code : ℕ) {c : Checked}
+pub prove-leaves : (r : List ℕ) (from clauses variables : ℕ) (words starts marks ans words₁ starts₁ marks₁ ans₁ : List ℕ) (code : ℕ) {c : Checked}
     → Fills (proveFills c ans) ans₁ code → Checks words starts marks r from clauses variables words₁ starts₁ marks₁ c
-    → ltb (length ans) 8 ≡ false → ProvesReply r from clauses variables words starts marks ans words₁ starts₁ marks₁ ans₁ code
-unfolding proveReply
-prove-replies r from clauses variables words starts marks ans words₁ starts₁ marks₁ ans₁ code {c} f x e = record {
-  equal =
-      ap (λ (y : Reply). putProved (y .code) words₁ starts₁ marks₁ (y .answer)) (f .equal)
-      ∙ rw e (ap (λ (y : Checking). proveGives y ans) (x .equal));
-}
+    → ltb (length ans) 8 ≡ false → Leaves (proveLeaves r from clauses variables words starts marks ans) (words₁ ∷ starts₁ ∷ marks₁ ∷ []) ans₁ code
+unfolding proveLeaves
+prove-leaves r from clauses variables words starts marks ans words₁ starts₁ marks₁ ans₁ code f x e =
+    subst (λ (y : Checking). Leaves (provedLeft words starts marks ans y) (words₁ ∷ starts₁ ∷ marks₁ ∷ []) ans₁ code) (x .equal) (filled _ _ ans _ ans₁ code f e)

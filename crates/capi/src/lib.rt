@@ -5,12 +5,13 @@ use replies::fill_judge;
 use replies::fill_prove;
 use replies::fill_run;
 use replies::fill_translate;
-ghost use Rattle.capi.specs.Reply.{ChecksReply, RunsReply, TranslatesReply, ProvesReply, JudgesReply, Finds, AlikesReply};
+ghost use mathlib.Core.List.{[], _∷_};
+ghost use Rattle.capi.specs.Reply.{Leaves, checkLeaves, runLeaves, translateLeaves, proveLeaves, judgeLeaves, Finds, alikeLeaves};
 
 // Checks a routine.
 #[no_mangle]
 pub extern "C" fn pellet_check(routine: &[u8], answer: &mut [u64]) -> u8
-    ensures { λ r. ⌜ ChecksReply (now (routine .entry)) (now (answer .entry)) (now (answer .exit)) r ⌝ }
+    ensures { λ r. ⌜ Leaves (checkLeaves (now (routine .entry)) (now (answer .entry))) [] (now (answer .exit)) r ⌝ }
 {
     if answer.len() < 8 {
         return 255;
@@ -27,7 +28,7 @@ pub extern "C" fn pellet_run(
     trail: &mut [u8],
     answer: &mut [u64],
 ) -> u8
-    ensures { λ r. ⌜ RunsReply (now (routine .entry)) (now (inputs .entry)) (now (values .entry)) (now (trail .entry)) (now (answer .entry)) (now (values .exit)) (now (trail .exit)) (now (answer .exit)) r ⌝ }
+    ensures { λ r. ⌜ Leaves (runLeaves (now (routine .entry)) (now (inputs .entry)) (now (values .entry)) (now (trail .entry)) (now (answer .entry))) (now (values .exit) ∷ now (trail .exit) ∷ []) (now (answer .exit)) r ⌝ }
 {
     if answer.len() < 8 {
         return 255;
@@ -46,7 +47,7 @@ pub extern "C" fn pellet_translate(
     starts: &mut [u32],
     answer: &mut [u64],
 ) -> u8
-    ensures { λ r. ⌜ TranslatesReply (now (routine .entry)) access side (now (decisions .entry)) (now (words .entry)) (now (starts .entry)) (now (answer .entry)) (now (words .exit)) (now (starts .exit)) (now (answer .exit)) r ⌝ }
+    ensures { λ r. ⌜ Leaves (translateLeaves (now (routine .entry)) access side (now (decisions .entry)) (now (words .entry)) (now (starts .entry)) (now (answer .entry))) (now (words .exit) ∷ now (starts .exit) ∷ []) (now (answer .exit)) r ⌝ }
 {
     if answer.len() < 8 {
         return 255;
@@ -69,7 +70,7 @@ pub extern "C" fn pellet_prove(
     marks: &mut [u8],
     answer: &mut [u64],
 ) -> u8
-    ensures { λ r. ⌜ ProvesReply (now (report .entry)) from clauses variables (now (words .entry)) (now (starts .entry)) (now (marks .entry)) (now (answer .entry)) (now (words .exit)) (now (starts .exit)) (now (marks .exit)) (now (answer .exit)) r ⌝ }
+    ensures { λ r. ⌜ Leaves (proveLeaves (now (report .entry)) from clauses variables (now (words .entry)) (now (starts .entry)) (now (marks .entry)) (now (answer .entry))) (now (words .exit) ∷ now (starts .exit) ∷ now (marks .exit) ∷ []) (now (answer .exit)) r ⌝ }
 {
     if answer.len() < 8 {
         return 255;
@@ -92,7 +93,7 @@ pub extern "C" fn pellet_judge(
     trail: &mut [u8],
     answer: &mut [u64],
 ) -> u8
-    ensures { λ r. ⌜ JudgesReply (now (routine .entry)) (now (report .entry)) (now (words .entry)) (now (starts .entry)) (now (marks .entry)) (now (values .entry)) (now (trail .entry)) (now (answer .entry)) (now (words .exit)) (now (starts .exit)) (now (marks .exit)) (now (values .exit)) (now (trail .exit)) (now (answer .exit)) r ⌝ }
+    ensures { λ r. ⌜ Leaves (judgeLeaves (now (routine .entry)) (now (report .entry)) (now (words .entry)) (now (starts .entry)) (now (marks .entry)) (now (values .entry)) (now (trail .entry)) (now (answer .entry))) (now (words .exit) ∷ now (starts .exit) ∷ now (marks .exit) ∷ now (values .exit) ∷ now (trail .exit) ∷ []) (now (answer .exit)) r ⌝ }
     ensures { λ r. ⌜ Finds (now (routine .entry)) (now (report .entry)) (now (answer .entry)) (now (answer .exit)) r ⌝ }
 {
     if answer.len() < 8 {
@@ -112,7 +113,7 @@ pub extern "C" fn pellet_alike(
     second: &[u8],
     answer: &mut [u64],
 ) -> u8
-    ensures { λ r. ⌜ AlikesReply (now (routine .entry)) (now (first .entry)) (now (second .entry)) (now (answer .entry)) (now (answer .exit)) r ⌝ }
+    ensures { λ r. ⌜ Leaves (alikeLeaves (now (routine .entry)) (now (first .entry)) (now (second .entry)) (now (answer .entry))) [] (now (answer .exit)) r ⌝ }
 {
     if answer.len() < 8 {
         return 255;

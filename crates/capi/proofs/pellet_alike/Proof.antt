@@ -1,13 +1,13 @@
-use mathlib.Core.Path.{_∙_}
+use Rattle.capi.proofs.Replies.{short, alike-leaves}
 use borrow.Author.Tests.{lt-ltb, le-ltb}
-use Rattle.capi.specs.Reply.{alikeReply}
+use Rattle.capi.specs.Reply.{alikeLeaves}
 use borrow.Author.Needs.{needs}
 use Rattle.capi.proofs.pellet_alike.Statement.{statement}
 use Rattle.capi.proofs.pellet_alike.Tie as tie
 
 returns : tie.Need-returns
-unfolding alikeReply
-returns c = record { equal = rw (lt-ltb _ _ (c .if1 .taken)) }
+unfolding alikeLeaves
+returns c = short _ _ _ _ (lt-ltb _ _ (c .if1 .taken))
 
 alike-requires : tie.Need-alike-requires
 alike-requires c κs = search needs
@@ -19,8 +19,10 @@ same-length : tie.Need-same-length
 same-length c = search needs
 
 returns-2 : tie.Need-returns-2
-unfolding alikeReply
-returns-2 c = record { equal = c .before .before .fill-alike .ensures .equal ∙ rw (le-ltb _ _ (c .before .before .before .before .before .if1 .left), c .before .before .before .before .alike .ensures) }
+unfolding alikeLeaves
+returns-2 c =
+    alike-leaves _ _ _ _ _ _ (c .before .before .fill-alike .ensures) (c .before .before .before .before .alike .ensures)
+    (le-ltb _ _ (c .before .before .before .before .before .if1 .left))
 
 pub pellet-alike-spec : {M : Type 1} → statement M
 pellet-alike-spec =

@@ -1,13 +1,13 @@
-use mathlib.Core.Path.{_∙_}
+use Rattle.capi.proofs.Replies.{short, check-leaves}
 use borrow.Author.Tests.{lt-ltb, le-ltb}
-use Rattle.capi.specs.Reply.{checkReply}
+use Rattle.capi.specs.Reply.{checkLeaves}
 use borrow.Author.Needs.{needs}
 use Rattle.capi.proofs.pellet_check.Statement.{statement}
 use Rattle.capi.proofs.pellet_check.Tie as tie
 
 returns : tie.Need-returns
-unfolding checkReply
-returns c = record { equal = rw (lt-ltb _ _ (c .if1 .taken)) }
+unfolding checkLeaves
+returns c = short _ _ _ _ (lt-ltb _ _ (c .if1 .taken))
 
 check-requires : tie.Need-check-requires
 check-requires c κs = search needs
@@ -19,8 +19,10 @@ same-length : tie.Need-same-length
 same-length c = search needs
 
 returns-2 : tie.Need-returns-2
-unfolding checkReply
-returns-2 c = record { equal = c .before .before .fill-check .ensures .equal ∙ rw (le-ltb _ _ (c .before .before .before .before .before .if1 .left), c .before .before .before .before .check .ensures) }
+unfolding checkLeaves
+returns-2 c =
+    check-leaves _ _ _ _ (c .before .before .fill-check .ensures) (c .before .before .before .before .check .ensures)
+    (le-ltb _ _ (c .before .before .before .before .before .if1 .left))
 
 pub pellet-check-spec : {M : Type 1} → statement M
 pellet-check-spec =

@@ -1,13 +1,14 @@
-use Rattle.capi.proofs.Judging.{judge-replies, finds, finds-nothing}
+use Rattle.capi.proofs.Replies.{short}
+use Rattle.capi.proofs.Judging.{judge-leaves, finds, finds-nothing}
 use borrow.Author.Tests.{lt-ltb, le-ltb}
-use Rattle.capi.specs.Reply.{judgeReply}
+use Rattle.capi.specs.Reply.{judgeLeaves}
 use borrow.Author.Needs.{needs}
 use Rattle.capi.proofs.pellet_judge.Statement.{statement}
 use Rattle.capi.proofs.pellet_judge.Tie as tie
 
 returns : tie.Need-returns
-unfolding judgeReply
-returns c = (record { equal = rw (lt-ltb _ _ (c .if1 .taken)) }, finds-nothing _ _ _ _)
+unfolding judgeLeaves
+returns c = (short _ _ _ _ (lt-ltb _ _ (c .if1 .taken)), finds-nothing _ _ _ _)
 
 judge-requires : tie.Need-judge-requires
 judge-requires c κs = search needs
@@ -37,7 +38,7 @@ returns-2 : tie.Need-returns-2
 returns-2 c =
     let f = c .before .before .fill-judge .ensures in
     let j = c .before .before .before .before .before .before .before .before .before .before .before .before .before .before .judge in
-    (judge-replies _ _ _ _ _ _ _ _ _ _ _ _ _ _ _ f (j .ensures .0) (le-ltb _ _ (c .before .before .before .before .before .before .before .before .before .before .before .before .before .before .before .before .before .before .before .before .if1 .left)), finds _ _ _ _ _ (j .result) f (j .ensures .1))
+    (judge-leaves _ _ _ _ _ _ _ _ _ _ _ _ _ _ _ f (j .ensures .0) (le-ltb _ _ (c .before .before .before .before .before .before .before .before .before .before .before .before .before .before .before .before .before .before .before .before .if1 .left)), finds _ _ _ _ _ (j .result) f (j .ensures .1))
 
 pub pellet-judge-spec : {M : Type 1} → statement M
 pellet-judge-spec =

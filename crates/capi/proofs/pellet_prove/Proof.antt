@@ -1,13 +1,13 @@
-use Rattle.capi.proofs.Replies.{prove-replies}
+use Rattle.capi.proofs.Replies.{prove-leaves, short}
 use borrow.Author.Tests.{lt-ltb, le-ltb}
-use Rattle.capi.specs.Reply.{proveReply}
+use Rattle.capi.specs.Reply.{proveLeaves}
 use borrow.Author.Needs.{needs}
 use Rattle.capi.proofs.pellet_prove.Statement.{statement}
 use Rattle.capi.proofs.pellet_prove.Tie as tie
 
 returns : tie.Need-returns
-unfolding proveReply
-returns c = record { equal = rw (lt-ltb _ _ (c .if1 .taken)) }
+unfolding proveLeaves
+returns c = short _ _ _ _ (lt-ltb _ _ (c .if1 .taken))
 
 check-requires : tie.Need-check-requires
 check-requires c κs = search needs
@@ -28,8 +28,8 @@ same-length-4 : tie.Need-same-length-4
 same-length-4 c = search needs
 
 returns-2 : tie.Need-returns-2
-unfolding proveReply
-returns-2 c = prove-replies _ _ _ _ _ _ _ _ _ _ _ _ _ (c .before .before .fill-prove .ensures) (c .before .before .before .before .before .before .before .before .before .before .check .ensures .0) (le-ltb _ _ (c .before .before .before .before .before .before .before .before .before .before .before .before .before .before .if1 .left))
+unfolding proveLeaves
+returns-2 c = prove-leaves _ _ _ _ _ _ _ _ _ _ _ _ _ (c .before .before .fill-prove .ensures) (c .before .before .before .before .before .before .before .before .before .before .check .ensures .0) (le-ltb _ _ (c .before .before .before .before .before .before .before .before .before .before .before .before .before .before .if1 .left))
 
 pub pellet-prove-spec : {M : Type 1} → statement M
 pellet-prove-spec =

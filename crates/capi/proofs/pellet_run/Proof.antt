@@ -1,13 +1,13 @@
-use Rattle.capi.proofs.Replies.{replies}
+use Rattle.capi.proofs.Replies.{run-leaves, short}
 use borrow.Author.Tests.{lt-ltb, le-ltb}
-use Rattle.capi.specs.Reply.{runReply}
+use Rattle.capi.specs.Reply.{runLeaves}
 use borrow.Author.Needs.{needs}
 use Rattle.capi.proofs.pellet_run.Statement.{statement}
 use Rattle.capi.proofs.pellet_run.Tie as tie
 
 returns : tie.Need-returns
-unfolding runReply
-returns c = record { equal = rw (lt-ltb _ _ (c .if1 .taken)) }
+unfolding runLeaves
+returns c = short _ _ _ _ (lt-ltb _ _ (c .if1 .taken))
 
 run-requires : tie.Need-run-requires
 run-requires c κs = search needs
@@ -25,8 +25,8 @@ same-length-3 : tie.Need-same-length-3
 same-length-3 c = search needs
 
 returns-2 : tie.Need-returns-2
-unfolding runReply
-returns-2 c = replies _ _ _ _ _ _ _ _ _ (c .before .before .fill-run .ensures) (c .before .before .before .before .before .before .before .before .run .ensures) (le-ltb _ _ (c .before .before .before .before .before .before .before .before .before .before .before .if1 .left))
+unfolding runLeaves
+returns-2 c = run-leaves _ _ _ _ _ _ _ _ _ (c .before .before .fill-run .ensures) (c .before .before .before .before .before .before .before .before .run .ensures) (le-ltb _ _ (c .before .before .before .before .before .before .before .before .before .before .before .if1 .left))
 
 pub pellet-run-spec : {M : Type 1} → statement M
 pellet-run-spec =

@@ -1,13 +1,13 @@
-use Rattle.capi.proofs.Replies.{translate-replies}
+use Rattle.capi.proofs.Replies.{translate-leaves, short}
 use borrow.Author.Tests.{lt-ltb, le-ltb}
-use Rattle.capi.specs.Reply.{translateReply}
+use Rattle.capi.specs.Reply.{translateLeaves}
 use borrow.Author.Needs.{needs}
 use Rattle.capi.proofs.pellet_translate.Statement.{statement}
 use Rattle.capi.proofs.pellet_translate.Tie as tie
 
 returns : tie.Need-returns
-unfolding translateReply
-returns c = record { equal = rw (lt-ltb _ _ (c .if1 .taken)) }
+unfolding translateLeaves
+returns c = short _ _ _ _ (lt-ltb _ _ (c .if1 .taken))
 
 translate-requires : tie.Need-translate-requires
 translate-requires c κs = search needs
@@ -25,8 +25,8 @@ same-length-3 : tie.Need-same-length-3
 same-length-3 c = search needs
 
 returns-2 : tie.Need-returns-2
-unfolding translateReply
-returns-2 c = translate-replies _ _ _ _ _ _ _ _ _ _ _ (c .before .before .fill-translate .ensures) (c .before .before .before .before .before .before .before .before .translate .ensures .0) (le-ltb _ _ (c .before .before .before .before .before .before .before .before .before .before .before .if1 .left))
+unfolding translateLeaves
+returns-2 c = translate-leaves _ _ _ _ _ _ _ _ _ _ _ (c .before .before .fill-translate .ensures) (c .before .before .before .before .before .before .before .before .translate .ensures .0) (le-ltb _ _ (c .before .before .before .before .before .before .before .before .before .before .before .if1 .left))
 
 pub pellet-translate-spec : {M : Type 1} → statement M
 pellet-translate-spec =
