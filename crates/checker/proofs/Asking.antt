@@ -122,10 +122,3 @@ pub unsatisfied-over : (words starts : List ℕ) (clauses kw ks : ℕ) → kw �
     → Unsatisfied (clausesOf (part words) (part starts) clauses) c
 unsatisfied-over words starts clauses kw ks ew es c p =
     subst (λ (k : ℕ). Unsatisfied (clausesOf (take k words) (part starts) clauses) c) ew (subst (λ (k : ℕ). Unsatisfied (clausesOf (take kw words) (take k starts) clauses) c) es p)
-
--- a part has as many entries as it is cut to
-pub part-length : (l : List ℕ) (k : ℕ) → k ≤ length l → k ≡ length (take k l)
-part-length l k h = sym (length-take-le k l h)
-
-pub part-short : (l : List ℕ) (k : ℕ) → k ≡ usable l → length (take k l) ≤ 16777216
-part-short l k e = omega (arith, length-take-le k l (omega arith))

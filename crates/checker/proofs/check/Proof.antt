@@ -2,7 +2,10 @@ use native.Mathlib.Omega.{arith}
 use Prim.Native.Nat.{_+_}
 use Rattle.propagation.specs.Stored.{clausesOf}
 use Rattle.checker.specs.Checking.{part}
-use Rattle.checker.proofs.Asking.{unsatisfied-unfit, check-unfit, too-long, too-far, too-few, check-over, unsatisfied-over, part-length, part-short}
+use Rattle.checker.proofs.Asking.{unsatisfied-unfit, check-unfit, too-long, too-far, too-few, check-over, unsatisfied-over}
+use lib.Seq.{length-take-le}
+use mathlib.Core.Path.{sym}
+use Rattle.slices.proofs.Used.{used-length, used-short}
 use borrow.Author.Needs.{needs}
 use Rattle.checker.proofs.check.Statement.{statement}
 use Rattle.checker.proofs.check.Tie as tie
@@ -47,25 +50,25 @@ slice-relend-prefix-check-parts : tie.Need-slice-relend-prefix-check-parts
 slice-relend-prefix-check-parts c = search needs
 
 slice-aggregate-check-parts : tie.Need-slice-aggregate-check-parts
-slice-aggregate-check-parts c = part-length (c .before .before .before .before .before .before .before .before .before .before .before .args .words .now) (c .before .before .before .before .before .before .usable .result) (omega (arith, c .before .before .before .before .before .before .usable .ensures))
+slice-aggregate-check-parts c = used-length (c .before .before .before .before .before .before .before .before .before .before .before .args .words .now) _ (c .before .before .before .before .before .before .usable .ensures)
 
 slice-relend-prefix-check-parts-2 : tie.Need-slice-relend-prefix-check-parts-2
 slice-relend-prefix-check-parts-2 c = search needs
 
 slice-aggregate-check-parts-2 : tie.Need-slice-aggregate-check-parts-2
-slice-aggregate-check-parts-2 c = part-length (c .before .before .before .before .before .before .before .before .before .before .before .before .args .starts .now) (c .before .before .before .before .before .before .usable2 .result) (omega (arith, c .before .before .before .before .before .before .usable2 .ensures))
+slice-aggregate-check-parts-2 c = used-length (c .before .before .before .before .before .before .before .before .before .before .before .before .args .starts .now) _ (c .before .before .before .before .before .before .usable2 .ensures)
 
 slice-relend-prefix-check-parts-3 : tie.Need-slice-relend-prefix-check-parts-3
 slice-relend-prefix-check-parts-3 c = search needs
 
 slice-aggregate-check-parts-3 : tie.Need-slice-aggregate-check-parts-3
-slice-aggregate-check-parts-3 c = part-length (c .before .before .before .before .before .before .before .before .before .before .before .before .before .args .marks .now) (c .before .before .before .before .before .before .before .before .before .before .before .before .before .args .variables + 1) (omega (arith, c .before .before .before .before .usable3 .ensures, c .before .before .before .if3 .left))
+slice-aggregate-check-parts-3 c = sym (length-take-le (c .before .before .before .before .before .before .before .before .before .before .before .before .before .args .variables + 1) (c .before .before .before .before .before .before .before .before .before .before .before .before .before .args .marks .now) (omega (arith, c .before .before .before .before .usable3 .ensures, c .before .before .before .if3 .left)))
 
 check-parts-requires : tie.Need-check-parts-requires
 check-parts-requires c κs =
     let a = c .before .before .before .before .before .before .before .before .before .before .before .before .before .args in (
-      part-short (a .words .now) (c .before .before .before .before .before .before .before .before .usable .result) (c .before .before .before .before .before .before .before .before .usable .ensures),
-      omega (arith, part-length (a .marks .now) (a .variables + 1) (omega (arith, c .before .before .before .before .usable3 .ensures, c .before .before .before .if3 .left))),
+      used-short (a .words .now) _ (c .before .before .before .before .before .before .before .before .usable .ensures),
+      omega (arith, length-take-le (a .variables + 1) (a .marks .now) (omega (arith, c .before .before .before .before .usable3 .ensures, c .before .before .before .if3 .left))),
       c .before .before .before .before .before .if2 .left,
       c .before .before .before .before .before .before .if1 .left,
     )

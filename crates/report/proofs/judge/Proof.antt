@@ -1,6 +1,6 @@
-use mathlib.Core.Path.{sym}
+use Rattle.slices.proofs.Used.{used-length, used-short}
 use Rattle.report.proofs.Demanded.{demand}
-use Rattle.report.proofs.Zeroes.{part-length, part-short, judged-over}
+use Rattle.report.proofs.Zeroes.{judged-over}
 use borrow.Author.Needs.{needs}
 use Rattle.report.proofs.judge.Statement.{statement}
 use Rattle.report.proofs.judge.Tie as tie
@@ -24,34 +24,34 @@ slice-relend-prefix-judge-parts : tie.Need-slice-relend-prefix-judge-parts
 slice-relend-prefix-judge-parts c = search needs
 
 slice-aggregate-judge-parts : tie.Need-slice-aggregate-judge-parts
-slice-aggregate-judge-parts c = sym (part-length (c .before .before .before .before .before .before .before .before .before .before .before .before .before .args .words .now) _ (c .before .before .before .before .before .usable .ensures))
+slice-aggregate-judge-parts c = used-length (c .before .before .before .before .before .before .before .before .before .before .before .before .before .args .words .now) _ (c .before .before .before .before .before .usable .ensures)
 
 slice-relend-prefix-judge-parts-2 : tie.Need-slice-relend-prefix-judge-parts-2
 slice-relend-prefix-judge-parts-2 c = search needs
 
 slice-aggregate-judge-parts-2 : tie.Need-slice-aggregate-judge-parts-2
-slice-aggregate-judge-parts-2 c = sym (part-length (c .before .before .before .before .before .before .before .before .before .before .before .before .before .before .args .starts .now) _ (c .before .before .before .before .before .usable2 .ensures))
+slice-aggregate-judge-parts-2 c = used-length (c .before .before .before .before .before .before .before .before .before .before .before .before .before .before .args .starts .now) _ (c .before .before .before .before .before .usable2 .ensures)
 
 slice-relend-prefix-judge-parts-3 : tie.Need-slice-relend-prefix-judge-parts-3
 slice-relend-prefix-judge-parts-3 c = search needs
 
 slice-aggregate-judge-parts-3 : tie.Need-slice-aggregate-judge-parts-3
-slice-aggregate-judge-parts-3 c = sym (part-length (c .before .before .before .before .before .before .before .before .before .before .before .before .before .before .before .args .marks .now) _ (c .before .before .before .before .before .usable3 .ensures))
+slice-aggregate-judge-parts-3 c = used-length (c .before .before .before .before .before .before .before .before .before .before .before .before .before .before .before .args .marks .now) _ (c .before .before .before .before .before .usable3 .ensures)
 
 slice-relend-prefix-judge-parts-4 : tie.Need-slice-relend-prefix-judge-parts-4
 slice-relend-prefix-judge-parts-4 c = search needs
 
 slice-aggregate-judge-parts-4 : tie.Need-slice-aggregate-judge-parts-4
-slice-aggregate-judge-parts-4 c = sym (part-length (c .before .before .before .before .before .before .before .before .before .before .before .before .before .before .before .before .args .values .now) _ (c .before .before .before .before .before .usable4 .ensures))
+slice-aggregate-judge-parts-4 c = used-length (c .before .before .before .before .before .before .before .before .before .before .before .before .before .before .before .before .args .values .now) _ (c .before .before .before .before .before .usable4 .ensures)
 
 slice-relend-prefix-judge-parts-5 : tie.Need-slice-relend-prefix-judge-parts-5
 slice-relend-prefix-judge-parts-5 c = search needs
 
 slice-aggregate-judge-parts-5 : tie.Need-slice-aggregate-judge-parts-5
-slice-aggregate-judge-parts-5 c = sym (part-length (c .before .before .before .before .before .before .before .before .before .before .before .before .before .before .before .before .before .args .trail .now) _ (c .before .before .before .before .before .usable5 .ensures))
+slice-aggregate-judge-parts-5 c = used-length (c .before .before .before .before .before .before .before .before .before .before .before .before .before .before .before .before .before .args .trail .now) _ (c .before .before .before .before .before .usable5 .ensures)
 
 judge-parts-requires : tie.Need-judge-parts-requires
-judge-parts-requires c κs = let a = c .before .before .before .before .before .before .before .before .before .before .before .before .before .before .before .before .before .args in (part-short (a .words .now) _ (c .before .before .before .before .before .before .before .before .before .usable .ensures), part-short (a .starts .now) _ (c .before .before .before .before .before .before .before .before .usable2 .ensures))
+judge-parts-requires c κs = let a = c .before .before .before .before .before .before .before .before .before .before .before .before .before .before .before .before .before .args in (used-short (a .words .now) _ (c .before .before .before .before .before .before .before .before .before .usable .ensures), used-short (a .starts .now) _ (c .before .before .before .before .before .before .before .before .usable2 .ensures))
 
 same-length : tie.Need-same-length
 same-length c = search needs

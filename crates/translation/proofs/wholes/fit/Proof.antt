@@ -1,7 +1,5 @@
-use mathlib.Core.Path.{sym}
-use native.Mathlib.Omega.{arith}
 use denote.Ref.{now}
-use lib.Seq.{length-take-le}
+use Rattle.slices.proofs.Used.{used-length}
 use Rattle.translation.proofs.Storing.{words-short, starts-short, both-fit}
 use borrow.Author.Needs.{needs}
 use Rattle.translation.proofs.wholes.fit.Statement.{statement}
@@ -40,13 +38,13 @@ slice-relend-prefix-make : tie.Need-slice-relend-prefix-make
 slice-relend-prefix-make c = search needs
 
 slice-aggregate-make-3 : tie.Need-slice-aggregate-make-3
-slice-aggregate-make-3 c = sym (length-take-le _ _ (omega (arith, c .before .before .before .before .before .before .before .before .before .before .before .usable .ensures)))
+slice-aggregate-make-3 c = used-length _ _ (c .before .before .before .before .before .before .before .before .before .before .before .usable .ensures)
 
 slice-relend-prefix-make-2 : tie.Need-slice-relend-prefix-make-2
 slice-relend-prefix-make-2 c = search needs
 
 slice-aggregate-make-4 : tie.Need-slice-aggregate-make-4
-slice-aggregate-make-4 c = sym (length-take-le _ _ (omega (arith, c .before .before .before .before .before .before .before .before .before .before .before .usable2 .ensures)))
+slice-aggregate-make-4 c = used-length _ _ (c .before .before .before .before .before .before .before .before .before .before .before .usable2 .ensures)
 
 make-requires-2 : tie.Need-make-requires-2
 make-requires-2 c κs = search needs
