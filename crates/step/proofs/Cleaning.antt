@@ -52,15 +52,3 @@ module _ (w s m m′ : List ℕ) (count : ℕ) (k : Command) where
   pub undo-far : (h : ℕ) → k ≡ Command.Hint h → count ≤ h → m ≡ clear m (touches (clausesOf w s count) k)
   unfolding clear touches
   undo-far h e b = rw (e, List·getD-eq-default (clausesOf w s count) [] {n = h} (rw clauses-length b)) refl
-
-  pub undo-close : k ≡ Command.Close → m ≡ clear m (touches (clausesOf w s count) k)
-  unfolding clear touches
-  undo-close e = rw e refl
-
-  pub undo-end : k ≡ Command.End → m ≡ clear m (touches (clausesOf w s count) k)
-  unfolding clear touches
-  undo-end e = rw e refl
-
-  pub undo-unreadable : k ≡ Command.Unreadable → m ≡ clear m (touches (clausesOf w s count) k)
-  unfolding clear touches
-  undo-unreadable e = rw e refl

@@ -1,6 +1,8 @@
-use mathlib.Core.Path.{sym, _∙_}
+use mathlib.Core.Path.{refl, sym, _∙_}
 use Rattle.reader.specs.Command.{commandAt}
-use Rattle.step.proofs.Cleaning.{undo-literal, undo-hint, undo-far, undo-close, undo-end, undo-unreadable}
+use Rattle.propagation.specs.Inner.Clear.{clear}
+use Rattle.step.specs.Inner.Undo.{touches}
+use Rattle.step.proofs.Cleaning.{undo-literal, undo-hint, undo-far}
 use borrow.Author.Needs.{needs}
 use Rattle.step.proofs.undoing.clear_command.Statement.{statement}
 use Rattle.step.proofs.undoing.clear_command.Tie as tie
@@ -57,19 +59,16 @@ returns-3 c =
     (sym (c .before .before .before .before .read-command .ensures) ∙ c .before .before .command2 .given .1) (c .if1 .left)
 
 returns-4 : tie.Need-returns-4
-returns-4 c =
-    let a = c .before .before .before .before .before .before .before .args in
-    undo-close (a .words .now) (a .starts .now) (a .marks .now) (a .marks .now) (a .count) (commandAt (a .report .now) (a .at)) (sym (c .before .before .read-command .ensures) ∙ c .enum-told .given .1)
+unfolding clear touches
+returns-4 c = rw (← c .before .before .read-command .ensures, c .enum-told .given .1) refl
 
 returns-5 : tie.Need-returns-5
-returns-5 c =
-    let a = c .before .before .before .before .before .before .before .args in
-    undo-end (a .words .now) (a .starts .now) (a .marks .now) (a .marks .now) (a .count) (commandAt (a .report .now) (a .at)) (sym (c .before .before .read-command .ensures) ∙ c .enum-told2 .given .1)
+unfolding clear touches
+returns-5 c = rw (← c .before .before .read-command .ensures, c .enum-told2 .given .1) refl
 
 returns-6 : tie.Need-returns-6
-returns-6 c =
-    let a = c .before .before .before .before .before .before .before .args in
-    undo-unreadable (a .words .now) (a .starts .now) (a .marks .now) (a .marks .now) (a .count) (commandAt (a .report .now) (a .at)) (sym (c .before .before .read-command .ensures) ∙ c .enum-told3 .given .1)
+unfolding clear touches
+returns-6 c = rw (← c .before .before .read-command .ensures, c .enum-told3 .given .1) refl
 
 pub clear-command-spec : {M : Type 1} → statement M
 clear-command-spec =
