@@ -49,19 +49,15 @@ opposite-requires c κs = search needs
 opposite-requires-2 : tie.Need-opposite-requires-2
 opposite-requires-2 c κs = search needs
 
-mul-inside : tie.Need-mul-inside
-mul-inside c = let a = c .before .before .before .before .before .before .before .before .before .before .before .before .before .before .before .before .args in
-    let p = c .before .before .before .before .before .before .before .before .before .before .before .before .before .before .before .before .pre in
-    let b = litAt (take (a .w) (drop (32 * a .i) (now (a .lits)))) in
-    let l = part-length (now (a .lits)) (a .i) (a .w) (p .1 .0) (p .1 .1 .0) (p .1 .1 .2) in
-    omega (arith, access-ready b (a .size) (a .w) (rw (part-width (a .i) (a .w), l) at (c .before .before .before .before .before .before .before .before .before .above .ensures .0)) (p .1 .1 .2) (p .0) .next)
-
 add-lit : tie.Need-add-lit
 add-lit c = let a = c .before .before .before .before .before .before .before .before .before .before .before .before .before .before .before .before .args in
     let p = c .before .before .before .before .before .before .before .before .before .before .before .before .before .before .before .before .pre in
     let b = litAt (take (a .w) (drop (32 * a .i) (now (a .lits)))) in
     let l = part-length (now (a .lits)) (a .i) (a .w) (p .1 .0) (p .1 .1 .0) (p .1 .1 .2) in
     omega (arith, access-ready b (a .size) (a .w) (rw (part-width (a .i) (a .w), l) at (c .before .before .before .before .before .before .before .before .before .above .ensures .0)) (p .1 .1 .2) (p .0) .next)
+
+mul-inside : tie.Need-mul-inside
+mul-inside c = omega (arith, add-lit c)
 
 and-gate-requires : tie.Need-and-gate-requires
 and-gate-requires c κs = let a = c .before .before .before .before .before .before .before .before .before .before .before .before .before .before .before .before .before .before .args in
