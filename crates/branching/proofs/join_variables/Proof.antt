@@ -4,7 +4,7 @@ use lib.ListN.{length}
 use Rattle.bits.proofs.Laws.{table-length}
 use Rattle.netlist.specs.Inner.Emit.{Emitted}
 use Rattle.netlist.proofs.Emitting.{emitted-none, emitted-words-length, emitted-starts-length, ready-after}
-use Rattle.wires.proofs.Ranges.{ranged}
+use Rattle.wires.proofs.Ranges.{ranged, storable}
 use Rattle.branching.proofs.Branching.{join-few, variable-joined, variable-wired}
 use Rattle.branching.specs.Branch.{joinNodes, joinLits}
 use borrow.Author.Needs.{needs}
@@ -47,9 +47,7 @@ store-bits-requires : tie.Need-store-bits-requires Inv-loop μ-loop
 store-bits-requires c κs = let a = c .before .before .before .before .before .before .before .before .before .before .before .before .before .before .before .before .before .before .before .before .before .args in
     let p = c .before .before .before .before .before .before .before .before .before .before .before .before .before .before .before .before .before .before .before .before .before .pre in
     let l = c .before .before .before .before .before .before .before .before .before .before .before .before .before .before .before .loop in
-    let r = ranged (now (a .bytes)) (a .h) (l .v) (p .1 .1) (omega arith) in
-    let e = c .before .before .before .before .before .before .before .before .before .before .before .before .width-of .ensures in
-    (l .inv .1, (r .variable, omega (arith, r .few, e), omega (arith, r .few, e, table-length _ (c .before .before .before .before .before .before .before .before .join-variable .ensures .1))))
+    (l .inv .1, storable (now (a .bytes)) (a .h) (l .v) _ (p .1 .1) (omega arith) (c .before .before .before .before .before .before .before .before .before .before .before .before .width-of .ensures) _ (c .before .before .before .before .before .before .before .before .join-variable .ensures .1))
 
 add-v : tie.Need-add-v Inv-loop μ-loop
 add-v c = let f = c .before .before .before .before .before .before .before .before .before .before .before .before .before .before .before .before .before .before .before .before .before .before .before .before .pre .1 .1 .few in omega arith

@@ -1,6 +1,6 @@
 use mathlib.Core.Path.{sym, _∙_}
 use Rattle.netlist.proofs.Emitting.{ready-weaken}
-use Rattle.wires.proofs.Ranges.{ranged}
+use Rattle.wires.proofs.Ranges.{ranged-as}
 use Rattle.wiring.proofs.Commanding.{claim-at, pass-at, makes-as}
 use Rattle.wires.specs.Inner.Reach.{wiresOf, reaching}
 use Rattle.wires.specs.declared.Claim.{Claim}
@@ -28,9 +28,7 @@ wide-requires c κs = search needs
 claim-access-requires : tie.Need-claim-access-requires
 claim-access-requires c κs = let a = c .before .before .before .before .before .before .before .before .before .before .before .args in
     let p = c .before .before .before .before .before .before .before .before .before .before .before .pre in
-    let r = ranged (now (a .bytes)) (a .h) (a .i) (p .1 .1 .1) (p .1 .1 .0) in
-    let e = c .before .before .before .before .before .before .width-of .ensures in
-    (ready-weaken (omega arith) (p .0), (p .1 .0, (r .variable, omega (arith, r .some, e), omega (arith, r .few, e))))
+    (ready-weaken (omega arith) (p .0), (p .1 .0, ranged-as (now (a .bytes)) (a .h) (a .i) _ (p .1 .1 .1) (p .1 .1 .0) (c .before .before .before .before .before .before .width-of .ensures)))
 
 same-length : tie.Need-same-length
 same-length c = search needs
@@ -48,9 +46,7 @@ returns c = let a = c .before .before .before .before .before .before .before .b
 pass-access-requires : tie.Need-pass-access-requires
 pass-access-requires c κs = let a = c .before .before .before .before .before .before .before .before .before .before .before .args in
     let p = c .before .before .before .before .before .before .before .before .before .before .before .pre in
-    let r = ranged (now (a .bytes)) (a .h) (a .i) (p .1 .1 .1) (p .1 .1 .0) in
-    let e = c .before .before .before .before .before .before .width-of .ensures in
-    (ready-weaken (omega arith) (p .0), (p .1 .0, (r .variable, omega (arith, r .some, e), omega (arith, r .few, e))))
+    (ready-weaken (omega arith) (p .0), (p .1 .0, ranged-as (now (a .bytes)) (a .h) (a .i) _ (p .1 .1 .1) (p .1 .1 .0) (c .before .before .before .before .before .before .width-of .ensures)))
 
 with-arrival-requires : tie.Need-with-arrival-requires
 with-arrival-requires c κs = search needs

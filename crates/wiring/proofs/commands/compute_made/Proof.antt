@@ -1,8 +1,7 @@
 use Rattle.faults.proofs.Fine.{compute-fine}
 use Rattle.netlist.proofs.Emitting.{ready-weaken}
-use Rattle.wires.proofs.Ranges.{ranged}
+use Rattle.wires.proofs.Ranges.{ranged, storable}
 use Rattle.wiring.proofs.Commanding.{stored, computed-at}
-use Rattle.bits.proofs.Laws.{table-length}
 use borrow.Author.Needs.{needs}
 use native.Mathlib.Omega.{arith}
 use denote.Ref.{now}
@@ -32,9 +31,7 @@ store-bits-requires : tie.Need-store-bits-requires
 store-bits-requires c κs = let a = c .before .before .before .before .before .before .before .before .before .before .before .before .before .before .before .before .args in
     let p = c .before .before .before .before .before .before .before .before .before .before .before .before .before .before .before .before .pre in
     let f = compute-fine (now (a .bytes)) (a .h) (a .op) (a .d) (a .a) (a .b) (p .1 .1 .0) in
-    let r = ranged (now (a .bytes)) (a .h) (a .d) (p .1 .1 .1) (f .0) in
-    let e = c .before .before .before .before .before .before .before .before .before .before .before .width-of .ensures in
-    (p .1 .0, (r .variable, omega (arith, r .few, e), omega (arith, r .few, e, table-length _ (c .before .before .before .before .before .before .before .compute .ensures .1))))
+    (p .1 .0, storable (now (a .bytes)) (a .h) (a .d) _ (p .1 .1 .1) (f .0) (c .before .before .before .before .before .before .before .before .before .before .before .width-of .ensures) _ (c .before .before .before .before .before .before .before .compute .ensures .1))
 
 same-length : tie.Need-same-length
 same-length c = search needs

@@ -1,9 +1,7 @@
 use Rattle.faults.proofs.Fine.{convert-fine}
-use Rattle.wires.proofs.Ranges.{ranged}
+use Rattle.wires.proofs.Ranges.{ranged, ranged-as, storable}
 use Rattle.wiring.proofs.Commanding.{stored}
-use Rattle.bits.proofs.Laws.{table-length}
 use borrow.Author.Needs.{needs}
-use native.Mathlib.Omega.{arith}
 use denote.Ref.{now}
 use Rattle.wiring.proofs.commands.convert_made.Statement.{statement}
 use Rattle.wiring.proofs.commands.convert_made.Tie as tie
@@ -18,9 +16,7 @@ convert-requires : tie.Need-convert-requires
 convert-requires c κs = let a = c .before .before .before .before .args in
     let p = c .before .before .before .before .pre in
     let f = convert-fine (now (a .bytes)) (a .h) (a .op) (a .d) (a .a) (p .1 .0) in
-    let r = ranged (now (a .bytes)) (a .h) (a .a) (p .1 .1) (f .1) in
-    let e = c .before .width-of .ensures in
-    (p .0, (r .variable, omega (arith, r .some, e), omega (arith, r .few, e)))
+    (p .0, ranged-as (now (a .bytes)) (a .h) (a .a) _ (p .1 .1) (f .1) (c .before .width-of .ensures))
 
 width-of-requires-2 : tie.Need-width-of-requires-2
 width-of-requires-2 c κs = search needs
@@ -35,9 +31,7 @@ store-bits-requires : tie.Need-store-bits-requires
 store-bits-requires c κs = let a = c .before .before .before .before .before .before .before .before .args in
     let p = c .before .before .before .before .before .before .before .before .pre in
     let f = convert-fine (now (a .bytes)) (a .h) (a .op) (a .d) (a .a) (p .1 .0) in
-    let r = ranged (now (a .bytes)) (a .h) (a .d) (p .1 .1) (f .0) in
-    let e = c .before .before .width-of2 .ensures in
-    (p .0, (r .variable, omega (arith, r .few, e), omega (arith, r .few, e, table-length _ (c .before .before .before .convert .ensures))))
+    (p .0, storable (now (a .bytes)) (a .h) (a .d) _ (p .1 .1) (f .0) (c .before .before .width-of2 .ensures) _ (c .before .before .before .convert .ensures))
 
 same-length : tie.Need-same-length
 same-length c = search needs

@@ -1,11 +1,10 @@
 use mathlib.Core.Path.{sym, ap, _∙_}
 use Rattle.faults.proofs.Fine.{read-fine}
 use Rattle.netlist.proofs.Emitting.{ready-after, ready-weaken}
-use Rattle.wires.proofs.Ranges.{ranged}
+use Rattle.wires.proofs.Ranges.{ranged, storable}
 use Rattle.wiring.proofs.Commanding.{stored, access-few, read-claimed, read-goes, makes-as, read-makes}
 use Rattle.wires.specs.Wires.{Wires, isMade}
 use Rattle.wires.specs.Inner.Reach.{wiresOf}
-use Rattle.bits.proofs.Laws.{table-length}
 use borrow.Author.Needs.{needs}
 use native.Mathlib.Omega.{arith}
 use denote.Ref.{now}
@@ -65,9 +64,7 @@ store-bits-requires : tie.Need-store-bits-requires
 store-bits-requires c κs = let a = c .before .before .before .before .before .before .before .before .before .before .before .before .before .before .before .before .before .before .before .before .before .args in
     let p = c .before .before .before .before .before .before .before .before .before .before .before .before .before .before .before .before .before .before .before .before .before .pre in
     let f = read-fine (now (a .bytes)) (a .h) (a .d) (a .array) (a .i) (p .1 .1 .0) in
-    let y = ranged (now (a .bytes)) (a .h) (a .d) (p .1 .1 .1) (f .0) in
-    let e = c .before .before .before .width-of .ensures in
-    (p .1 .0, (y .variable, omega (arith, y .few, e), omega (arith, y .few, e, table-length _ (c .before .before .before .before .input-bits .ensures))))
+    (p .1 .0, storable (now (a .bytes)) (a .h) (a .d) _ (p .1 .1 .1) (f .0) (c .before .before .before .width-of .ensures) _ (c .before .before .before .before .input-bits .ensures))
 
 same-length-4 : tie.Need-same-length-4
 same-length-4 c = search needs

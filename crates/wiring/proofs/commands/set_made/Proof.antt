@@ -1,9 +1,7 @@
 use Rattle.faults.proofs.Fine.{set-fine}
-use Rattle.wires.proofs.Ranges.{ranged}
+use Rattle.wires.proofs.Ranges.{ranged, storable}
 use Rattle.wiring.proofs.Commanding.{stored}
-use Rattle.bits.proofs.Laws.{table-length}
 use borrow.Author.Needs.{needs}
-use native.Mathlib.Omega.{arith}
 use denote.Ref.{now}
 use Rattle.wiring.proofs.commands.set_made.Statement.{statement}
 use Rattle.wiring.proofs.commands.set_made.Tie as tie
@@ -23,8 +21,7 @@ slice-aggregate-store-bits c = search needs
 store-bits-requires : tie.Need-store-bits-requires
 store-bits-requires c κs = let a = c .before .before .before .before .before .before .args in
     let p = c .before .before .before .before .before .before .pre in
-    let r = ranged (now (a .bytes)) (a .h) (a .d) (p .1 .1) (set-fine (now (a .bytes)) (a .h) (a .d) (a .c) (p .1 .0) .0) in
-    (p .0, (r .variable, omega (arith, r .few, c .before .before .width-of .ensures), omega (arith, r .few, c .before .before .width-of .ensures, table-length _ (c .before .before .before .const-bits .ensures))))
+    (p .0, storable (now (a .bytes)) (a .h) (a .d) _ (p .1 .1) (set-fine (now (a .bytes)) (a .h) (a .d) (a .c) (p .1 .0) .0) (c .before .before .width-of .ensures) _ (c .before .before .before .const-bits .ensures))
 
 same-length : tie.Need-same-length
 same-length c = search needs
