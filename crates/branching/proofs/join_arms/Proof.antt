@@ -18,15 +18,13 @@ opposite-requires c κs = search needs
 opposite-requires-2 : tie.Need-opposite-requires-2
 opposite-requires-2 c κs = search needs
 
-mul-arrival : tie.Need-mul-arrival
-mul-arrival c = let a = c .before .before .before .before .before .before .before .before .before .before .before .before .before .before .before .before .before .before .args in
-    let p = c .before .before .before .before .before .before .before .before .before .before .before .before .before .before .before .before .before .before .pre in
-    omega (arith, ready-after 2 (c .before .before .before .before .before .before .before .before .before .join-variables .ensures .0) (p .0) (omega (arith, join-few (now (a .bytes)) (a .h) (p .1 .1) (a .c) (now (a .lits)) (now (a .other)) (a .h .variables) (omega arith), p .1 .1 .few)) .next)
-
 add-arrival : tie.Need-add-arrival
 add-arrival c = let a = c .before .before .before .before .before .before .before .before .before .before .before .before .before .before .before .before .before .before .args in
     let p = c .before .before .before .before .before .before .before .before .before .before .before .before .before .before .before .before .before .before .pre in
     omega (arith, ready-after 2 (c .before .before .before .before .before .before .before .before .before .join-variables .ensures .0) (p .0) (omega (arith, join-few (now (a .bytes)) (a .h) (p .1 .1) (a .c) (now (a .lits)) (now (a .other)) (a .h .variables) (omega arith), p .1 .1 .few)) .next)
+
+mul-arrival : tie.Need-mul-arrival
+mul-arrival c = omega (arith, add-arrival c)
 
 and-gate-requires : tie.Need-and-gate-requires
 and-gate-requires c κs = let a = c .before .before .before .before .before .before .before .before .before .before .before .before .before .before .before .before .before .before .before .before .args in
