@@ -144,9 +144,10 @@ pub whole-text : (bs : List ℕ) (h : Header) (a : Arm) (k : Counts) → decode 
 whole-text bs h a k e = text bs h 0 0 (firstCommand h) _ a (length bs) k (decoded bs h a k e .stands) [] (over refl)
 
 module _ (bs ins : List ℕ) (at₀ n₀ at n : ℕ) (s : Scanning bs ins at₀ n₀ at n) (r : Command) (is : r ≡ commandAt bs at) (l : at < length bs) where
-  pub scan-room : (cs₀ : List Simple) → Text bs at₀ cs₀ → (at + sizeOf r ≤ length bs) × (0 < sizeOf r)
-  scan-room cs₀ t =
-      let x = s .goes cs₀ t in
+  -- in a routine the command there is whole
+  pub scan-room : (h : Header) → IsRoutine bs h → at₀ ≡ firstCommand h → (at + sizeOf r ≤ length bs) × (0 < sizeOf r)
+  scan-room h i e =
+      let x = s .goes (textOf (i .commands) ++ []) (rw e (whole-text bs h (i .commands) (i .counts) (i .decodes))) in
       (rw is (onward bs at (x .commands) l (x .text) .room), size-pos r)
 
   module _ (w : Reads) (by : w ≡ readBy r) where
@@ -204,7 +205,3 @@ scans bs ins h at₀ n₀ r e q f = record {
   tells = λ a k d.
       rw (q, append-nil) at (f (textOf a ++ []) (rw e (whole-text bs h a k d)));
 }
-
--- where a routine's commands begin, some text stands
-pub text-from : (bs : List ℕ) (h : Header) (i : IsRoutine bs h) (at : ℕ) → at ≡ firstCommand h → Text bs at (textOf (i .commands) ++ [])
-text-from bs h i at e = rw e (whole-text bs h (i .commands) (i .counts) (i .decodes))

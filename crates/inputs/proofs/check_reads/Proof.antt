@@ -4,7 +4,7 @@ use native.Mathlib.Omega.{arith}
 use lib.ListN.{length}
 use borrow.Author.Needs.{needs}
 use borrow.Author.Tests.{not-true, not-false}
-use Rattle.inputs.proofs.Lists.{Scanning, scan-start, text-from, scan-room, scan-past, scan-fits, scan-great, scan-over, scans}
+use Rattle.inputs.proofs.Lists.{Scanning, scan-start, scan-room, scan-past, scan-fits, scan-great, scan-over, scans}
 use Rattle.inputs.proofs.check_reads.Statement.{statement}
 use Rattle.inputs.proofs.check_reads.Tie as tie
 
@@ -38,25 +38,18 @@ size-of-requires c κs = search needs
 add-at : tie.Need-add-at Inv-loop μ-loop
 add-at c =
     let l = c .before .before .before .before .before .before in
-    let f = l .before .before in
-    let is = c .before .before .before .before .command-at .ensures in
-    let s = scan-room _ _ _ _ _ _ (l .loop .inv .1) _ is (omega arith) _ (text-from _ _ (f .before .before .before .pre) _ (f .first-command .ensures)) in
-    omega arith
+    omega (arith, scan-room _ _ _ _ _ _ (l .loop .inv .1) _ (c .before .before .before .before .command-at .ensures) (omega arith) _ (l .before .before .before .before .before .pre) (l .before .before .first-command .ensures))
 
 loop-less : tie.Need-loop-less Inv-loop μ-loop
 loop-less c =
     let l = c .before .before .before .before .before .before in
-    let f = l .before .before in
-    let is = c .before .before .before .before .command-at .ensures in
-    let s = scan-room _ _ _ _ _ _ (l .loop .inv .1) _ is (omega arith) _ (text-from _ _ (f .before .before .before .pre) _ (f .first-command .ensures)) in
-    omega arith
+    omega (arith, scan-room _ _ _ _ _ _ (l .loop .inv .1) _ (c .before .before .before .before .command-at .ensures) (omega arith) _ (l .before .before .before .before .before .pre) (l .before .before .first-command .ensures))
 
 loop-again : tie.Need-loop-again Inv-loop μ-loop
 loop-again c =
     let l = c .before .before .before .before .before .before in
-    let f = l .before .before in
     let is = c .before .before .before .before .command-at .ensures in
-    let s = scan-room _ _ _ _ _ _ (l .loop .inv .1) _ is (omega arith) _ (text-from _ _ (f .before .before .before .pre) _ (f .first-command .ensures)) in
+    let s = scan-room _ _ _ _ _ _ (l .loop .inv .1) _ is (omega arith) _ (l .before .before .before .before .before .pre) (l .before .before .first-command .ensures) in
     let g = scan-past _ _ _ _ _ _ (l .loop .inv .1) _ is (omega arith) _ (c .before .before .before .read-by .ensures) (c .before .enum-told .given .1) in
     (omega arith, rw (c .size-of .ensures) g, omega arith)
 
@@ -79,33 +72,21 @@ size-of-requires-2 c κs = search needs
 add-at-2 : tie.Need-add-at-2 Inv-loop μ-loop
 add-at-2 c =
     let l = c .before .before .before .before .before .before .before .before .before in
-    let f = l .before .before in
-    let is = c .before .before .before .before .before .before .before .command-at .ensures in
-    let s = scan-room _ _ _ _ _ _ (l .loop .inv .1) _ is (omega arith) _ (text-from _ _ (f .before .before .before .pre) _ (f .first-command .ensures)) in
-    omega arith
+    omega (arith, scan-room _ _ _ _ _ _ (l .loop .inv .1) _ (c .before .before .before .before .before .before .before .command-at .ensures) (omega arith) _ (l .before .before .before .before .before .pre) (l .before .before .first-command .ensures))
 
 add-n : tie.Need-add-n Inv-loop μ-loop
-add-n c =
-    let l = c .before .before .before .before .before .before .before .before .before in
-    let f = l .before .before in
-    let is = c .before .before .before .before .before .before .before .command-at .ensures in
-    let s = scan-room _ _ _ _ _ _ (l .loop .inv .1) _ is (omega arith) _ (text-from _ _ (f .before .before .before .pre) _ (f .first-command .ensures)) in
-    omega arith
+add-n c = omega arith
 
 loop-less-2 : tie.Need-loop-less-2 Inv-loop μ-loop
 loop-less-2 c =
     let l = c .before .before .before .before .before .before .before .before .before in
-    let f = l .before .before in
-    let is = c .before .before .before .before .before .before .before .command-at .ensures in
-    let s = scan-room _ _ _ _ _ _ (l .loop .inv .1) _ is (omega arith) _ (text-from _ _ (f .before .before .before .pre) _ (f .first-command .ensures)) in
-    omega arith
+    omega (arith, scan-room _ _ _ _ _ _ (l .loop .inv .1) _ (c .before .before .before .before .before .before .before .command-at .ensures) (omega arith) _ (l .before .before .before .before .before .pre) (l .before .before .first-command .ensures))
 
 loop-again-2 : tie.Need-loop-again-2 Inv-loop μ-loop
 loop-again-2 c =
     let l = c .before .before .before .before .before .before .before .before .before in
-    let f = l .before .before in
     let is = c .before .before .before .before .before .before .before .command-at .ensures in
-    let s = scan-room _ _ _ _ _ _ (l .loop .inv .1) _ is (omega arith) _ (text-from _ _ (f .before .before .before .pre) _ (f .first-command .ensures)) in
+    let s = scan-room _ _ _ _ _ _ (l .loop .inv .1) _ is (omega arith) _ (l .before .before .before .before .before .pre) (l .before .before .first-command .ensures) in
     let e = sym (c .before .before .fits2 .ensures) ∙ not-false _ (c .before .if1 .left) in
     let g = scan-fits _ _ _ _ _ _ (l .loop .inv .1) _ is (omega arith) _ (c .before .before .before .before .before .before .read-by .ensures) _ (c .before .before .before .before .v .given .1) e in
     (omega arith, rw (c .size-of2 .ensures) g, omega arith)
