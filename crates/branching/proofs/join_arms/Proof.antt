@@ -1,3 +1,4 @@
+use Rattle.netlist.specs.Inner.Emit.{Ready}
 use Rattle.netlist.proofs.Emitting.{ready-after, ready-weaken}
 use Rattle.branching.proofs.Branching.{join-few, arms-joined}
 use Rattle.wires.specs.Inner.Reach.{wiresOf}
@@ -18,18 +19,20 @@ opposite-requires c κs = search needs
 opposite-requires-2 : tie.Need-opposite-requires-2
 opposite-requires-2 c κs = search needs
 
-add-arrival : tie.Need-add-arrival
-add-arrival c = let a = c .before .before .before .before .before .before .before .before .before .before .before .before .before .before .before .before .before .before .args in
-    let p = c .before .before .before .before .before .before .before .before .before .before .before .before .before .before .before .before .before .before .pre in
-    omega (arith, ready-after 2 (c .before .before .before .before .before .before .before .before .before .join-variables .ensures .0) (p .0) (omega (arith, join-few (now (a .bytes)) (a .h) (p .1 .1) (a .c) (now (a .lits)) (now (a .other)) (a .h .variables) (omega arith), p .1 .1 .few)) .next)
+-- there is room for the gate of arrival
+ready : (c : tie.After-join-variables) → Ready (c .join-variables .result) 2
+ready c = let a = c .before .before .before .before .before .before .before .before .before .args in
+    let p = c .before .before .before .before .before .before .before .before .before .pre in
+    ready-after 2 (c .join-variables .ensures .0) (p .0) (omega (arith, join-few (now (a .bytes)) (a .h) (p .1 .1) (a .c) (now (a .lits)) (now (a .other)) (a .h .variables) (omega arith), p .1 .1 .few))
 
 mul-arrival : tie.Need-mul-arrival
-mul-arrival c = omega (arith, add-arrival c)
+mul-arrival c = omega (arith, ready (c .before .before .before .before .before .before .before .before .before) .next)
+
+add-arrival : tie.Need-add-arrival
+add-arrival c = omega (arith, ready (c .before .before .before .before .before .before .before .before .before) .next)
 
 and-gate-requires : tie.Need-and-gate-requires
-and-gate-requires c κs = let a = c .before .before .before .before .before .before .before .before .before .before .before .before .before .before .before .before .before .before .before .before .args in
-    let p = c .before .before .before .before .before .before .before .before .before .before .before .before .before .before .before .before .before .before .before .before .pre in
-    ready-weaken (omega arith) (ready-after 2 (c .before .before .before .before .before .before .before .before .before .before .before .join-variables .ensures .0) (p .0) (omega (arith, join-few (now (a .bytes)) (a .h) (p .1 .1) (a .c) (now (a .lits)) (now (a .other)) (a .h .variables) (omega arith), p .1 .1 .few)))
+and-gate-requires c κs = ready-weaken (omega arith) (ready (c .before .before .before .before .before .before .before .before .before .before .before))
 
 same-length : tie.Need-same-length
 same-length c = search needs

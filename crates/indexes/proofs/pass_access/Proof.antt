@@ -6,6 +6,7 @@ use denote.Ref.{now}
 use lib.ListN.{take, drop}
 use Rattle.bits.specs.Bits.{litAt}
 use Rattle.netlist.specs.Literal.{opp}
+use Rattle.netlist.specs.Inner.Emit.{Ready}
 use Rattle.netlist.proofs.Emitting.{ready-after, ready-weaken}
 use Rattle.bits.proofs.Parts.{part-width, part-length, part-top}
 use Rattle.indexes.proofs.Accessing.{access-made, access-lit, access-ready}
@@ -49,29 +50,24 @@ opposite-requires c κs = search needs
 opposite-requires-2 : tie.Need-opposite-requires-2
 opposite-requires-2 c κs = search needs
 
-add-lit : tie.Need-add-lit
-add-lit c = let a = c .before .before .before .before .before .before .before .before .before .before .before .before .before .before .before .before .args in
-    let p = c .before .before .before .before .before .before .before .before .before .before .before .before .before .before .before .before .pre in
-    let b = litAt (take (a .w) (drop (32 * a .i) (now (a .lits)))) in
+-- there is room for both gates
+ready : (c : tie.After-above) → Ready (c .above .result .net) 2
+ready c = let a = c .before .before .before .before .before .before .before .args in
+    let p = c .before .before .before .before .before .before .before .pre in
     let l = part-length (now (a .lits)) (a .i) (a .w) (p .1 .0) (p .1 .1 .0) (p .1 .1 .2) in
-    omega (arith, access-ready b (a .size) (a .w) (rw (part-width (a .i) (a .w), l) at (c .before .before .before .before .before .before .before .before .before .above .ensures .0)) (p .1 .1 .2) (p .0) .next)
+    access-ready (litAt (take (a .w) (drop (32 * a .i) (now (a .lits))))) (a .size) (a .w) (rw (part-width (a .i) (a .w), l) at (c .above .ensures .0)) (p .1 .1 .2) (p .0)
 
 mul-inside : tie.Need-mul-inside
-mul-inside c = omega (arith, add-lit c)
+mul-inside c = omega (arith, ready (c .before .before .before .before .before .before .before .before .before) .next)
+
+add-lit : tie.Need-add-lit
+add-lit c = omega (arith, ready (c .before .before .before .before .before .before .before .before .before) .next)
 
 and-gate-requires : tie.Need-and-gate-requires
-and-gate-requires c κs = let a = c .before .before .before .before .before .before .before .before .before .before .before .before .before .before .before .before .before .before .args in
-    let p = c .before .before .before .before .before .before .before .before .before .before .before .before .before .before .before .before .before .before .pre in
-    let b = litAt (take (a .w) (drop (32 * a .i) (now (a .lits)))) in
-    let l = part-length (now (a .lits)) (a .i) (a .w) (p .1 .0) (p .1 .1 .0) (p .1 .1 .2) in
-    ready-weaken (omega arith) (access-ready b (a .size) (a .w) (rw (part-width (a .i) (a .w), l) at (c .before .before .before .before .before .before .before .before .before .before .before .above .ensures .0)) (p .1 .1 .2) (p .0))
+and-gate-requires c κs = ready-weaken (omega arith) (ready (c .before .before .before .before .before .before .before .before .before .before .before))
 
 and-gate-requires-2 : tie.Need-and-gate-requires-2
-and-gate-requires-2 c κs = let a = c .before .before .before .before .before .before .before .before .before .before .before .before .before .before .before .before .before .before .before .before .before .before .before .before .before .args in
-    let p = c .before .before .before .before .before .before .before .before .before .before .before .before .before .before .before .before .before .before .before .before .before .before .before .before .before .pre in
-    let b = litAt (take (a .w) (drop (32 * a .i) (now (a .lits)))) in
-    let l = part-length (now (a .lits)) (a .i) (a .w) (p .1 .0) (p .1 .1 .0) (p .1 .1 .2) in
-    ready-after 1 (c .before .before .before .before .before .before .and-gate .ensures) (access-ready b (a .size) (a .w) (rw (part-width (a .i) (a .w), l) at (c .before .before .before .before .before .before .before .before .before .before .before .before .before .before .before .before .before .before .above .ensures .0)) (p .1 .1 .2) (p .0)) (omega arith)
+and-gate-requires-2 c κs = ready-after 1 (c .before .before .before .before .before .before .and-gate .ensures) (ready (c .before .before .before .before .before .before .before .before .before .before .before .before .before .before .before .before .before .before)) (omega arith)
 
 same-length : tie.Need-same-length
 same-length c = search needs
@@ -83,12 +79,13 @@ returns : tie.Need-returns
 returns c = let a = c .before .before .before .before .before .before .before .before .before .before .before .before .before .before .before .before .before .before .before .before .before .before .before .before .before .before .before .before .before .before .args in
     let p = c .before .before .before .before .before .before .before .before .before .before .before .before .before .before .before .before .before .before .before .before .before .before .before .before .before .before .before .before .before .before .pre in
     let b = litAt (take (a .w) (drop (32 * a .i) (now (a .lits)))) in
-    let l = part-length (now (a .lits)) (a .i) (a .w) (p .1 .0) (p .1 .1 .0) (p .1 .1 .2) in (
-      access-made b (a .size) (a .w) (rw (part-width (a .i) (a .w), l) at (c .before .before .before .before .before .before .before .before .before .before .before .before .before .before .before .before .before .before .before .before .before .before .before .above .ensures .0)) (a .arrival) _ _ _
+    let l = part-length (now (a .lits)) (a .i) (a .w) (p .1 .0) (p .1 .1 .0) (p .1 .1 .2) in
+    let m = rw (part-width (a .i) (a .w), l) at (c .before .before .before .before .before .before .before .before .before .before .before .before .before .before .before .before .before .before .before .before .before .before .before .above .ensures) in (
+      access-made b (a .size) (a .w) (m .0) (a .arrival) _ _ _
           (c .before .before .before .before .before .before .before .before .before .before .before .before .before .before .before .before .opposite .ensures ∙ ap opp (part-top (now (a .lits)) (a .i) (a .w) (p .1 .0) (p .1 .1 .0) (p .1 .1 .2) (p .1 .1 .1)))
-          (c .before .before .before .before .before .before .before .before .before .before .before .before .before .before .before .opposite2 .ensures ∙ ap opp (rw (part-width (a .i) (a .w), l) at (c .before .before .before .before .before .before .before .before .before .before .before .before .before .before .before .before .before .before .before .before .before .before .before .above .ensures .1)))
+          (c .before .before .before .before .before .before .before .before .before .before .before .before .before .before .before .opposite2 .ensures ∙ ap opp (m .1))
           refl (c .before .before .before .before .before .before .before .before .before .before .before .and-gate .ensures) (c .before .before .before .before .and-gate2 .ensures),
-      access-lit b (a .size) (a .w) (rw (part-width (a .i) (a .w), l) at (c .before .before .before .before .before .before .before .before .before .before .before .before .before .before .before .before .before .before .before .before .before .before .before .above .ensures .0)),
+      access-lit b (a .size) (a .w) (m .0),
     )
 
 pub pass-access-spec : {M : Type 1} → statement M
