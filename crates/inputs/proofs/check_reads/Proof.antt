@@ -1,9 +1,10 @@
 use mathlib.Core.Path.{refl, sym, _∙_}
-use Prim.Native.Nat.{_≤_, _-_, _+_}
+use Prim.Native.Nat.{_≤_, _<_, _-_, _+_}
 use native.Mathlib.Omega.{arith}
 use lib.ListN.{length}
 use borrow.Author.Needs.{needs}
 use borrow.Author.Tests.{not-true, not-false}
+use Rattle.command.specs.Command.{sizeOf}
 use Rattle.inputs.proofs.Lists.{Scanning, scan-start, scan-room, scan-past, scan-fits, scan-great, scan-over, scans}
 use Rattle.inputs.proofs.check_reads.Statement.{statement}
 use Rattle.inputs.proofs.check_reads.Tie as tie
@@ -35,21 +36,23 @@ enum-told c = search needs
 size-of-requires : tie.Need-size-of-requires Inv-loop μ-loop
 size-of-requires c κs = search needs
 
+-- the command at hand is whole
+room : (c : tie.After-command-at Inv-loop μ-loop) → (c .before .before .loop .at + sizeOf (c .command-at .result) ≤ length (c .before .before .before .before .before .before .before .args .bytes .now)) × (0 < sizeOf (c .command-at .result))
+room c =
+    let l = c .before .before in
+    scan-room _ _ _ _ _ _ (l .loop .inv .1) _ (c .command-at .ensures) (c .before .loop-test .taken) _ (l .before .before .before .before .before .pre) (l .before .before .first-command .ensures)
+
 add-at : tie.Need-add-at Inv-loop μ-loop
-add-at c =
-    let l = c .before .before .before .before .before .before in
-    omega (arith, scan-room _ _ _ _ _ _ (l .loop .inv .1) _ (c .before .before .before .before .command-at .ensures) (omega arith) _ (l .before .before .before .before .before .pre) (l .before .before .first-command .ensures))
+add-at c = omega (arith, room (c .before .before .before .before))
 
 loop-less : tie.Need-loop-less Inv-loop μ-loop
-loop-less c =
-    let l = c .before .before .before .before .before .before in
-    omega (arith, scan-room _ _ _ _ _ _ (l .loop .inv .1) _ (c .before .before .before .before .command-at .ensures) (omega arith) _ (l .before .before .before .before .before .pre) (l .before .before .first-command .ensures))
+loop-less c = omega (arith, room (c .before .before .before .before))
 
 loop-again : tie.Need-loop-again Inv-loop μ-loop
 loop-again c =
     let l = c .before .before .before .before .before .before in
     let is = c .before .before .before .before .command-at .ensures in
-    let s = scan-room _ _ _ _ _ _ (l .loop .inv .1) _ is (omega arith) _ (l .before .before .before .before .before .pre) (l .before .before .first-command .ensures) in
+    let s = room (c .before .before .before .before) in
     let g = scan-past _ _ _ _ _ _ (l .loop .inv .1) _ is (omega arith) _ (c .before .before .before .read-by .ensures) (c .before .enum-told .given .1) in
     (omega arith, rw (c .size-of .ensures) g, omega arith)
 
@@ -70,23 +73,19 @@ size-of-requires-2 : tie.Need-size-of-requires-2 Inv-loop μ-loop
 size-of-requires-2 c κs = search needs
 
 add-at-2 : tie.Need-add-at-2 Inv-loop μ-loop
-add-at-2 c =
-    let l = c .before .before .before .before .before .before .before .before .before in
-    omega (arith, scan-room _ _ _ _ _ _ (l .loop .inv .1) _ (c .before .before .before .before .before .before .before .command-at .ensures) (omega arith) _ (l .before .before .before .before .before .pre) (l .before .before .first-command .ensures))
+add-at-2 c = omega (arith, room (c .before .before .before .before .before .before .before))
 
 add-n : tie.Need-add-n Inv-loop μ-loop
 add-n c = omega arith
 
 loop-less-2 : tie.Need-loop-less-2 Inv-loop μ-loop
-loop-less-2 c =
-    let l = c .before .before .before .before .before .before .before .before .before in
-    omega (arith, scan-room _ _ _ _ _ _ (l .loop .inv .1) _ (c .before .before .before .before .before .before .before .command-at .ensures) (omega arith) _ (l .before .before .before .before .before .pre) (l .before .before .first-command .ensures))
+loop-less-2 c = omega (arith, room (c .before .before .before .before .before .before .before))
 
 loop-again-2 : tie.Need-loop-again-2 Inv-loop μ-loop
 loop-again-2 c =
     let l = c .before .before .before .before .before .before .before .before .before in
     let is = c .before .before .before .before .before .before .before .command-at .ensures in
-    let s = scan-room _ _ _ _ _ _ (l .loop .inv .1) _ is (omega arith) _ (l .before .before .before .before .before .pre) (l .before .before .first-command .ensures) in
+    let s = room (c .before .before .before .before .before .before .before) in
     let e = sym (c .before .before .fits2 .ensures) ∙ not-false _ (c .before .if1 .left) in
     let g = scan-fits _ _ _ _ _ _ (l .loop .inv .1) _ is (omega arith) _ (c .before .before .before .before .before .before .read-by .ensures) _ (c .before .before .before .before .v .given .1) e in
     (omega arith, rw (c .size-of2 .ensures) g, omega arith)

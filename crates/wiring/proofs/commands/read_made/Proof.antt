@@ -1,7 +1,8 @@
 use mathlib.Core.Path.{sym, ap, _∙_}
 use Rattle.faults.proofs.Fine.{read-fine}
+use Rattle.netlist.specs.Inner.Emit.{Ready}
 use Rattle.netlist.proofs.Emitting.{ready-after, ready-weaken}
-use Rattle.wires.proofs.Ranges.{ranged, storable}
+use Rattle.wires.proofs.Ranges.{ranged, ranged-as, storable}
 use Rattle.wiring.proofs.Commanding.{stored, access-few, read-claimed, read-goes, makes-as, read-makes}
 use Rattle.wires.specs.Wires.{Wires, isMade}
 use Rattle.wires.specs.Inner.Reach.{wiresOf}
@@ -36,12 +37,16 @@ returns c = let a = c .before .before .before .before .before .before .before .b
     makes-as (read-claimed (now (a .bytes)) (a .h) (a .t) (a .n .next) (a .array) (a .i) (a .k) (wiresOf (now (a .lits)) (a .s)) (a .d) (p .1 .1 .2)
     (ap (λ (z : Wires). isMade (z .claim)) (sym (m .wires)) ∙ sym (c .before .is-made .ensures) ∙ c .if1 .taken)) m
 
-input-bits-requires : tie.Need-input-bits-requires
-input-bits-requires c κs = let a = c .before .before .before .before .before .before .before .before .before .before .before .before .before .before .before .before .args in
-    let p = c .before .before .before .before .before .before .before .before .before .before .before .before .before .before .before .before .pre in
+-- there is room for the inputs
+ready : (c : tie.After-access-made) → Ready (c .access-made .result .net) 32
+ready c = let a = c .before .before .before .before .before .before .before .before .args in
+    let p = c .before .before .before .before .before .before .before .before .pre in
     let f = read-fine (now (a .bytes)) (a .h) (a .d) (a .array) (a .i) (p .1 .1 .0) in
     let x = ranged (now (a .bytes)) (a .h) (a .i) (p .1 .1 .1) (f .2) in
-    omega (arith, ready-after 32 (c .before .before .before .before .before .before .before .before .access-made .ensures .emitted) (p .0) (omega (arith, access-few (now (a .bytes)) (a .h) (a .t) (a .n .next) (a .array) (a .i) (a .k) (wiresOf (now (a .lits)) (a .s)) (x .few))) .next)
+    ready-after 32 (c .access-made .ensures .emitted) (p .0) (omega (arith, access-few (now (a .bytes)) (a .h) (a .t) (a .n .next) (a .array) (a .i) (a .k) (wiresOf (now (a .lits)) (a .s)) (x .few)))
+
+input-bits-requires : tie.Need-input-bits-requires
+input-bits-requires c κs = omega (arith, ready (c .before .before .before .before .before .before .before .before) .next)
 
 width-of-requires : tie.Need-width-of-requires
 width-of-requires c κs = search needs
@@ -53,9 +58,7 @@ take-inputs-requires : tie.Need-take-inputs-requires
 take-inputs-requires c κs = let a = c .before .before .before .before .before .before .before .before .before .before .before .before .before .before .before .before .before .before .args in
     let p = c .before .before .before .before .before .before .before .before .before .before .before .before .before .before .before .before .before .before .pre in
     let f = read-fine (now (a .bytes)) (a .h) (a .d) (a .array) (a .i) (p .1 .1 .0) in
-    let x = ranged (now (a .bytes)) (a .h) (a .i) (p .1 .1 .1) (f .2) in
-    let y = ranged (now (a .bytes)) (a .h) (a .d) (p .1 .1 .1) (f .0) in
-    ready-weaken (omega (arith, y .few, c .width-of .ensures)) (ready-after 32 (c .before .before .before .before .before .before .before .before .before .before .access-made .ensures .emitted) (p .0) (omega (arith, access-few (now (a .bytes)) (a .h) (a .t) (a .n .next) (a .array) (a .i) (a .k) (wiresOf (now (a .lits)) (a .s)) (x .few))))
+    ready-weaken (ranged-as (now (a .bytes)) (a .h) (a .d) _ (p .1 .1 .1) (f .0) (c .width-of .ensures) .2) (ready (c .before .before .before .before .before .before .before .before .before .before))
 
 slice-aggregate-store-bits : tie.Need-slice-aggregate-store-bits
 slice-aggregate-store-bits c = search needs
