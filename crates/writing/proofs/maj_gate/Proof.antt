@@ -1,5 +1,9 @@
+use mathlib.Core.List.{List}
+use Prim.Native.Nat.{ℕ}
 use native.Mathlib.Omega.{arith}
+use lib.ListN.{length}
 use borrow.Author.Needs.{needs}
+use Rattle.clauses.specs.Inner.Append.{Lent}
 use Rattle.clauses.proofs.Appending.{lent-kept, lent-within, written-starts-length, written-then, written-words-length}
 use Rattle.writing.proofs.maj_gate.Statement.{statement}
 use Rattle.netlist.specs.Node.{clausesOf, nodeClauses}
@@ -20,6 +24,25 @@ opposite-requires-2 c κs = search needs
 opposite-requires-3 : tie.Need-opposite-requires-3
 opposite-requires-3 c κs = search needs
 
+-- the buffers w and t still have the room that was lent at the start
+abbrev Room : tie.Start → (w t : List ℕ) → Type 0
+Room s w t = Lent (length w) (length t) (s .args .i) (s .args .k) 6
+
+room : (c : tie.After-write3) → Room (c .before .before .before .before .before .before .before .before) (c .write3 .last .0) (c .write3 .last .1 .0)
+room c = lent-kept (c .write3 .ensures) (c .before .before .before .before .before .before .before .before .pre .0)
+
+room-2 : (c : tie.After-write32) → Room (c .before .before .before .before .before .before .before .before .before .before .before .before .before .before .before) (c .write32 .last .0) (c .write32 .last .1 .0)
+room-2 c = lent-kept (c .write32 .ensures) (room (c .before .before .before .before .before .before .before))
+
+room-3 : (c : tie.After-write33) → Room (c .before .before .before .before .before .before .before .before .before .before .before .before .before .before .before .before .before .before .before .before .before .before) (c .write33 .last .0) (c .write33 .last .1 .0)
+room-3 c = lent-kept (c .write33 .ensures) (room-2 (c .before .before .before .before .before .before .before))
+
+room-4 : (c : tie.After-write34) → Room (c .before .before .before .before .before .before .before .before .before .before .before .before .before .before .before .before .before .before .before .before .before .before .before .before .before .before .before .before .before) (c .write34 .last .0) (c .write34 .last .1 .0)
+room-4 c = lent-kept (c .write34 .ensures) (room-3 (c .before .before .before .before .before .before .before))
+
+room-5 : (c : tie.After-write35) → Room (c .before .before .before .before .before .before .before .before .before .before .before .before .before .before .before .before .before .before .before .before .before .before .before .before .before .before .before .before .before .before .before .before .before .before .before .before) (c .write35 .last .0) (c .write35 .last .1 .0)
+room-5 c = lent-kept (c .write35 .ensures) (room-4 (c .before .before .before .before .before .before .before))
+
 write3-requires : tie.Need-write3-requires
 write3-requires c κs = search needs
 
@@ -39,52 +62,34 @@ add-write3-4 : tie.Need-add-write3-4
 add-write3-4 c = search needs
 
 write3-requires-3 : tie.Need-write3-requires-3
-write3-requires-3 c κs =
-    let c2 = c .before .before .before .before .before .before in
-    let c1 = c2 .before .before .before .before .before .before .before in
-    lent-kept (c2 .write32 .ensures) (lent-kept (c1 .write3 .ensures) (lent-within (c1 .before .before .before .before .before .before .before .before .pre .0) (omega arith) (omega arith)))
+write3-requires-3 c κs = lent-within (room-2 (c .before .before .before .before .before .before)) (omega arith) (omega arith)
 
 add-write3-5 : tie.Need-add-write3-5
-add-write3-5 c = omega (arith, c .before .before .before .before .before .before .before .before .before .before .before .before .before .before .before .before .before .before .before .before .before .before .before .before .before .before .before .before .pre .0 .word-count)
+add-write3-5 c = omega (arith, room-3 (c .before .before .before .before .before .before) .word-count)
 
 add-write3-6 : tie.Need-add-write3-6
-add-write3-6 c = omega (arith, c .before .before .before .before .before .before .before .before .before .before .before .before .before .before .before .before .before .before .before .before .before .before .before .before .before .before .before .before .pre .0 .count)
+add-write3-6 c = omega (arith, room-3 (c .before .before .before .before .before .before) .count)
 
 write3-requires-4 : tie.Need-write3-requires-4
-write3-requires-4 c κs =
-    let c3 = c .before .before .before .before .before .before in
-    let c2 = c3 .before .before .before .before .before .before .before in
-    let c1 = c2 .before .before .before .before .before .before .before in
-    lent-kept (c3 .write33 .ensures) (lent-kept (c2 .write32 .ensures) (lent-kept (c1 .write3 .ensures) (lent-within (c1 .before .before .before .before .before .before .before .before .pre .0) (omega arith) (omega arith))))
+write3-requires-4 c κs = lent-within (room-3 (c .before .before .before .before .before .before)) (omega arith) (omega arith)
 
 add-write3-7 : tie.Need-add-write3-7
-add-write3-7 c = omega (arith, c .before .before .before .before .before .before .before .before .before .before .before .before .before .before .before .before .before .before .before .before .before .before .before .before .before .before .before .before .before .before .before .before .before .before .before .pre .0 .word-count)
+add-write3-7 c = omega (arith, room-4 (c .before .before .before .before .before .before) .word-count)
 
 add-write3-8 : tie.Need-add-write3-8
-add-write3-8 c = omega (arith, c .before .before .before .before .before .before .before .before .before .before .before .before .before .before .before .before .before .before .before .before .before .before .before .before .before .before .before .before .before .before .before .before .before .before .before .pre .0 .count)
+add-write3-8 c = omega (arith, room-4 (c .before .before .before .before .before .before) .count)
 
 write3-requires-5 : tie.Need-write3-requires-5
-write3-requires-5 c κs =
-    let c4 = c .before .before .before .before .before .before in
-    let c3 = c4 .before .before .before .before .before .before .before in
-    let c2 = c3 .before .before .before .before .before .before .before in
-    let c1 = c2 .before .before .before .before .before .before .before in
-    lent-kept (c4 .write34 .ensures) (lent-kept (c3 .write33 .ensures) (lent-kept (c2 .write32 .ensures) (lent-kept (c1 .write3 .ensures) (lent-within (c1 .before .before .before .before .before .before .before .before .pre .0) (omega arith) (omega arith)))))
+write3-requires-5 c κs = lent-within (room-4 (c .before .before .before .before .before .before)) (omega arith) (omega arith)
 
 add-write3-9 : tie.Need-add-write3-9
-add-write3-9 c = omega (arith, c .before .before .before .before .before .before .before .before .before .before .before .before .before .before .before .before .before .before .before .before .before .before .before .before .before .before .before .before .before .before .before .before .before .before .before .before .before .before .before .before .before .before .pre .0 .word-count)
+add-write3-9 c = omega (arith, room-5 (c .before .before .before .before .before .before) .word-count)
 
 add-write3-10 : tie.Need-add-write3-10
-add-write3-10 c = omega (arith, c .before .before .before .before .before .before .before .before .before .before .before .before .before .before .before .before .before .before .before .before .before .before .before .before .before .before .before .before .before .before .before .before .before .before .before .before .before .before .before .before .before .before .pre .0 .count)
+add-write3-10 c = omega (arith, room-5 (c .before .before .before .before .before .before) .count)
 
 write3-requires-6 : tie.Need-write3-requires-6
-write3-requires-6 c κs =
-    let c5 = c .before .before .before .before .before .before in
-    let c4 = c5 .before .before .before .before .before .before .before in
-    let c3 = c4 .before .before .before .before .before .before .before in
-    let c2 = c3 .before .before .before .before .before .before .before in
-    let c1 = c2 .before .before .before .before .before .before .before in
-    lent-kept (c5 .write35 .ensures) (lent-kept (c4 .write34 .ensures) (lent-kept (c3 .write33 .ensures) (lent-kept (c2 .write32 .ensures) (lent-kept (c1 .write3 .ensures) (lent-within (c1 .before .before .before .before .before .before .before .before .pre .0) (omega arith) (omega arith))))))
+write3-requires-6 c κs = lent-within (room-5 (c .before .before .before .before .before .before)) (omega arith) (omega arith)
 
 returns : tie.Need-returns
 unfolding clausesOf nodeClauses
