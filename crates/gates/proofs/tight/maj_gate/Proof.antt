@@ -1,6 +1,7 @@
 use mathlib.Core.Path.{refl}
 use native.Mathlib.Omega.{arith}
 use borrow.Author.Needs.{needs}
+use Rattle.clauses.specs.Inner.Append.{Room}
 use Rattle.clauses.proofs.Appending.{appended-then, room-after, room-weaken}
 use Rattle.netlist.proofs.Emitting.{emitted-starts-length, emitted-words-length, ready-room}
 use Rattle.gates.proofs.tight.maj_gate.Statement.{statement}
@@ -34,29 +35,24 @@ append3-requires-2 c κs = search needs
 append3-requires-3 : tie.Need-append3-requires-3
 append3-requires-3 c κs = search needs
 
-append3-requires-4 : tie.Need-append3-requires-4
-append3-requires-4 c κs =
-    let c3 = c .before .before .before .before .before .before in
-    let c2 = c3 .before .before .before .before .before .before .before in
+-- after a clause there is room for those that follow
+room-3 : (c : tie.After-append33) → Room (c .append33 .result) 3
+room-3 c =
+    let c2 = c .before .before .before .before .before .before .before in
     let c1 = c2 .before .before .before .before .before .before .before in
-    room-weaken (omega arith) (room-after 3 (c3 .append33 .ensures) (omega arith) (room-after 4 (c2 .append32 .ensures) (omega arith) (room-after 5 (c1 .append3 .ensures) (omega arith) (ready-room (c1 .before .before .before .before .before .before .before .before .before .before .before .pre)))))
+    room-after 3 (c .append33 .ensures) (omega arith) (room-after 4 (c2 .append32 .ensures) (omega arith) (room-after 5 (c1 .append3 .ensures) (omega arith) (ready-room (c1 .before .before .before .before .before .before .before .before .before .before .before .pre))))
+
+room-4 : (c : tie.After-append34) → Room (c .append34 .result) 2
+room-4 c = room-after 2 (c .append34 .ensures) (omega arith) (room-3 (c .before .before .before .before .before .before .before))
+
+append3-requires-4 : tie.Need-append3-requires-4
+append3-requires-4 c κs = room-weaken (omega arith) (room-3 (c .before .before .before .before .before .before))
 
 append3-requires-5 : tie.Need-append3-requires-5
-append3-requires-5 c κs =
-    let c4 = c .before .before .before .before .before .before in
-    let c3 = c4 .before .before .before .before .before .before .before in
-    let c2 = c3 .before .before .before .before .before .before .before in
-    let c1 = c2 .before .before .before .before .before .before .before in
-    room-weaken (omega arith) (room-after 2 (c4 .append34 .ensures) (omega arith) (room-after 3 (c3 .append33 .ensures) (omega arith) (room-after 4 (c2 .append32 .ensures) (omega arith) (room-after 5 (c1 .append3 .ensures) (omega arith) (ready-room (c1 .before .before .before .before .before .before .before .before .before .before .before .pre))))))
+append3-requires-5 c κs = room-weaken (omega arith) (room-4 (c .before .before .before .before .before .before))
 
 append3-requires-6 : tie.Need-append3-requires-6
-append3-requires-6 c κs =
-    let c5 = c .before .before .before .before .before .before in
-    let c4 = c5 .before .before .before .before .before .before .before in
-    let c3 = c4 .before .before .before .before .before .before .before in
-    let c2 = c3 .before .before .before .before .before .before .before in
-    let c1 = c2 .before .before .before .before .before .before .before in
-    room-weaken (omega arith) (room-after 1 (c5 .append35 .ensures) (omega arith) (room-after 2 (c4 .append34 .ensures) (omega arith) (room-after 3 (c3 .append33 .ensures) (omega arith) (room-after 4 (c2 .append32 .ensures) (omega arith) (room-after 5 (c1 .append3 .ensures) (omega arith) (ready-room (c1 .before .before .before .before .before .before .before .before .before .before .before .pre)))))))
+append3-requires-6 c κs = room-after 1 (c .before .before .before .before .before .before .append35 .ensures) (omega arith) (room-4 (c .before .before .before .before .before .before .before .before .before .before .before .before .before))
 
 returns : tie.Need-returns
 unfolding clausesOf nodeClauses
