@@ -2,7 +2,7 @@
 use Prim.Native.Nat.{ℕ}
 use mathlib.Core.Path.{_≡_, refl, sym, ap, subst, _∙_}
 use mathlib.Core.List.{List}
-use mathlib.Core.Bool.{true}
+use mathlib.Core.Bool.{Bool, true, false}
 use Rattle.step.specs.Phase.{going, inLiterals, conflicted}
 use Rattle.step.specs.Inner.Stop.{refusedBy}
 use Rattle.progress.specs.State.{Next, stop}
@@ -19,14 +19,15 @@ stopped w s m p k v t n q e = record {
   kept = subst (Kept w s m p w s m k) (sym q) (refl, refl, refl);
 }
 
+-- only the empty clause ends the going on
+goes-by : (p : Phase → Bool) → p Phase.Empty ≡ false → (f : Phase) → p f ≡ true → going f ≡ true
+goes-by p q Phase.Literals e = refl
+goes-by p q Phase.Hints e = refl
+goes-by p q Phase.Conflict e = refl
+goes-by p q Phase.Empty e = sym q ∙ e
+
 pub literals-go : (f : Phase) → inLiterals f ≡ true → going f ≡ true
-literals-go Phase.Literals e = refl
-literals-go Phase.Hints e = refl
-literals-go Phase.Conflict e = refl
-literals-go Phase.Empty e = e
+literals-go = goes-by inLiterals refl
 
 pub conflict-goes : (f : Phase) → conflicted f ≡ true → going f ≡ true
-conflict-goes Phase.Literals e = refl
-conflict-goes Phase.Hints e = refl
-conflict-goes Phase.Conflict e = refl
-conflict-goes Phase.Empty e = e
+conflict-goes = goes-by conflicted refl
