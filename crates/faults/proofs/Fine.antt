@@ -9,7 +9,8 @@ use lib.ListN.{length}
 use lib.Dec.{ltb, leb, eqb, lit<}
 use borrow.Author.Tests.{ltb-true, leb-true, eqb-true}
 use Rattle.slices.specs.Bytes.{entry, half}
-use Rattle.header.specs.Header.{between, within, widthOk, sizeOk, firstBad, need, headerOf, width}
+use Rattle.header.specs.Header.{between, within, widthOk, sizeOk, firstBad, headerOf, width}
+use Rattle.header.proofs.Held.{headerIn, held}
 use Rattle.faults.specs.Step.{inRange, widthsFit}
 use Rattle.faults.specs.Inner.Sound.{Sound, SoundIf, Fine}
 use Rattle.faults.proofs.Tests.{both}
@@ -78,12 +79,7 @@ module _ (ok : ℕ → Bool) (step : ℕ) (l : 0 < step) where
   all-ok (suc n) at e zero lt = simp (mul-zero, add-zero) (first-ok n at (ok at) refl e .0)
   all-ok (suc n) at e (suc i) lt = rw (mul-suc, add-comm (step * i) step, ← add-assoc at step (step * i)) (all-ok n (at + step) (first-ok n at (ok at) refl e .1) i (omega arith))
 
--- no wrong place: the test held
-needed : (b : Bool) (place : ℕ) (go : Head) (h : Header) → need b place go ≡ Head.Whole h → (b ≡ true) × (go ≡ Head.Whole h)
-needed true place go h e = (refl, e)
-needed false place go h e = let z : _≡_ {A = ℕ} 0 1 = cc in absurd (omega arith)
-
-in-bounds : (bs : List ℕ) (i lo hi : ℕ) → within bs i lo hi ≡ true → (i < length bs) × (lo ≤ entry bs i) × (entry bs i ≤ hi)
+pub in-bounds : (bs : List ℕ) (i lo hi : ℕ) → within bs i lo hi ≡ true → (i < length bs) × (lo ≤ entry bs i) × (entry bs i ≤ hi)
 unfolding within
 in-bounds bs i lo hi e =
     let p = both (ltb i (length bs)) (between lo hi (entry bs i)) e in
@@ -112,29 +108,18 @@ module _ (bs : List ℕ) (v : ℕ) where
   header-room zero l e = omega arith
   header-room (suc n) l e = omega (arith, sizes-fine (suc n) e n (omega arith) .0)
 
-whole-injective : {h h₁ : Header} → Head.Whole h ≡ Head.Whole h₁ → h ≡ h₁
-whole-injective e = cc
-
 pub fine : (bs : List ℕ) (h : Header) → headerOf bs ≡ Head.Whole h → Fine bs h
-unfolding headerOf
 fine bs h e =
-    let v = entry bs 1 in
-    let n = entry bs (v + 3) in
-    let w = firstBad (widthOk bs) 1 v 2 in
-    let z = firstBad (sizeOk bs) 2 n (v + 4) in
-    let t₀ = needed (within bs 0 1 1) 0 _ h e in
-    let t₁ = needed (within bs 1 1 32) 1 _ h (t₀ .1) in
-    let t₂ = needed (eqb w (v + 2)) w _ h (t₁ .1) in
-    let t₃ = needed (within bs (v + 2) 0 v) (v + 2) _ h (t₂ .1) in
-    let t₄ = needed (within bs (v + 3) 0 16) (v + 3) _ h (t₃ .1) in
-    let t₅ = needed (eqb z (v + 4 + 2 * n)) z _ h (t₄ .1) in
-    subst (Fine bs) (whole-injective (t₅ .1)) (record {
+    let v = headerIn bs .variables in
+    let n = headerIn bs .arrays in
+    let t = held bs h e in
+    subst (Fine bs) (t .is) (record {
       variables = refl;
-      some = in-bounds bs 1 1 32 (t₁ .0) .1;
-      few = in-bounds bs 1 1 32 (t₁ .0) .2;
-      parameters = in-bounds bs (v + 2) 0 v (t₃ .0) .2;
-      arrays = in-bounds bs (v + 3) 0 16 (t₄ .0) .2;
-      whole = header-room bs v n (in-bounds bs (v + 3) 0 16 (t₄ .0) .0) (eqb-true _ _ (t₅ .0));
-      widths = widths-fine bs v (eqb-true _ _ (t₂ .0));
-      sizes = λ i l. let p = sizes-fine bs v n (eqb-true _ _ (t₅ .0)) i l in (p .1, p .2);
+      some = in-bounds bs 1 1 32 (t .variables) .1;
+      few = in-bounds bs 1 1 32 (t .variables) .2;
+      parameters = in-bounds bs (v + 2) 0 v (t .parameters) .2;
+      arrays = in-bounds bs (v + 3) 0 16 (t .arrays) .2;
+      whole = header-room bs v n (in-bounds bs (v + 3) 0 16 (t .arrays) .0) (t .sizes);
+      widths = widths-fine bs v (t .widths);
+      sizes = λ i l. let p = sizes-fine bs v n (t .sizes) i l in (p .1, p .2);
     })

@@ -1,15 +1,15 @@
 -- A header and its bytes. Assumes nothing.
 use mathlib.Core.Path.{_≡_, refl, sym, ap, subst, _∙_}
 use mathlib.Core.List.{List, [], _∷_, _++_}
-use mathlib.Core.Bool.{Bool, true, false}
+use mathlib.Core.Bool.{true}
 use Prim.Native.Nat.{ℕ, zero, suc, _+_, _*_, _≤_, _<_}
 use native.Mathlib.Omega.{arith}
 use lib.ListN.{length, getD, take, drop, length-drop, take-append-drop, List·getD-append}
 use lib.Seq.{drop-at, drop-drop, take-at, getD-take, getD-drop, length-take-le}
-use lib.Dec.{ltb, leb, eqb, lit≤}
-use borrow.Author.Tests.{lt-ltb, le-leb, eq-eqb, leb-true}
+use lib.Dec.{eqb, lit≤}
+use borrow.Author.Tests.{lt-ltb, le-leb, eq-eqb}
 use Rattle.slices.specs.Bytes.{entry, half}
-use Rattle.header.specs.Header.{between, within, widthOk, sizeOk, firstBad, need, headerOf, firstCommand}
+use Rattle.header.specs.Header.{between, within, widthOk, sizeOk, firstBad, headerOf, firstCommand}
 use Rattle.faults.specs.Inner.Sound.{Fine}
 use Rattle.rendering.specs.Syntax.{Text, Syntax}
 use Rattle.rendering.specs.Render.{two, sizeBytes}
@@ -17,23 +17,12 @@ use Rattle.rendering.specs.WellFormed.{Between}
 use Rattle.rendering.specs.Exactly.{AreBytes, headOf}
 use Rattle.header.specs.declared.Header.{Header}
 use Rattle.header.specs.declared.Head.{Head}
-use Rattle.faults.proofs.Tests.{both}
+use Rattle.faults.proofs.Fine.{in-bounds}
+use Rattle.header.proofs.Held.{held}
 use Rattle.rendering.proofs.Bytes.{here, next, entry-at, entry-here, bytes-left, further, two-digits, two-value}
 use Rattle.rendering.proofs.Operands.{Same}
 
 -- ---- from the bytes to the syntax
-
--- no wrong place: the test held
-needed : (b : Bool) (place : ℕ) (go : Head) (h : Header) → need b place go ≡ Head.Whole h → (b ≡ true) × (go ≡ Head.Whole h)
-needed true place go h e = (refl, e)
-needed false place go h e = let z : _≡_ {A = ℕ} 0 1 = cc in absurd (omega arith)
-
-first-byte : (bs : List ℕ) → within bs 0 1 1 ≡ true → entry bs 0 ≡ 1
-unfolding within
-first-byte bs e =
-    let p = both (ltb 0 (length bs)) (between 1 1 (entry bs 0)) e in
-    let q = both (leb 1 (entry bs 0)) (leb (entry bs 0) 1) (p .1) in
-    omega (arith, leb-true 1 (entry bs 0) (q .0), leb-true (entry bs 0) 1 (q .1))
 
 -- where the bytes have what a header tells
 record Told (bs : List ℕ) (h : Header) : Type 0 where
@@ -43,22 +32,9 @@ record Told (bs : List ℕ) (h : Header) : Type 0 where
   pub arrays : entry bs (h .variables + 3) ≡ h .arrays
 
 told : (bs : List ℕ) (h : Header) → headerOf bs ≡ Head.Whole h → Told bs h
-unfolding headerOf
 told bs h e =
-    let v = entry bs 1 in
-    let n = entry bs (v + 3) in
-    let w = firstBad (widthOk bs) 1 v 2 in
-    let z = firstBad (sizeOk bs) 2 n (v + 4) in
-    let t₀ = needed (within bs 0 1 1) 0 _ h e in
-    let t₁ = needed (within bs 1 1 32) 1 _ h (t₀ .1) in
-    let t₂ = needed (eqb w (v + 2)) w _ h (t₁ .1) in
-    let t₃ = needed (within bs (v + 2) 0 v) (v + 2) _ h (t₂ .1) in
-    let t₄ = needed (within bs (v + 3) 0 16) (v + 3) _ h (t₃ .1) in
-    let t₅ = needed (eqb z (v + 4 + 2 * n)) z _ h (t₄ .1) in
-    subst (Told bs) (injective (t₅ .1)) (record { first = first-byte bs (t₀ .0); variables = refl; parameters = refl; arrays = refl })
-  where
-    injective : {h h₁ : Header} → Head.Whole h ≡ Head.Whole h₁ → h ≡ h₁
-    injective e = cc
+    let t = held bs h e in
+    subst (Told bs) (t .is) (record { first = omega (arith, in-bounds bs 0 1 1 (t .first) .1, in-bounds bs 0 1 1 (t .first) .2); variables = refl; parameters = refl; arrays = refl })
 
 -- n sizes, from `at` on
 unfoldable pub sizesFrom : List ℕ → ℕ → ℕ → List ℕ
