@@ -29,7 +29,7 @@ use Rattle.routine.proofs.Counting.{same-ifs}
 use Rattle.rendering.proofs.Bytes.{further}
 use Rattle.rendering.proofs.Commands.{Mark, simple-here, if-here, close-here}
 use Rattle.rendering.proofs.Operands.{Same, good-kind, sound, sound-if}
-use Rattle.rendering.proofs.Written.{reads-after, writes-after}
+use Rattle.rendering.proofs.Written.{counts-after}
 
 -- else and end of if
 else-mark : Mark 12
@@ -163,8 +163,7 @@ module _ (bs : List ℕ) (h : Header) (p : Syntax) (same : Same bs h p) (narrow 
   unfolding text textBytes depth ifs reads writes
   reads-simple c rest go n close at k tail m e g d i a =
       let b : drop at bs ≡ simpleBytes c ++ (textBytes rest ++ (close ∷ tail)) = rw append-assoc at e in
-      let o = reads-after c k in
-      let u = writes-after c k in
+      let u = counts-after c k in
       let s = same-ifs c k in
       let r = go n close (at + sizeOfSimple c) (after c k) tail m (further bs at _ b (sizeOfSimple c) ∙ after-simple c _) (g .1) d (omega arith) (omega arith) in
       record {

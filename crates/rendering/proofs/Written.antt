@@ -29,19 +29,12 @@ use Rattle.rendering.proofs.Commands.{simple-there, if-there, close-the
 use Rattle.rendering.proofs.Operands.{Same, good, good-if}
 
 -- a command adds to the counts
-pub reads-after : (c : Simple) (k : Counts) → after c k .reads ≡ k .reads + oneRead c
-reads-after (Simple.Set d x) k = omega arith
-reads-after (Simple.Convert op d s) k = omega arith
-reads-after (Simple.Compute op d s t) k = omega arith
-reads-after (Simple.Read d a i) k = omega arith
-reads-after (Simple.Write a i s) k = omega arith
-
-pub writes-after : (c : Simple) (k : Counts) → after c k .writes ≡ k .writes + oneWrite c
-writes-after (Simple.Set d x) k = omega arith
-writes-after (Simple.Convert op d s) k = omega arith
-writes-after (Simple.Compute op d s t) k = omega arith
-writes-after (Simple.Read d a i) k = omega arith
-writes-after (Simple.Write a i s) k = omega arith
+pub counts-after : (c : Simple) (k : Counts) → (after c k .reads ≡ k .reads + oneRead c) × (after c k .writes ≡ k .writes + oneWrite c)
+counts-after (Simple.Set d x) k = (omega arith, omega arith)
+counts-after (Simple.Convert op d s) k = (omega arith, omega arith)
+counts-after (Simple.Compute op d s t) k = (omega arith, omega arith)
+counts-after (Simple.Read d a i) k = (omega arith, omega arith)
+counts-after (Simple.Write a i s) k = (omega arith, omega arith)
 
 -- the arm a of p stands from `at` to `end` inside n ifs
 pub record Written (bs : List ℕ) (p : Syntax) (n close at : ℕ) (k : Counts) (a : Arm) (end : ℕ) (k₁ : Counts) : Type 0 where
@@ -89,7 +82,7 @@ module _ (bs : List ℕ) (f : AreBytes bs) (h : Header) (p : Syntax) (same : Sam
         good = (good bs h p same c (b .1) (v .sound), w .good);
         deep = w .deep;
         counted = w .counted ∙ rw (same-ifs c k);
-        accessed = omega (arith, w .accessed, reads-after c k, writes-after c k);
+        accessed = omega (arith, w .accessed, counts-after c k);
       }
 
   on-fork : (n close at : ℕ) (k : Counts) (c : Condition) (first second rest : Arm) (end : ℕ) (k₁ : Counts)
