@@ -12,6 +12,7 @@ use Rattle.routine.specs.Routine.{Arm}
 use Rattle.routine.specs.Inner.Stands.{Stands, SomeArm, SomeIf}
 use Rattle.routine.specs.Inner.Passes.{Passes}
 use Rattle.routine.specs.declared.Passed.{Passed}
+use Rattle.routine.proofs.Standing.{second-at}
 use Rattle.machine.specs.State.{take, holds}
 use Rattle.machine.specs.declared.State.{State}
 use Rattle.run.specs.Run as run
@@ -23,27 +24,13 @@ use Rattle.course.specs.declared.Course.{Course}
 use Rattle.course.specs.declared.Way.{Way}
 use Rattle.course.proofs.Following.{going, either}
 
-module _ (bs : List ℕ) (h : Header) (depth at : ℕ) (k : Counts) (i : SomeIf bs h depth at (oneIf k)) where
-  second-at : (next : ℕ) (k₁ : Counts) → next ≡ i .else → k₁ ≡ i .between → SomeArm bs h (depth + 1) 13 next k₁
-  second-at next k₁ p q = rw (p, q) (record { arm = i .second; end = i .end; after = i .after; stands = i .stands-second })
-
-  module _ (inside : Counts) (e : inside ≡ oneIf k) where
-    pub first-arm : SomeArm bs h (depth + 1) 12 (at + 4) inside
-    first-arm = rw e (record { arm = i .first; end = i .else; after = i .between; stands = i .stands-first })
-
-    -- after the first arm was followed
-    pub second-after : (ins ds : List ℕ) (access : ℕ) (s : State) (v r : Way) → v ≡ wayAt (at + 4) inside s Course.Passing
-        → FollowsArm bs ins ds access h (depth + 1) 12 v r → isDone r ≡ false → SomeArm bs h (depth + 1) 13 (r .next) (r .counts)
-    second-after ins ds access s v r q x f =
-        let y = (rw q at x) .tells (i .first) (i .else) (i .between) (rw e (i .stands-first)) in
-        second-at (r .next) (r .counts) (y .next f) (y .counts f)
-
-    -- after the first arm was passed
-    pub passed-to : (p : Passed) → Passes bs h (depth + 1) 12 (at + 4) inside p → (p .next ≡ i .else) × (p .counts ≡ i .between)
-    passed-to p x = x .tells (i .first) (i .else) (i .between) (rw e (i .stands-first))
-
-    pub second-passed : (p : Passed) → Passes bs h (depth + 1) 12 (at + 4) inside p → SomeArm bs h (depth + 1) 13 (p .next) (p .counts)
-    second-passed p x = let y = passed-to p x in second-at (p .next) (p .counts) (y .0) (y .1)
+-- after the first arm was followed
+pub second-after : (bs : List ℕ) (h : Header) (depth at : ℕ) (k : Counts) → SomeIf bs h depth at (oneIf k) → (inside : Counts) → inside ≡ oneIf k
+    → (ins ds : List ℕ) (access : ℕ) (s : State) (v r : Way) → v ≡ wayAt (at + 4) inside s Course.Passing
+    → FollowsArm bs ins ds access h (depth + 1) 12 v r → isDone r ≡ false → SomeArm bs h (depth + 1) 13 (r .next) (r .counts)
+second-after bs h depth at k i inside e ins ds access s v r q x f =
+    let y = (rw q at x) .tells (i .first) (i .else) (i .between) (rw e (i .stands-first)) in
+    second-at bs h depth at k i (r .next) (r .counts) (y .next f) (y .counts f)
 
 -- the bytes left fall from an if to its first arm
 pub first-falls : (n at next else t : ℕ) → 2 * (n - at) ≡ t → at + 4 < else → else ≤ n → next ≡ at + 4 → 2 * (n - next) + 1 < t

@@ -15,6 +15,8 @@ use Rattle.command.specs.declared.Simple.{Simple}
 use Rattle.command.specs.declared.Command.{Command}
 use Rattle.routine.specs.Routine.{Arm}
 use Rattle.routine.specs.Inner.Stands.{SomeArm, SomeIf}
+use Rattle.routine.specs.Inner.Passes.{Passes}
+use Rattle.routine.specs.declared.Passed.{Passed}
 use Rattle.routine.proofs.Views.{onward, by-missing, by-close, by-simple, by-if, ByIf}
 
 -- the two arms of an if
@@ -69,3 +71,20 @@ if-ends {bs} {h} {depth} {at = at} {k} v =
     let p = onward bs h (depth + 1) 12 (at + 4) (oneIf k) (v .first) (f .else) (f .k₂) (f .stands-first) in
     let q = onward bs h (depth + 1) 13 (f .else) (f .k₂) (v .second) (f .next) (f .k₃) (f .stands-second) in
     (omega arith, omega arith)
+
+-- ---- the arms of an if, each as an arm that stands
+
+module _ (bs : List ℕ) (h : Header) (depth at : ℕ) (k : Counts) (i : SomeIf bs h depth at (oneIf k)) where
+  pub second-at : (next : ℕ) (k₁ : Counts) → next ≡ i .else → k₁ ≡ i .between → SomeArm bs h (depth + 1) 13 next k₁
+  second-at next k₁ p q = rw (p, q) (record { arm = i .second; end = i .end; after = i .after; stands = i .stands-second })
+
+  module _ (inside : Counts) (e : inside ≡ oneIf k) where
+    pub first-arm : SomeArm bs h (depth + 1) 12 (at + 4) inside
+    first-arm = rw e (record { arm = i .first; end = i .else; after = i .between; stands = i .stands-first })
+
+    -- after the first arm was passed
+    pub passed-to : (p : Passed) → Passes bs h (depth + 1) 12 (at + 4) inside p → (p .next ≡ i .else) × (p .counts ≡ i .between)
+    passed-to p x = x .tells (i .first) (i .else) (i .between) (rw e (i .stands-first))
+
+    pub second-passed : (p : Passed) → Passes bs h (depth + 1) 12 (at + 4) inside p → SomeArm bs h (depth + 1) 13 (p .next) (p .counts)
+    second-passed p x = let y = passed-to p x in second-at (p .next) (p .counts) (y .0) (y .1)

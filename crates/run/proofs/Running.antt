@@ -2,7 +2,7 @@
 use mathlib.Core.Path.{_≡_, refl, ap, subst, _∙_}
 use mathlib.Core.List.{List, [], _∷_}
 use mathlib.Core.Bool.{Bool, true, false, cond}
-use Prim.Native.Nat.{ℕ, _+_, _-_, _≤_, _<_}
+use Prim.Native.Nat.{ℕ, _+_, _≤_, _<_}
 use native.Mathlib.Omega.{arith}
 use lib.ListN.{length}
 use Rattle.command.specs.Command.{sizeOfSimple, commandAt}
@@ -23,7 +23,7 @@ use Rattle.routine.proofs.Views.{by-if}
 use Rattle.routine.proofs.Accepted.{decoded}
 use Rattle.faults.proofs.Fine.{fine}
 use Rattle.routine.proofs.Walking as walking
-use Rattle.routine.proofs.Standing.{if-ends}
+use Rattle.routine.proofs.Standing.{if-ends, second-at}
 use Rattle.machine.specs.State.{start, take, holds, carry}
 use Rattle.run.specs.Run as run
 use Rattle.run.specs.Run.{Event, Stretch, unlessStopped, andThen, eventsAt, runArm, runOf}
@@ -176,27 +176,13 @@ if-room bs h depth close at k w r is c q ins s t x e =
 
 -- ---- the arms of an if
 
-module _ (bs : List ℕ) (h : Header) (depth at : ℕ) (k : Counts) (i : SomeIf bs h depth at (oneIf k)) where
-  pub first-arm : (inside : Counts) → inside ≡ oneIf k → SomeArm bs h (depth + 1) 12 (at + 4) inside
-  first-arm inside e = rw e (record { arm = i .first; end = i .else; after = i .between; stands = i .stands-first })
-
-  second-at : (next : ℕ) (k₁ : Counts) → next ≡ i .else → k₁ ≡ i .between → SomeArm bs h (depth + 1) 13 next k₁
-  second-at next k₁ p q = rw (p, q) (record { arm = i .second; end = i .end; after = i .after; stands = i .stands-second })
-
-  module _ (inside : Counts) (e : inside ≡ oneIf k) where
-    -- after the first arm was run
-    pub second-after : (ins : List ℕ) (s : State) (r : Reached) → RunsArm bs ins h (depth + 1) 12 (reachedAt (at + 4) inside s) r → isOver (r .state .outcome) ≡ false
-        → SomeArm bs h (depth + 1) 13 (r .next) (r .counts)
-    second-after ins s r x f =
-        let y = x .tells (i .first) (i .else) (i .between) (rw e (i .stands-first)) in
-        second-at (r .next) (r .counts) (y .next f) (y .counts f)
-
-    -- after the first arm was passed
-    pub passed-to : (p : Passed) → Passes bs h (depth + 1) 12 (at + 4) inside p → (p .next ≡ i .else) × (p .counts ≡ i .between)
-    passed-to p x = x .tells (i .first) (i .else) (i .between) (rw e (i .stands-first))
-
-    pub second-passed : (p : Passed) → Passes bs h (depth + 1) 12 (at + 4) inside p → SomeArm bs h (depth + 1) 13 (p .next) (p .counts)
-    second-passed p x = let y = passed-to p x in second-at (p .next) (p .counts) (y .0) (y .1)
+-- after the first arm was run
+pub second-after : (bs : List ℕ) (h : Header) (depth at : ℕ) (k : Counts) → SomeIf bs h depth at (oneIf k) → (inside : Counts) → inside ≡ oneIf k
+    → (ins : List ℕ) (s : State) (r : Reached) → RunsArm bs ins h (depth + 1) 12 (reachedAt (at + 4) inside s) r → isOver (r .state .outcome) ≡ false
+    → SomeArm bs h (depth + 1) 13 (r .next) (r .counts)
+second-after bs h depth at k i inside e ins s r x f =
+    let y = x .tells (i .first) (i .else) (i .between) (rw e (i .stands-first)) in
+    second-at bs h depth at k i (r .next) (r .counts) (y .next f) (y .counts f)
 
 module _ (bs ins : List ℕ) (h : Header) (depth at : ℕ) (c : Condition) (k : Counts) (s : State) (b : Bool) (is : b ≡ holds bs c s)
     (inside : Counts) (e : inside ≡ oneIf k) (s₁ : State) where

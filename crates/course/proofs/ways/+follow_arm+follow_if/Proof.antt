@@ -5,10 +5,10 @@ use native.Mathlib.Omega.{arith}
 use lib.ListN.{length}
 use borrow.Author.Needs.{needs}
 use borrow.Author.Tests.{not-true, not-false}
-use Rattle.routine.proofs.Standing.{not-missing, close-room, simple-known, some-if, else-room, second-falls}
+use Rattle.routine.proofs.Standing.{not-missing, close-room, simple-known, some-if, else-room, second-falls, first-arm, passed-to, second-passed}
 use Rattle.course.specs.declared.Way.{Way}
 use Rattle.course.proofs.Following.{Going, begun, here, closed, stepped, step-done, forked, fork-done, if-room, step-room}
-use Rattle.course.proofs.Parting.{first-falls, first-arm, second-after, passed-to, second-passed, astray, first-done, first-passed, second-followed}
+use Rattle.course.proofs.Parting.{first-falls, second-after, astray, first-done, first-passed, second-followed}
 use borrow.Fn.Kinds.{In}
 use borrow.Fn.PlainCycle.{Measures, is, falls, and}
 use Rattle.course.proofs.ways.follow_arm.Reads as follow-arm

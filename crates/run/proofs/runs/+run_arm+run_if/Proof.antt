@@ -13,8 +13,8 @@ use Rattle.faults.proofs.steps.counts_after.Reads as counts-after-reads
 use Rattle.faults.proofs.steps.counts_after_if.Reads as counts-after-if-reads
 use Rattle.routine.proofs.walks.pass_arm.Reads as pass-arm-reads
 use Rattle.run.specs.declared.Reached.{Reached}
-use Rattle.routine.proofs.Standing.{not-missing, close-room, simple-known, some-if, else-room, second-falls}
-use Rattle.run.proofs.Running.{ran-arm-from, ran-if-from, Going, begun, here, closed, stepped, stopped, forked, fork-stopped, if-room, first-arm, second-after, passed-to, second-passed, first-stopped, first-passed, second-ran}
+use Rattle.routine.proofs.Standing.{not-missing, close-room, simple-known, some-if, else-room, second-falls, first-arm, passed-to, second-passed}
+use Rattle.run.proofs.Running.{ran-arm-from, ran-if-from, Going, begun, here, closed, stepped, stopped, forked, fork-stopped, if-room, second-after, first-stopped, first-passed, second-ran}
 use Rattle.run.proofs.runs.run_arm.Reads as run-arm
 use Rattle.run.proofs.runs.run_arm.Kinds as run-arm-kinds
 use Rattle.run.proofs.runs.+run_arm+run_if.Lts-run_arm as run-arm-lts
