@@ -6,7 +6,7 @@ use Rattle.bits.proofs.Laws.{table-length}
 use Rattle.netlist.specs.Inner.Emit.{Emitted}
 use Rattle.netlist.proofs.Emitting.{emitted-none, ready-after, ready-weaken}
 use Rattle.meaning.specs.Translation.{parameterNodes, parameterLits}
-use Rattle.wires.proofs.Ranges.{ranged}
+use Rattle.wires.proofs.Ranges.{ranged, storable}
 use Rattle.walking.proofs.Beginning.{some-few, parameter-made, parameter-wired, parameters-length}
 use borrow.Author.Needs.{needs}
 use native.Mathlib.Omega.{arith}
@@ -53,9 +53,7 @@ store-bits-requires : tie.Need-store-bits-requires Inv-loop μ-loop
 store-bits-requires c κs = let a = c .before .before .before .before .before .before .before .before .before .before .args in
     let p = c .before .before .before .before .before .before .before .before .before .before .pre in
     let l = c .before .before .before .before .before .before .before .loop in
-    let r = ranged (now (a .bytes)) (a .h) (l .p) (p .1 .1) (omega (arith, p .1 .1 .parameters)) in
-    let e = c .before .before .before .before .width-of .ensures in
-    (ap length (l .inv .2) ∙ parameters-length (now (a .bytes)) (l .p), (r .variable, omega (arith, r .few, e), omega (arith, r .few, e, table-length _ (c .before .before .before .input-bits .ensures))))
+    (ap length (l .inv .2) ∙ parameters-length (now (a .bytes)) (l .p), storable (now (a .bytes)) (a .h) (l .p) _ (p .1 .1) (omega (arith, p .1 .1 .parameters)) (c .before .before .before .before .width-of .ensures) _ (c .before .before .before .input-bits .ensures))
 
 add-p : tie.Need-add-p Inv-loop μ-loop
 add-p c = let f = c .before .before .before .before .before .before .before .before .before .before .before .before .before .pre .1 .1 in omega (arith, f .few, f .parameters)
