@@ -5,6 +5,7 @@ use Prim.Native.Nat.{ℕ, _+_, _-_, _≤_}
 use native.Mathlib.Nat.{zero-add}
 use native.Mathlib.Omega.{arith}
 use lib.ListN.{length}
+use lib.Seq.{length-sets}
 use Rattle.header.specs.Header.{firstCommand}
 use Rattle.routine.specs.Routine.{Arm}
 use Rattle.routine.specs.Decode.{routine, decode, IsRoutine}
@@ -13,14 +14,14 @@ use Rattle.header.specs.declared.Header.{Header}
 use Rattle.faults.specs.declared.Counts.{Counts}
 use Rattle.routine.proofs.Accepted.{decoded}
 use Rattle.faults.proofs.Fine.{fine}
-use Rattle.clauses.specs.Clause.{Clause}
+use Rattle.clauses.specs.Clause.{Clause, flatten, offsets}
 use Rattle.clauses.specs.Inner.Append.{Appended, Room}
 use Rattle.clauses.specs.declared.Store.{Store}
-use Rattle.clauses.proofs.Appending.{appended-then, appended-words-length, appended-starts-length, room-weaken}
+use Rattle.clauses.proofs.Appending.{appended-then, room-weaken}
 use Rattle.netlist.specs.Node.{one, nodeClauses, clausesOf}
 use Rattle.netlist.specs.Inner.Emit.{Emitted, Ready}
 use Rattle.netlist.specs.declared.Net.{Net}
-use Rattle.netlist.proofs.Emitting.{emitted-then, emitted-words-length, emitted-starts-length, ready-after, ready-room}
+use Rattle.netlist.proofs.Emitting.{emitted-then, ready-after, ready-room}
 use Rattle.wiring.specs.Command.{Stretch, after}
 use Rattle.meaning.specs.Walk.{armOf}
 use Rattle.meaning.specs.Translation.{parameterNodes, start, whole, lastClauses, clausesOfAll, sizeOf}
@@ -43,15 +44,11 @@ first = (2 ∷ []) ∷ []
 pub fine-here : (bs : List ℕ) (h : Header) → IsRoutine bs h → Fine bs h
 fine-here bs h i = fine bs h (decoded bs h (i .commands) (i .counts) (i .decodes) .header)
 
-module _ (bs : List ℕ) (h : Header) (t : Target) (ds : List ℕ) (i : IsRoutine bs h) (w u w₁ u₁ : List ℕ) (s₁ : Store) (p : Appended w u noStore first w₁ u₁ s₁) where
-  -- the state after variable 1
-  abbrev One : Net
-  One = record { store = s₁; next = 2 }
-
+module _ {bs : List ℕ} {h : Header} (i : IsRoutine bs h) {w u w₁ u₁ : List ℕ} {s₁ : Store} (p : Appended w u noStore first w₁ u₁ s₁) where
   pub begin-ready : Ready (record { store = s₁; next = 2 }) 2048
   begin-ready = record { words = omega (arith, p .used); clauses = omega (arith, p .count); next = omega arith }
 
-  module _ (n : Net) (l : List ℕ) (b : Begun bs (record { store = s₁; next = 2 }) (h .parameters) l n) where
+  module _ {n : Net} {l : List ℕ} (b : Begun bs (record { store = s₁; next = 2 }) (h .parameters) l n) where
     -- where the commands begin
     from : n .next ≡ 2 + length (parameterNodes bs (h .parameters))
     from = b .emitted w₁ u₁ .next
@@ -62,66 +59,71 @@ module _ (bs : List ℕ) (h : Header) (t : Target) (ds : List ℕ) (i : IsRoutin
     few-here : n .next ≤ 2048
     few-here = omega (arith, from, parameters-few bs h (fine-here bs h i))
 
-    room-for : (at : ℕ) (a : Arm) (k : Counts) → decode bs ≡ routine h a k → Roomy n (armOf bs h t ds a (n .next) (wiresAt l (beginning at n)))
-    room-for at a k d = roomy bs t ds h a k d n (ready-here .words) (ready-here .clauses) few-here (n .next) (wiresAt l (beginning at n))
+    room-for : (t : Target) (ds : List ℕ) (at : ℕ) (a : Arm) (k : Counts) → decode bs ≡ routine h a k → Roomy n (armOf bs h t ds a (n .next) (wiresAt l (beginning at n)))
+    room-for t ds at a k d = roomy bs t ds h a k d n (ready-here .words) (ready-here .clauses) few-here (n .next) (wiresAt l (beginning at n))
 
-    pub whole-roomy : (at : ℕ) → at ≡ firstCommand h → ArmRoom bs h t ds 0 0 l (beginning at n)
-    whole-roomy at e = record {
-      some = record { arm = i .commands; end = length bs; after = i .counts; stands = rw e (decoded bs h (i .commands) (i .counts) (i .decodes) .stands) };
-      room = room-for at (i .commands) (i .counts) (i .decodes);
-      places = ap length (b .lits) ∙ parameters-length bs (h .parameters);
-    }
+    module _ {t : Target} {ds : List ℕ} where
+      pub whole-roomy : {at : ℕ} → at ≡ firstCommand h → ArmRoom bs h t ds 0 0 l (beginning at n)
+      whole-roomy {at} e = record {
+        some = record { arm = i .commands; end = length bs; after = i .counts; stands = rw e (decoded bs h (i .commands) (i .counts) (i .decodes) .stands) };
+        room = room-for t ds at (i .commands) (i .counts) (i .decodes);
+        places = ap length (b .lits) ∙ parameters-length bs (h .parameters);
+      }
 
-    module _ (w₂ u₂ l₂ : List ℕ) (at : ℕ) (e : at ≡ firstCommand h) (r : Walk) (x : ArmMade bs h t ds 0 0 w₁ u₁ l (beginning at n) w₂ u₂ l₂ r) where
-      arrives : (a : Arm) (k : Counts) → decode bs ≡ routine h a k → Arrives w₁ u₁ n (armOf bs h t ds a (n .next) (wiresAt l (beginning at n))) (length bs) k w₂ u₂ l₂ r
-      arrives a k d = x .tells a (length bs) k (rw e (decoded bs h a k d .stands))
+      module _ {w₂ u₂ l₂ : List ℕ} {at : ℕ} (e : at ≡ firstCommand h) {r : Walk} (x : ArmMade bs h t ds 0 0 w₁ u₁ l (beginning at n) w₂ u₂ l₂ r) where
+        arrives : (a : Arm) (k : Counts) → decode bs ≡ routine h a k → Arrives w₁ u₁ n (armOf bs h t ds a (n .next) (wiresAt l (beginning at n))) (length bs) k w₂ u₂ l₂ r
+        arrives a k d = x .tells a (length bs) k (rw e (decoded bs h a k d .stands))
 
-      -- the buffers stay as long as they were
-      pub arm-words : length w₂ ≡ length w
-      arm-words = emitted-words-length (arrives (i .commands) (i .counts) (i .decodes) .emitted) ∙ appended-words-length p
+        pub claim-room : Room (r .net .store) 2
+        claim-room =
+            let q = arrives (i .commands) (i .counts) (i .decodes) in
+            room-weaken (omega arith) (ready-room {k = 0} (ready-after 1 (q .emitted) (room-for t ds at (i .commands) (i .counts) (i .decodes)) (omega arith)))
 
-      pub arm-starts : length u₂ ≡ length u
-      arm-starts = emitted-starts-length (arrives (i .commands) (i .counts) (i .decodes) .emitted) ∙ appended-starts-length p
+        pub some-variables : 2 ≤ r .net .next
+        some-variables = let q = arrives (i .commands) (i .counts) (i .decodes) in omega (arith, q .emitted .next, from)
 
-      pub claim-room : Room (r .net .store) 2
-      claim-room =
-          let q = arrives (i .commands) (i .counts) (i .decodes) in
-          room-weaken (omega arith) (ready-room {k = 0} (ready-after 1 (q .emitted) (room-for at (i .commands) (i .counts) (i .decodes)) (omega arith)))
+        module _ {w₃ u₃ : List ℕ} {all : Store} (c : Appended w₂ u₂ (r .net .store) (lastClauses (r .reach .claim)) w₃ u₃ all) where
+          module _ (a : Arm) (k : Counts) (d : decode bs ≡ routine h a k) where
+            X : Stretch
+            X = whole bs t ds h a
 
-      pub some-variables : 2 ≤ r .net .next
-      some-variables = let q = arrives (i .commands) (i .counts) (i .decodes) in omega (arith, q .emitted .next, from)
+            Y : Stretch
+            Y = armOf bs h t ds a (2 + length (parameterNodes bs (h .parameters))) (start bs (h .parameters))
 
-      module _ (w₃ u₃ : List ℕ) (all : Store) (c : Appended w₂ u₂ (r .net .store) (lastClauses (r .reach .claim)) w₃ u₃ all) where
-        module _ (a : Arm) (k : Counts) (d : decode bs ≡ routine h a k) where
-          X : Stretch
-          X = whole bs t ds h a
+            arm-is : armOf bs h t ds a (n .next) (wiresAt l (beginning at n)) ≡ Y
+            unfolding Y start
+            arm-is = λ j. armOf bs h t ds a (from j) (record { lits = b .lits j; arrival = 2; claim = Claim.Open })
 
-          Y : Stretch
-          Y = armOf bs h t ds a (2 + length (parameterNodes bs (h .parameters))) (start bs (h .parameters))
+            arm-there : Arrives w₁ u₁ n Y (length bs) k w₂ u₂ l₂ r
+            arm-there = subst (λ (z : Stretch). Arrives w₁ u₁ n z (length bs) k w₂ u₂ l₂ r) arm-is (arrives a k d)
 
-          arm-is : armOf bs h t ds a (n .next) (wiresAt l (beginning at n)) ≡ Y
-          unfolding Y start
-          arm-is = λ j. armOf bs h t ds a (from j) (record { lits = b .lits j; arrival = 2; claim = Claim.Open })
+            rest-made : Emitted w₁ u₁ (record { store = s₁; next = 2 }) (parameterNodes bs (h .parameters) ++ Y .nodes) w₂ u₂ (r .net)
+            rest-made = emitted-then (b .emitted w₁ u₁) (arm-there .emitted)
 
-          arm-there : Arrives w₁ u₁ n Y (length bs) k w₂ u₂ l₂ r
-          arm-there = subst (λ (z : Stretch). Arrives w₁ u₁ n z (length bs) k w₂ u₂ l₂ r) arm-is (arrives a k d)
+            all-made : Appended w u noStore (clausesOfAll X) w₃ u₃ all
+            unfolding clausesOfAll clausesOf nodeClauses whole X Y
+            all-made =
+                subst (λ (cs : List Clause). Appended w u noStore ((clausesOf 1 (one ∷ (parameterNodes bs (h .parameters) ++ Y .nodes))) ++ cs) w₃ u₃ all)
+                (ap lastClauses (arm-there .claim))
+                (appended-then (appended-then p (rest-made .store)) c)
 
-          rest-made : Emitted w₁ u₁ (record { store = s₁; next = 2 }) (parameterNodes bs (h .parameters) ++ Y .nodes) w₂ u₂ (r .net)
-          rest-made = emitted-then (b .emitted w₁ u₁) (arm-there .emitted)
+            size-is : _≡_ {A = Size} (record { clauses = all .clauses; words = all .words; variables = r .net .next - 1 }) (sizeOf X)
+            unfolding whole X Y
+            size-is =
+                let v : r .net .next - 1 ≡ length (whole bs t ds h a .nodes) = omega (arith, rest-made .next) in
+                λ j. record { clauses = (all-made .count ∙ zero-add _) j; words = (all-made .used ∙ zero-add _) j; variables = v j }
 
-          all-made : Appended w u noStore (clausesOfAll X) w₃ u₃ all
-          unfolding clausesOfAll clausesOf nodeClauses whole X Y
-          all-made =
-              subst (λ (cs : List Clause). Appended w u noStore ((clausesOf 1 (one ∷ (parameterNodes bs (h .parameters) ++ Y .nodes))) ++ cs) w₃ u₃ all)
-              (ap lastClauses (arm-there .claim))
-              (appended-then (appended-then p (rest-made .store)) c)
+          pub whole-made : WholeMade bs h t ds w u w₃ u₃ (record { clauses = all .clauses; words = all .words; variables = r .net .next - 1 })
+          unfolding X
+          whole-made = record { tells = λ a k d. (size-is a k d, all-made a k d .words, all-made a k d .starts) }
 
-          size-is : _≡_ {A = Size} (record { clauses = all .clauses; words = all .words; variables = r .net .next - 1 }) (sizeOf X)
-          unfolding whole X Y
-          size-is =
-              let v : r .net .next - 1 ≡ length (whole bs t ds h a .nodes) = omega (arith, rest-made .next) in
-              λ j. record { clauses = (all-made .count ∙ zero-add _) j; words = (all-made .used ∙ zero-add _) j; variables = v j }
+-- the buffers stay as long as they were
+module _ {bs : List ℕ} {h : Header} (i : IsRoutine bs h) {t : Target} {ds w u w₁ u₁ : List ℕ} {r : Size} (x : WholeMade bs h t ds w u w₁ u₁ r) where
+  abbrev clauses : List Clause
+  clauses = clausesOfAll (whole bs t ds h (i .commands))
 
-        pub whole-made : WholeMade bs h t ds w u w₃ u₃ (record { clauses = all .clauses; words = all .words; variables = r .net .next - 1 })
-        unfolding X
-        whole-made = record { tells = λ a k d. (size-is a k d, all-made a k d .words, all-made a k d .starts) }
+  pub made-words : length w₁ ≡ length w
+  made-words = ap length (x .tells (i .commands) (i .counts) (i .decodes) .1) ∙ length-sets w 0 (flatten clauses)
+
+  pub made-starts : length u₁ ≡ length u
+  made-starts = ap length (x .tells (i .commands) (i .counts) (i .decodes) .2) ∙ length-sets u 0 (offsets 0 clauses)
