@@ -5,3 +5,4 @@ pub mod Emitting
 pub mod Truth
 pub mod Model
 pub mod Formed
+pub mod Within
