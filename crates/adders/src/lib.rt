@@ -28,9 +28,9 @@ fn write_place(
     requires { ⌜ g + 3 ≤ 2 ^ 26 ⌝ }
     ensures { λ _. ⌜ Written (now (words .entry)) (now (starts .entry)) i k (clausesOf g (fullAdder g a b c)) (now (words .exit)) (now (starts .exit)) ⌝ }
 {
-    writing::xor_gate(words, starts, i, k, g, a, b);
-    writing::xor_gate(words, starts, i + 16, k + 4, g + 1, 2 * g, c);
-    writing::maj_gate(words, starts, i + 32, k + 8, g + 2, a, b, c);
+    roomy::xor_gate(words, starts, i, k, g, a, b);
+    roomy::xor_gate(words, starts, i + 16, k + 4, g + 1, 2 * g, c);
+    roomy::maj_gate(words, starts, i + 32, k + 8, g + 2, a, b, c);
 }
 
 // Writes a sum for which there is room.

@@ -35,7 +35,7 @@ fn write_row(
     let mut g = first;
     let mut j = 0;
     while j < m {
-        writing::and_gate(words, starts, i, k, g, s[j], t);
+        roomy::and_gate(words, starts, i, k, g, s[j], t);
         i += 10;
         k += 3;
         g += 1;

@@ -1,6 +1,4 @@
 // Gates as clauses. A gate takes the next variable and appends its clauses; what it makes is the literal twice that variable.
-mod tight;
-
 use clauses::counts;
 use clauses::fits;
 use netlist::Net;
@@ -16,7 +14,7 @@ pub fn and_gate(words: &mut [u32], starts: &mut [u32], n: Net, a: u32, b: u32) -
 {
     let s = n.store;
     if fits(words.len(), starts.len(), s, 3) {
-        writing::and_gate(words, starts, s.words, s.clauses, n.next, a, b);
+        roomy::and_gate(words, starts, s.words, s.clauses, n.next, a, b);
         return counted(n, 1, 3, 10);
     }
     if counts(words.len(), starts.len()) {
@@ -32,7 +30,7 @@ pub fn xor_gate(words: &mut [u32], starts: &mut [u32], n: Net, a: u32, b: u32) -
 {
     let s = n.store;
     if fits(words.len(), starts.len(), s, 4) {
-        writing::xor_gate(words, starts, s.words, s.clauses, n.next, a, b);
+        roomy::xor_gate(words, starts, s.words, s.clauses, n.next, a, b);
         return counted(n, 1, 4, 16);
     }
     if counts(words.len(), starts.len()) {
@@ -48,7 +46,7 @@ pub fn maj_gate(words: &mut [u32], starts: &mut [u32], n: Net, a: u32, b: u32, c
 {
     let s = n.store;
     if fits(words.len(), starts.len(), s, 6) {
-        writing::maj_gate(words, starts, s.words, s.clauses, n.next, a, b, c);
+        roomy::maj_gate(words, starts, s.words, s.clauses, n.next, a, b, c);
         return counted(n, 1, 6, 24);
     }
     if counts(words.len(), starts.len()) {
@@ -64,7 +62,7 @@ pub fn mux_gate(words: &mut [u32], starts: &mut [u32], n: Net, c: u32, a: u32, b
 {
     let s = n.store;
     if fits(words.len(), starts.len(), s, 4) {
-        writing::mux_gate(words, starts, s.words, s.clauses, n.next, c, a, b);
+        roomy::mux_gate(words, starts, s.words, s.clauses, n.next, c, a, b);
         return counted(n, 1, 4, 16);
     }
     if counts(words.len(), starts.len()) {

@@ -1,9 +1,9 @@
 use mathlib.Core.Path.{refl}
 use borrow.Author.Needs.{needs}
 use Rattle.clauses.proofs.Appending.{appended-then}
-use Rattle.gates.proofs.tight.and_gate.Statement.{statement}
+use Rattle.tight.proofs.and_gate.Statement.{statement}
 use Rattle.netlist.specs.Node.{clausesOf, nodeClauses}
-use Rattle.gates.proofs.tight.and_gate.Tie as tie
+use Rattle.tight.proofs.and_gate.Tie as tie
 
 add-next : tie.Need-add-next
 add-next c = search needs

@@ -4,9 +4,9 @@ use borrow.Author.Needs.{needs}
 use Rattle.clauses.specs.Inner.Append.{Room}
 use Rattle.clauses.proofs.Appending.{appended-then, room-after, room-weaken}
 use Rattle.netlist.proofs.Emitting.{emitted-starts-length, emitted-words-length, ready-room}
-use Rattle.gates.proofs.tight.maj_gate.Statement.{statement}
+use Rattle.tight.proofs.maj_gate.Statement.{statement}
 use Rattle.netlist.specs.Node.{clausesOf, nodeClauses}
-use Rattle.gates.proofs.tight.maj_gate.Tie as tie
+use Rattle.tight.proofs.maj_gate.Tie as tie
 
 add-next : tie.Need-add-next
 add-next c = search needs

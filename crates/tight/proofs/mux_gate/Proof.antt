@@ -3,9 +3,9 @@ use native.Mathlib.Omega.{arith}
 use borrow.Author.Needs.{needs}
 use Rattle.clauses.proofs.Appending.{appended-then, room-after, room-weaken}
 use Rattle.netlist.proofs.Emitting.{ready-room}
-use Rattle.gates.proofs.tight.xor_gate.Statement.{statement}
+use Rattle.tight.proofs.mux_gate.Statement.{statement}
 use Rattle.netlist.specs.Node.{clausesOf, nodeClauses}
-use Rattle.gates.proofs.tight.xor_gate.Tie as tie
+use Rattle.tight.proofs.mux_gate.Tie as tie
 
 add-next : tie.Need-add-next
 add-next c = search needs
@@ -22,6 +22,9 @@ opposite-requires c κs = search needs
 opposite-requires-2 : tie.Need-opposite-requires-2
 opposite-requires-2 c κs = search needs
 
+opposite-requires-3 : tie.Need-opposite-requires-3
+opposite-requires-3 c κs = search needs
+
 append3-requires : tie.Need-append3-requires
 append3-requires c κs = search needs
 
@@ -36,7 +39,7 @@ append3-requires-4 c κs =
     let c3 = c .before .before .before .before .before .before in
     let c2 = c3 .before .before .before .before .before .before .before in
     let c1 = c2 .before .before .before .before .before .before .before in
-    room-weaken (omega arith) (room-after 3 (c3 .append33 .ensures) (omega arith) (room-after 4 (c2 .append32 .ensures) (omega arith) (room-after 5 (c1 .append3 .ensures) (omega arith) (ready-room (c1 .before .before .before .before .before .before .before .before .before .before .pre)))))
+    room-weaken (omega arith) (room-after 3 (c3 .append33 .ensures) (omega arith) (room-after 4 (c2 .append32 .ensures) (omega arith) (room-after 5 (c1 .append3 .ensures) (omega arith) (ready-room (c1 .before .before .before .before .before .before .before .before .before .before .before .pre)))))
 
 returns : tie.Need-returns
 unfolding clausesOf nodeClauses
@@ -47,7 +50,7 @@ returns c =
     let c1 = c2 .before .before .before .before .before .before .before in
     let o = c1 .before .before .before .before in
     record {
-      store = rw (← o .before .opposite .ensures, ← o .opposite2 .ensures)
+      store = rw (← o .before .before .opposite .ensures, ← o .before .opposite2 .ensures, ← o .opposite3 .ensures)
           (appended-then (appended-then (appended-then (c1 .append3 .ensures) (c2 .append32 .ensures)) (c3 .append33 .ensures)) (c4 .append34 .ensures));
       next = refl;
     }
@@ -58,8 +61,8 @@ same-length c = search needs
 same-length-2 : tie.Need-same-length-2
 same-length-2 c = search needs
 
-pub xor-gate-spec : {M : Type 1} → statement M
-xor-gate-spec =
+pub mux-gate-spec : {M : Type 1} → statement M
+mux-gate-spec =
     tie.close
     (tie.spec
     add-next
@@ -67,6 +70,7 @@ xor-gate-spec =
     add-m
     opposite-requires
     opposite-requires-2
+    opposite-requires-3
     append3-requires
     append3-requires-2
     append3-requires-3

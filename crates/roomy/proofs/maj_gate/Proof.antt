@@ -5,9 +5,9 @@ use lib.ListN.{length}
 use borrow.Author.Needs.{needs}
 use Rattle.clauses.specs.Inner.Append.{Lent}
 use Rattle.clauses.proofs.Appending.{lent-kept, lent-within, written-starts-length, written-then, written-words-length}
-use Rattle.writing.proofs.maj_gate.Statement.{statement}
+use Rattle.roomy.proofs.maj_gate.Statement.{statement}
 use Rattle.netlist.specs.Node.{clausesOf, nodeClauses}
-use Rattle.writing.proofs.maj_gate.Tie as tie
+use Rattle.roomy.proofs.maj_gate.Tie as tie
 
 mul-p : tie.Need-mul-p
 mul-p c = search needs
