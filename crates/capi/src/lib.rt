@@ -6,7 +6,7 @@ use replies::fill_prove;
 use replies::fill_run;
 use replies::fill_translate;
 ghost use mathlib.Core.List.{[], _∷_};
-ghost use Rattle.capi.specs.Reply.{Leaves, checkLeaves, runLeaves, translateLeaves, proveLeaves, judgeLeaves, Finds, alikeLeaves};
+ghost use Rattle.interface.specs.Left.{Leaves, checkLeaves, runLeaves, translateLeaves, proveLeaves, judgeLeaves, Finds, alikeLeaves};
 
 // Checks a routine.
 #[no_mangle]

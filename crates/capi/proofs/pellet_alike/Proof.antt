@@ -1,6 +1,6 @@
-use Rattle.capi.proofs.Replies.{short, alike-leaves}
+use Rattle.interface.proofs.Leaving.{short, alike-leaves}
 use borrow.Author.Tests.{lt-ltb, le-ltb}
-use Rattle.capi.specs.Reply.{alikeLeaves}
+use Rattle.interface.specs.Left.{alikeLeaves}
 use borrow.Author.Needs.{needs}
 use Rattle.capi.proofs.pellet_alike.Statement.{statement}
 use Rattle.capi.proofs.pellet_alike.Tie as tie

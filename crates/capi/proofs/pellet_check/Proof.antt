@@ -1,6 +1,6 @@
-use Rattle.capi.proofs.Replies.{short, check-leaves}
+use Rattle.interface.proofs.Leaving.{short, check-leaves}
 use borrow.Author.Tests.{lt-ltb, le-ltb}
-use Rattle.capi.specs.Reply.{checkLeaves}
+use Rattle.interface.specs.Left.{checkLeaves}
 use borrow.Author.Needs.{needs}
 use Rattle.capi.proofs.pellet_check.Statement.{statement}
 use Rattle.capi.proofs.pellet_check.Tie as tie

@@ -1,14 +1,11 @@
-use Rattle.capi.proofs.Replies.{short}
-use Rattle.capi.proofs.Judging.{judge-leaves, finds, finds-nothing}
+use Rattle.interface.proofs.Finding.{judge-short, judge-leaves, finds, finds-nothing}
 use borrow.Author.Tests.{lt-ltb, le-ltb}
-use Rattle.capi.specs.Reply.{judgeLeaves}
 use borrow.Author.Needs.{needs}
 use Rattle.capi.proofs.pellet_judge.Statement.{statement}
 use Rattle.capi.proofs.pellet_judge.Tie as tie
 
 returns : tie.Need-returns
-unfolding judgeLeaves
-returns c = (short _ _ _ _ (lt-ltb _ _ (c .if1 .taken)), finds-nothing _ _ _ _)
+returns c = (judge-short _ _ _ _ _ _ _ _ (lt-ltb _ _ (c .if1 .taken)), finds-nothing _ _ _ _)
 
 judge-requires : tie.Need-judge-requires
 judge-requires c κs = search needs

@@ -1,6 +1,6 @@
-use Rattle.capi.proofs.Replies.{translate-leaves, short}
+use Rattle.interface.proofs.Leaving.{translate-leaves, short}
 use borrow.Author.Tests.{lt-ltb, le-ltb}
-use Rattle.capi.specs.Reply.{translateLeaves}
+use Rattle.interface.specs.Left.{translateLeaves}
 use borrow.Author.Needs.{needs}
 use Rattle.capi.proofs.pellet_translate.Statement.{statement}
 use Rattle.capi.proofs.pellet_translate.Tie as tie

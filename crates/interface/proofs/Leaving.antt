@@ -17,7 +17,7 @@ use Rattle.translation.specs.declared.Translated.{Translated}
 use Rattle.checker.specs.Checking.{Checking, Checks}
 use Rattle.checker.specs.declared.Checked.{Checked}
 use Rattle.replies.specs.Reply.{Reply, Fills, alikeFills, checkFills, runFills, translateFills, proveFills}
-use Rattle.capi.specs.Reply.{Leaves, unlessShort, checkLeaves, alikeLeaves, ranLeft, runLeaves, translatedLeft, translateLeaves, provedLeft, proveLeaves}
+use Rattle.interface.specs.Left.{Leaves, unlessShort, checkLeaves, alikeLeaves, ranLeft, runLeaves, translatedLeft, translateLeaves, provedLeft, proveLeaves}
 
 module _ (before after : List (List ℕ)) (ans : List ℕ) (reply : Reply) where
   -- a short answer

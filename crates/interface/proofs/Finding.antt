@@ -1,7 +1,7 @@
 -- The reply of a judging, from what it and the filling of the answer said; a return of 0 is no refusal's. Assumes nothing.
 use mathlib.Core.Path.{_≡_, ap}
 use mathlib.Core.List.{List, [], _∷_}
-use mathlib.Core.Bool.{false}
+use mathlib.Core.Bool.{false, true}
 use Prim.Native.Nat.{ℕ, _≤_}
 use native.Mathlib.Omega.{arith}
 use lib.ListN.{length}
@@ -21,8 +21,14 @@ use Rattle.report.specs.Demand.{Demand3}
 use Rattle.report.specs.declared.Judged.{Judged}
 use Rattle.proving.specs.declared.Refusal.{Refusal}
 use Rattle.replies.specs.Reply.{Reply, Fills, judgeFills}
-use Rattle.capi.specs.Reply.{Leaves, judgeLeaves, Finds}
-use Rattle.capi.proofs.Replies.{filled}
+use Rattle.interface.specs.Left.{Leaves, judgeLeaves, Finds}
+use Rattle.interface.proofs.Leaving.{filled, short}
+
+-- the buffers, where the answer is short
+pub judge-short : (bs r words starts marks values trail ans : List ℕ) → ltb (length ans) 8 ≡ true
+    → Leaves (judgeLeaves bs r words starts marks values trail ans) (words ∷ starts ∷ marks ∷ values ∷ trail ∷ []) ans 255
+unfolding judgeLeaves
+judge-short bs r words starts marks values trail ans e = short _ _ ans _ e
 
 module _ (bs r words starts marks values trail ans words₁ starts₁ marks₁ values₁ trail₁ ans₁ : List ℕ) (code : ℕ) {j : Judged} where
   pub judge-leaves : Fills (judgeFills j ans) ans₁ code

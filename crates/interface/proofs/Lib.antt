@@ -1,0 +1,3 @@
+-- The laws for the functions of the interface.
+pub mod Leaving
+pub mod Finding
