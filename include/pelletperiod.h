@@ -4,13 +4,18 @@
  *
  * Every buffer is lent for the time of the call as a pointer and a number of
  * entries. A pointer must not be null, also where the number of entries is 0,
- * and must be aligned for its entries. The buffers of one call must not
- * overlap one another. Nothing is kept from one call to the next.
+ * and must be aligned for its entries. A buffer that the call may write, one
+ * whose pointer is not to const, must not overlap anything else lent to that
+ * call; buffers that are only read may overlap one another. Nothing is kept
+ * from one call to the next.
  *
  * What a call returns:
  *
  *   0    done; `answer` is filled as said at the function.
- *   255  `answer` has fewer than 8 entries; nothing at all is changed.
+ *   254  only from pellet_prove: what it is given is not as it says there;
+ *        nothing is changed, not even `answer`.
+ *   255  `answer` has fewer than 8 entries; nothing is changed, except that
+ *        pellet_judge zeroes its five buffers on every return.
  *   else the number of a refusal; answer[0] receives its place, and nothing
  *        else is changed, unless the function says so.
  *
@@ -170,7 +175,7 @@ uint8_t pellet_translate(const uint8_t *routine, size_t routine_len,
  * least one entry for each variable and one more; what it holds does not
  * matter. `from` is at most the length of `report`, and that at most
  * 16,777,216. Where this is not so the call returns 254, which is no number of
- * document 01, and nothing is changed.
+ * document 01, and nothing is changed, not even `answer`.
  *
  * On 0 no assignment satisfies the clauses, and the answer holds:
  *
@@ -211,9 +216,9 @@ uint8_t pellet_prove(const uint8_t *report, size_t report_len, size_t from,
  *   answer[6]  number of steps closed
  *   answer[7]  number of hints read
  *
- * What the five buffers hold does not matter. On 0 and on every refusal, 1 to
- * 8 among them, their first 16,777,216 entries are zeros, as far as they have
- * so many, and what lies beyond is left alone.
+ * What the five buffers hold does not matter. On every return, the refusals 1
+ * to 8 and 255 among them, their first 16,777,216 entries are zeros, as far as
+ * they have so many, and what lies beyond is left alone.
  *
  * `words` and `starts` have room for the translation and for the clause of
  * each step, `marks` for one entry a variable of the translation and one more,

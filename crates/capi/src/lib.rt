@@ -96,13 +96,12 @@ pub extern "C" fn pellet_judge(
     ensures { λ r. ⌜ Leaves (judgeLeaves (now (routine .entry)) (now (report .entry)) (now (words .entry)) (now (starts .entry)) (now (marks .entry)) (now (values .entry)) (now (trail .entry)) (now (answer .entry))) (now (words .exit) ∷ now (starts .exit) ∷ now (marks .exit) ∷ now (values .exit) ∷ now (trail .exit) ∷ []) (now (answer .exit)) r ⌝ }
     ensures { λ r. ⌜ Finds (now (routine .entry)) (now (report .entry)) (now (answer .entry)) (now (answer .exit)) r ⌝ }
 {
+    // Judging zeroes the buffers, and they are zeroed on every return: so it comes before the test of the answer's length.
+    let judged = report::judge(routine, report, words, starts, marks, values, trail);
     if answer.len() < 8 {
         return 255;
     }
-    fill_judge(
-        report::judge(routine, report, words, starts, marks, values, trail),
-        answer,
-    )
+    fill_judge(judged, answer)
 }
 
 // Whether two reports on one routine are alike.

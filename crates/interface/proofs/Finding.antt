@@ -24,19 +24,21 @@ use Rattle.replies.specs.Reply.{Reply, Fills, judgeFills}
 use Rattle.interface.specs.Left.{Leaves, judgeLeaves, Finds}
 use Rattle.interface.proofs.Leaving.{filled, short}
 
--- the buffers, where the answer is short
-pub judge-short : (bs r words starts marks values trail ans : List ℕ) → ltb (length ans) 8 ≡ true
-    → Leaves (judgeLeaves bs r words starts marks values trail ans) (words ∷ starts ∷ marks ∷ values ∷ trail ∷ []) ans 255
-unfolding judgeLeaves
-judge-short bs r words starts marks values trail ans e = short _ _ ans _ e
+module _ (bs r words starts marks values trail ans words₁ starts₁ marks₁ values₁ trail₁ : List ℕ) {j : Judged} where
+  -- a short answer
+  pub judge-short : Judges bs r words starts marks values trail words₁ starts₁ marks₁ values₁ trail₁ j
+      → ltb (length ans) 8 ≡ true
+      → Leaves (judgeLeaves bs r words starts marks values trail ans) (words₁ ∷ starts₁ ∷ marks₁ ∷ values₁ ∷ trail₁ ∷ []) ans 255
+  unfolding judgeLeaves
+  judge-short x e = rw (x .words-left, x .starts-left, x .marks-left, x .values-left, x .trail-left) (short _ _ ans _ e)
 
-module _ (bs r words starts marks values trail ans words₁ starts₁ marks₁ values₁ trail₁ ans₁ : List ℕ) (code : ℕ) {j : Judged} where
-  pub judge-leaves : Fills (judgeFills j ans) ans₁ code
+  -- an answer with its 8 entries
+  pub judge-leaves : (ans₁ : List ℕ) (code : ℕ) → Fills (judgeFills j ans) ans₁ code
       → Judges bs r words starts marks values trail words₁ starts₁ marks₁ values₁ trail₁ j
       → ltb (length ans) 8 ≡ false
       → Leaves (judgeLeaves bs r words starts marks values trail ans) (words₁ ∷ starts₁ ∷ marks₁ ∷ values₁ ∷ trail₁ ∷ []) ans₁ code
   unfolding judgeLeaves
-  judge-leaves f x e =
+  judge-leaves ans₁ code f x e =
       rw (← x .answer, x .words-left, x .starts-left, x .marks-left, x .values-left, x .trail-left) (filled _ _ ans (judgeFills j ans) ans₁ code f e)
 
 -- ---- no refusal has the number 0

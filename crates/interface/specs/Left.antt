@@ -1,5 +1,5 @@
--- What the C interface returns and leaves in what it was lent: what the layer's answer gives, or 255 and nothing changed where `answer` has fewer than
--- 8 entries.
+-- What the C interface returns and leaves in what it was lent: what the layer's answer gives, or 255 where `answer` has fewer than 8 entries. On 255
+-- nothing is changed, except that `pellet_judge` zeroes its buffers on every return.
 use Prim.Native.Nat.{ℕ}
 use mathlib.Core.Path.{_≡_}
 use mathlib.Core.List.{List, [], _∷_}
@@ -31,7 +31,7 @@ pub record Left : Type 0 where
 pub record Leaves (left : Left) (buffers : List (List ℕ)) (ans : List ℕ) (r : ℕ) : Type 0 where
   pub equal : _≡_ {A = Left} (record { code = r; buffers = buffers; answer = ans }) left
 
--- 255 and nothing changed where the answer is short, and else the reply, beside the buffers as they became
+-- where the answer is short: 255, beside the buffers `before` and the answer as it was; else the reply, beside the buffers `after`
 abbrev pub unlessShort : (before : List (List ℕ)) → (ans : List ℕ) → (after : List (List ℕ)) → Reply → Left
 unlessShort before ans after reply =
     cond (ltb (length ans) 8)
@@ -67,12 +67,11 @@ provedLeft words starts marks ans x =
 unfoldable pub proveLeaves : (r : List ℕ) → (from clauses variables : ℕ) → (words starts marks ans : List ℕ) → Left
 proveLeaves r from clauses variables words starts marks ans = provedLeft words starts marks ans (checking words starts marks r from clauses variables)
 
--- `pellet_judge`: the buffers are zeroed, whatever the answer
+-- `pellet_judge`: the buffers are zeroed on every return, 255 too
 unfoldable pub judgeLeaves : (bs r words starts marks values trail ans : List ℕ) → Left
 judgeLeaves bs r words starts marks values trail ans =
-    unlessShort (words ∷ starts ∷ marks ∷ values ∷ trail ∷ []) ans
-    (zeroed words ∷ zeroed starts ∷ zeroed marks ∷ zeroed values ∷ zeroed trail ∷ [])
-    (judgeFills (judgement bs r (roomIn words starts marks values trail)) ans)
+    let left = zeroed words ∷ zeroed starts ∷ zeroed marks ∷ zeroed values ∷ zeroed trail ∷ [] in
+    unlessShort left ans left (judgeFills (judgement bs r (roomIn words starts marks values trail)) ans)
 
 -- the answer tells of an accepted report, and demand 3 holds of what it tells
 pub record Found (bs r ans ans₁ : List ℕ) : Type 0 where

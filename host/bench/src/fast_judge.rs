@@ -17,6 +17,7 @@ const BUFFER: u8 = 16;
 
 pub fn judge(bytes: &[u8], report: &[u8], lent: &mut Buffers, answer: &mut [u64]) -> u8 {
     if answer.len() < 8 {
+        zero(lent);
         return 255;
     }
     let judged = decide(bytes, report, lent);

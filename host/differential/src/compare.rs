@@ -12,7 +12,7 @@ use std::fmt::{self, Debug, Write};
 pub enum Verdict<T> {
     Done(T),
     Refused(Refusal),
-    /// Nothing is looked at, because the answer buffer is too short.
+    /// The answer buffer is too short, whatever else the call is given.
     AnswerTooShort,
 }
 

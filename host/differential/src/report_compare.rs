@@ -46,26 +46,24 @@ pub fn compare_report(case: &ReportCase) -> Result<Verdict<Finding>, String> {
     expected_answer.fill(&entries(&verdict));
     let mut differences = Differences::new(verdict.status(), status);
     differences.note("answer", &expected_answer, &answer);
-    differences.note("words", &left(&case.words, &verdict), &words);
-    differences.note("starts", &left(&case.starts, &verdict), &starts);
-    differences.note("marks", &left(&case.marks, &verdict), &marks);
-    differences.note("values", &left(&case.values, &verdict), &values);
-    differences.note("trail", &left(&case.trail, &verdict), &trail);
+    differences.note("words", &zeroed(&case.words), &words);
+    differences.note("starts", &zeroed(&case.starts), &starts);
+    differences.note("marks", &zeroed(&case.marks), &marks);
+    differences.note("values", &zeroed(&case.values), &values);
+    differences.note("trail", &zeroed(&case.trail), &trail);
     differences.note("routine", &case.routine, &routine);
     differences.note("report", &case.report, &report);
     differences.finish("pellet_judge", case, &verdict)?;
     Ok(verdict)
 }
 
-/// What judging leaves of a lent buffer: zeros as far as buffers are used, or
-/// all as it was where nothing was looked at.
-fn left<T: Noise + Default>(lent: &Lent<T>, verdict: &Verdict<Finding>) -> Lent<T> {
-    let mut left = lent.clone();
-    if !matches!(verdict, Verdict::AnswerTooShort) {
-        let used = lent.len().min(MAX_ENTRIES);
-        left.slice_mut()[..used].fill(T::default());
-    }
-    left
+/// What judging leaves of a lent buffer, whatever it comes to, a short answer
+/// among it: zeros as far as buffers are used, and the rest as it was.
+fn zeroed<T: Noise + Default>(lent: &Lent<T>) -> Lent<T> {
+    let mut zeroed = lent.clone();
+    let used = lent.len().min(MAX_ENTRIES);
+    zeroed.slice_mut()[..used].fill(T::default());
+    zeroed
 }
 
 /// The entries of the answer that judging fills, from the first on.

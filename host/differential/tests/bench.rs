@@ -170,19 +170,3 @@ fn refusals_of_runs() {
     assert_eq!(refused(&[255, 255], 0, 0), (16, 3));
     assert_eq!(refused(&[255, 255], 1, 0), (16, 4));
 }
-
-#[test]
-fn short_answer_changes_nothing() {
-    for len in 0..8 {
-        let mut answer = [UNTOUCHED; 8];
-        assert_eq!(pellet::check(WRITE_AT_ONE_BIT, &mut answer[..len]), 255);
-        // Before anything is looked at, so also for a routine that is refused.
-        assert_eq!(pellet::check(&[], &mut answer[..len]), 255);
-        let (mut values, mut trail) = ([UNTOUCHED_VALUE; 4], [UNTOUCHED_BYTE; 4]);
-        let lent = &mut answer[..len];
-        let status = pellet::run(WRITE_AT_ONE_BIT, &[], &mut values, &mut trail, lent);
-        assert_eq!(status, 255);
-        assert_eq!((values, trail), ([UNTOUCHED_VALUE; 4], [UNTOUCHED_BYTE; 4]));
-        assert_eq!(answer, [UNTOUCHED; 8]);
-    }
-}

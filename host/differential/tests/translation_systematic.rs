@@ -120,19 +120,6 @@ fn refusals_in_their_order() {
 }
 
 #[test]
-fn short_answer_changes_nothing() {
-    for len in 0..8 {
-        let (mut words, mut starts, mut answer) = ([9; 8], [9; 5], [9; 8]);
-        for routine in [WRITE_AT_ONE_BIT, &[]] {
-            let answer = &mut answer[..len];
-            let status = pellet::translate(routine, 0, 0, &[], &mut words, &mut starts, answer);
-            assert_eq!(status, 255);
-        }
-        assert_eq!((words, starts, answer), ([9; 8], [9; 5], [9; 8]));
-    }
-}
-
-#[test]
 fn operations_at_every_width() {
     let rng = &mut Rng::for_case(SEED, 0);
     for width in 1..=32 {

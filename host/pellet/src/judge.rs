@@ -36,8 +36,8 @@ mod ffi {
 
 /// Judges a report. On 0, `answer` holds the access, the side, the array, its
 /// size, whether the index is negative, its magnitude, and the numbers of steps
-/// and hints. On 0 and on a refusal the first 16,777,216 entries of all five
-/// buffers are zeros.
+/// and hints. On every return, [`ANSWER_TOO_SHORT`](crate::ANSWER_TOO_SHORT) too,
+/// the first 16,777,216 entries of all five buffers are zeros.
 #[allow(clippy::too_many_arguments)] // They are those of C.
 pub fn judge(
     routine: &[u8],
@@ -75,7 +75,7 @@ pub fn judge(
 /// Says whether two reports name the same access and side. On 0, `answer`
 /// begins with 1 where they do and 0 where not.
 pub fn alike(routine: &[u8], first: &[u8], second: &[u8], answer: &mut [u64]) -> u8 {
-    // SAFETY: as in `check`; what is only read may be the same.
+    // SAFETY: as in `run`.
     unsafe {
         ffi::pellet_alike(
             routine.as_ptr(),

@@ -1,13 +1,15 @@
 //! Safe bindings over the C interface of the pick-routine library.
 //!
 //! The functions take slices where C takes pointers and lengths, and hand back
-//! what C returns: 0, the number of a refusal, or [`ANSWER_TOO_SHORT`]. What is
-//! filled and what is left alone is said in `include/pelletperiod.h`.
+//! what C returns: 0, the number of a refusal, [`ANSWER_TOO_SHORT`], or from
+//! [`prove`] [`NOT_STANDING`]. What is filled and what is left alone is said in
+//! `include/pelletperiod.h`.
 
 /// How many entries every call needs in `answer`.
 pub const ANSWER_LEN: usize = 8;
 
-/// Returned when `answer` has fewer than [`ANSWER_LEN`] entries.
+/// Returned when `answer` has fewer than [`ANSWER_LEN`] entries. Nothing is
+/// changed then, except that [`judge`] zeroes its five buffers on every return.
 pub const ANSWER_TOO_SHORT: u8 = 255;
 
 /// Only so many entries of a buffer are used; a call that needs more refuses
@@ -85,8 +87,8 @@ pub fn run(
     trail: &mut [u8],
     answer: &mut [u64],
 ) -> u8 {
-    // SAFETY: as in `check`; the three exclusive borrows keep the buffers apart
-    // from one another and from what is only read.
+    // SAFETY: as in `check`; the exclusive borrows keep what is written apart
+    // from everything else that is lent, and what is only read may overlap.
     unsafe {
         ffi::pellet_run(
             routine.as_ptr(),

@@ -21,7 +21,7 @@ mod ffi {
 }
 
 /// Returned when `words`, `starts`, `marks` or the report do not go with so
-/// many clauses and variables.
+/// many clauses and variables. Nothing is changed then, not even `answer`.
 pub const NOT_STANDING: u8 = 254;
 
 /// Checks the proof that begins at the offset `from` of a report, against the
