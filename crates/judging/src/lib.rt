@@ -1,7 +1,7 @@
 // The judging of the files that a program is given. What is printed for the bytes of the two files is proved; that these are the files' bytes is only tested,
 // since no contract speaks of what the C library reads.
 mod answers;
-mod files;
+pub mod files;
 
 use files::judge_files;
 ghost use Prim.Native.Nat.{_≤_};
