@@ -17,8 +17,8 @@ use Rattle.refusals.specs.Proof as step
 use Rattle.step.specs.declared.Refusal as unproved
 use Rattle.refusals.specs.Report.{rowOf}
 use Rattle.report.specs.Zeroed.{Judges}
-use Rattle.report.specs.Demand.{Demand3}
-use Rattle.report.specs.declared.Judged.{Judged}
+use Rattle.judgement.specs.Demand.{Demand3}
+use Rattle.judgement.specs.declared.Judged.{Judged}
 use Rattle.proving.specs.declared.Refusal.{Refusal}
 use Rattle.replies.specs.Reply.{Reply, Fills, judgeFills}
 use Rattle.interface.specs.Left.{Leaves, judgeLeaves, Finds}

@@ -13,11 +13,11 @@ use Rattle.run.specs.Answer as ran
 use Rattle.lead.specs.Lead.{targetOf}
 use Rattle.translation.specs.Answer as translated
 use Rattle.checker.specs.Checking.{Checking, checking}
-use Rattle.report.specs.Judging.{judgement}
+use Rattle.judgement.specs.Judging.{judgement}
 use Rattle.report.specs.Zeroed.{zeroed, roomIn}
-use Rattle.report.specs.Demand.{Demand3}
+use Rattle.judgement.specs.Demand.{Demand3}
 use Rattle.comparing.specs.Alike.{alike}
-use Rattle.report.specs.declared.Judged.{Judged}
+use Rattle.judgement.specs.declared.Judged.{Judged}
 use Rattle.entries.specs.Entry.{judgedOf}
 use Rattle.replies.specs.Reply.{Reply, checkFills, runFills, translateFills, proveFills, judgeFills, alikeFills}
 

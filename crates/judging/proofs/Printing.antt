@@ -6,8 +6,8 @@ use borrow.Author.Tests.{lt-ltb, le-ltb}
 use lib.ListN.{length}
 use lib.Seq.{length-take-le}
 use Rattle.io.specs.Counts.{Counts}
-use Rattle.report.specs.Judging.{judgement}
-use Rattle.report.specs.declared.Judged.{Judged}
+use Rattle.judgement.specs.Judging.{judgement}
+use Rattle.judgement.specs.declared.Judged.{Judged}
 use Rattle.putting.specs.Text.{bytes}
 use Rattle.line.specs.Line.{lineOf}
 use Rattle.judging.specs.Printed.{lent, printed}

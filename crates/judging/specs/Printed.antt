@@ -5,7 +5,7 @@ use mathlib.Core.Bool.{cond}
 use lib.ListN.{length}
 use lib.Dec.{ltb}
 use Rattle.proving.specs.Proving.{Room}
-use Rattle.report.specs.Judging.{judgement}
+use Rattle.judgement.specs.Judging.{judgement}
 use Rattle.putting.specs.Text.{bytes}
 use Rattle.line.specs.Line.{lineOf}
 use Rattle.putting.specs.Puts.{Puts}

@@ -1,13 +1,13 @@
 // What is printed of a report on a routine, given their bytes.
+use judgement::Judged;
 use line::write_line;
 use putting::texts::put_text;
-use report::Judged;
 use report::judge;
 ghost use mathlib.Core.Path.{_≡_};
 ghost use Prim.Native.Nat.{_≤_};
 ghost use lib.ListN.{length};
 ghost use Rattle.io.specs.Counts.{Counts};
-ghost use Rattle.report.specs.Judging.{judgement};
+ghost use Rattle.judgement.specs.Judging.{judgement};
 ghost use Rattle.putting.specs.Puts.{Puts};
 ghost use Rattle.judging.specs.Printed.{lent, printed};
 

@@ -3,7 +3,7 @@ use mathlib.Core.Path.{_≡_, refl}
 use Rattle.bitvec.specs.declared.Whole.{Whole}
 use Rattle.proving.specs.declared.Buffer.{Buffer}
 use Rattle.proving.specs.declared.Refusal.{Refusal}
-use Rattle.report.specs.declared.Judged.{Judged}
+use Rattle.judgement.specs.declared.Judged.{Judged}
 use Rattle.putting.specs.Text.{bytes, decimalBy, decimal}
 use Rattle.line.specs.Line.{sideWord, signed, claimed, shown, refused, lineOf}
 

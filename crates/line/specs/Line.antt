@@ -5,7 +5,7 @@ use mathlib.Core.List.{List, _++_}
 use Rattle.bitvec.specs.declared.Whole.{Whole}
 use Rattle.refusals.specs.Report.{rowOf}
 use Rattle.proving.specs.declared.Refusal.{Refusal}
-use Rattle.report.specs.declared.Judged.{Judged}
+use Rattle.judgement.specs.declared.Judged.{Judged}
 use Rattle.putting.specs.Text.{bytes, decimal}
 
 -- a word and a number

@@ -1,11 +1,11 @@
 // The line that the judging program prints.
 mod accepted;
 
+use judgement::Judged;
 use proving::Refusal;
 use putting::numbers::put_named;
 use putting::texts::put_text;
 use refusals::of_report::row_of;
-use report::Judged;
 ghost use Prim.Native.Nat.{_≤_};
 ghost use lib.ListN.{length};
 ghost use Rattle.line.specs.Line.{refused, lineOf};

@@ -16,7 +16,7 @@ use Rattle.checker.specs.declared.Checked as proved
 use Rattle.checker.specs.declared.Checked.the-variants.{Accepted, Refused, Unfit}
 use Rattle.refusals.specs.Witness as witness
 use Rattle.refusals.specs.Report as proving
-use Rattle.report.specs.declared.Judged.{Judged}
+use Rattle.judgement.specs.declared.Judged.{Judged}
 use Rattle.comparing.specs.declared.Compared.{Compared}
 
 -- the number returned, and the answer

@@ -7,7 +7,7 @@ use entries::fill_place;
 use entries::fill_proof;
 use entries::fill_size;
 use entries::fill_stop;
-use report::Judged;
+use judgement::Judged;
 use routine::Checked;
 use run::Ran;
 use translation::Translated;

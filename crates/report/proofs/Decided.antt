@@ -23,9 +23,9 @@ use Rattle.proving.specs.Proving.{Room}
 use Rattle.proving.specs.Inner.Parts.{Proves}
 use Rattle.proving.specs.declared.Proved.{Proved}
 use Rattle.proving.specs.declared.Refusal.{Refusal}
-use Rattle.report.specs.Judging.{byProof, byWitness, judgement}
+use Rattle.judgement.specs.Judging.{byProof, byWitness, judgement}
 use Rattle.report.specs.Inner.Parts.{Claims}
-use Rattle.report.specs.declared.Judged.{Judged}
+use Rattle.judgement.specs.declared.Judged.{Judged}
 
 -- ---- what `check` of routine answered
 

@@ -7,7 +7,7 @@ use Rattle.slices.specs.Lent.{usable}
 use Rattle.slices.proofs.Used.{used-length}
 use Rattle.report.specs.Inner.Parts.{JudgesParts}
 use Rattle.report.specs.Zeroed.{zeroed, Judges}
-use Rattle.report.specs.declared.Judged.{Judged}
+use Rattle.judgement.specs.declared.Judged.{Judged}
 
 -- zeros, then what lies beyond the part that is used
 back : (xs : List ℕ) (n : ℕ) → n ≡ usable xs → (ys : List ℕ) → ys ≡ replicate (length (take n xs)) 0 → ys ++ drop n xs ≡ zeroed xs

@@ -1,4 +1,2 @@
-pub mod Judging
-pub mod Demand
 pub mod Zeroed
 pub mod Inner

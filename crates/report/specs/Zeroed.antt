@@ -5,8 +5,8 @@ use mathlib.Core.List.{List, _++_}
 use lib.ListN.{drop, replicate}
 use Rattle.slices.specs.Lent.{usable}
 use Rattle.proving.specs.Proving.{Room}
-use Rattle.report.specs.Judging.{judgement}
-use Rattle.report.specs.declared.Judged.{Judged}
+use Rattle.judgement.specs.Judging.{judgement}
+use Rattle.judgement.specs.declared.Judged.{Judged}
 
 -- a buffer, zeroed
 abbrev pub zeroed : List ℕ → List ℕ

@@ -1,9 +1,9 @@
 // What is said of a report: the routine, the witness, then the proof.
-use crate::Judged;
 use bitvec::Whole;
 use faults::Counts;
 use header::Header;
 use header::size_of_array;
+use judgement::Judged;
 use lead::Target;
 use proving::Proved;
 use proving::Refusal;
@@ -16,7 +16,7 @@ ghost use Prim.Native.Nat.{_≤_};
 ghost use lib.ListN.{length};
 ghost use Rattle.routine.specs.Inner.Known.{Counted};
 ghost use Rattle.proving.specs.Inner.Parts.{roomOf};
-ghost use Rattle.report.specs.Judging.{byProof, judgement};
+ghost use Rattle.judgement.specs.Judging.{byProof, judgement};
 ghost use Rattle.report.specs.Inner.Parts.{Claims};
 
 // The answer, from what is said of the proof.

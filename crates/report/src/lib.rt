@@ -2,27 +2,10 @@
 mod deciding;
 mod parts;
 
-use bitvec::Whole;
-use proving::Refusal;
+use judgement::Judged;
 use slices::usable;
-ghost use Rattle.report.specs.Demand.{Demand3};
+ghost use Rattle.judgement.specs.Demand.{Demand3};
 ghost use Rattle.report.specs.Zeroed.{Judges};
-
-// What is said of a report.
-pub enum Judged {
-    Accepted {
-        access: u8,
-        side: u8,
-        array: u8,
-        // the size of the array
-        size: u32,
-        // the index that the witness has there
-        index: Whole,
-        steps: usize,
-        hints: usize,
-    },
-    Refused(Refusal),
-}
 
 // Judges a report on a routine. If it is accepted, every run that goes the report's way and comes to the named access stops there, its index outside the array, on
 // the side named. On every return the first 16,777,216 entries of each buffer are 0, and what lies beyond is unchanged.

@@ -1,6 +1,6 @@
 // Judging over the parts of the buffers that are used.
-use crate::Judged;
 use crate::deciding::decide;
+use judgement::Judged;
 use slices::zero_bytes;
 use slices::zero_words;
 ghost use Prim.Native.Nat.{_≤_};

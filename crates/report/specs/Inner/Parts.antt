@@ -10,8 +10,8 @@ use Rattle.routine.specs.Decode.{routine, decode}
 use Rattle.witness.specs.Witness.{witnessOf}
 use Rattle.proving.specs.Proving.{Room}
 use Rattle.proving.specs.Inner.Parts.{roomOf}
-use Rattle.report.specs.Judging.{byWitness, judgement}
-use Rattle.report.specs.declared.Judged.{Judged}
+use Rattle.judgement.specs.Judging.{byWitness, judgement}
+use Rattle.judgement.specs.declared.Judged.{Judged}
 
 -- what is said of a report on whatever was decoded
 pub record Claims (bs r : List ℕ) (h : Header) (k : Counts) (m : Room) (j : Judged) : Type 0 where

@@ -45,9 +45,9 @@ use Rattle.witness.proofs.Standing.{Stood, stood}
 use Rattle.proving.specs.Proving.{Room, byVerdict, limitsIn, provedBy}
 use Rattle.proving.specs.declared.Proved.{Proved}
 use Rattle.proving.specs.declared.Refusal.{Refusal}
-use Rattle.report.specs.Demand.{StopsOutside, Finding, Found, Demand3}
-use Rattle.report.specs.Judging.{byProof, byWitness, byRoutine, judgement}
-use Rattle.report.specs.declared.Judged.{Judged}
+use Rattle.judgement.specs.Demand.{StopsOutside, Finding, Found, Demand3}
+use Rattle.judgement.specs.Judging.{byProof, byWitness, byRoutine, judgement}
+use Rattle.judgement.specs.declared.Judged.{Judged}
 
 -- the same index in the same array
 lies-same : (bs : List ℕ) (h : Header) (array₁ array : ℕ) (index₁ index : Whole) → array₁ ≡ array → index₁ ≡ index → (l : Lies)

@@ -17,7 +17,7 @@ use Rattle.meaning.specs.Translation.{whole}
 use Rattle.proving.specs.Proving.{Room, provedBy}
 use Rattle.proving.specs.declared.Refusal.{Refusal}
 use Rattle.proving.specs.declared.Proved.{Proved}
-use Rattle.report.specs.declared.Judged.{Judged}
+use Rattle.judgement.specs.declared.Judged.{Judged}
 
 -- the answer: access, side, array, size, index, steps closed, hints read
 abbrev pub byProof : List ℕ → Header → Target → (array : ℕ) → Whole → Proved → Judged

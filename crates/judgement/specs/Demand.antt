@@ -20,7 +20,7 @@ use Rattle.inputs.specs.declared.Listed.{Listed}
 use Rattle.run.specs.declared.Ran.{Ran}
 use Rattle.course.specs.Goes.{goesWay, Comes}
 use Rattle.witness.specs.Lead.{decisionsIn, witnessIn}
-use Rattle.report.specs.declared.Judged.{Judged}
+use Rattle.judgement.specs.declared.Judged.{Judged}
 
 -- the run stops at the access, with the index, which lies outside the array, on the side
 pub record StopsOutside (bs : List ℕ) (h : Header) (access : ℕ) (side : Side) (array : ℕ) (index : Whole) (x : Stretch) : Type 0 where

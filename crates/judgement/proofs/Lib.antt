@@ -1,0 +1,2 @@
+-- The law that the promise of judging rests on.
+pub mod Demanded
