@@ -7,7 +7,7 @@ use native.Mathlib.Omega.{arith}
 use lib.ListN.{length, take, drop, replicate, length-replicate, take-append-drop}
 use lib.Seq.{length-take-le}
 use borrow.Author.Tests.{le-leb, lt-leb}
-use Rattle.clauses.specs.Clause.{Clause}
+use Rattle.cnf.specs.Clause.{Clause}
 use Rattle.propagation.specs.Stored.{clausesOf}
 use Rattle.progress.specs.Check.{checkProof}
 use Rattle.proof.specs.Answer.{leaves, answer}

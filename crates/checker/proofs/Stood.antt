@@ -9,8 +9,8 @@ use native.Mathlib.Nat.{add-zero, zero-add}
 use lib.ListN.{length, set, replicate, length-append, length-replicate}
 use lib.Seq.{slice, length-slice, sets, set-getD}
 use Rattle.slices.specs.Bytes.{entry}
-use Rattle.clauses.specs.Clause.{Clause, flatten, offsets}
-use Rattle.clauses.proofs.Appending.{sets-append, sets-self}
+use Rattle.cnf.specs.Clause.{Clause, flatten, offsets}
+use Rattle.cnf.proofs.Appending.{sets-append, sets-self}
 use Rattle.propagation.specs.Stored.{startOf, endOf, clauseAt, clausesOf}
 use Rattle.propagation.specs.Inner.Standing.{Stands}
 use Rattle.propagation.proofs.Cases.{both, from-or}

@@ -6,10 +6,10 @@ use mathlib.Core.Bool.{Bool, false, _&&_, cond}
 use lib.ListN.{length, take, drop}
 use lib.Dec.{leb}
 use Rattle.slices.specs.Lent.{usable}
-use Rattle.clauses.specs.Clause.{Clause}
+use Rattle.cnf.specs.Clause.{Clause}
 use Rattle.proof.specs.Answer.{Answer, answer}
 use Rattle.checker.specs.Fit.{standing, stood}
-use Rattle.clauses.specs.Meaning.{Assign, sat}
+use Rattle.cnf.specs.Meaning.{Assign, sat}
 use Rattle.checker.specs.declared.Checked.{Checked}
 use Rattle.step.specs.declared.Verdict.{Verdict}
 

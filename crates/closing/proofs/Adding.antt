@@ -10,8 +10,8 @@ use lib.ListN.{length, getD, set, replicate, length-set, length-append, length-r
 use lib.Seq.{slice, getD-set-same, getD-set-other}
 use lib.Dec.{leb, ltb}
 use borrow.Author.Tests.{lt-ltb, le-ltb, le-leb, lt-leb}
-use Rattle.clauses.specs.Clause.{Clause, flatten}
-use Rattle.clauses.proofs.Appending.{flatten-append}
+use Rattle.cnf.specs.Clause.{Clause, flatten}
+use Rattle.cnf.proofs.Appending.{flatten-append}
 use Rattle.propagation.specs.Stored.{startOf, clauseAt, clausesOf}
 use Rattle.propagation.specs.Inner.Standing.{Stands}
 use Rattle.propagation.proofs.Cases.{below-or}

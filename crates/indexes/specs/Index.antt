@@ -1,32 +1,29 @@
 -- Indexes at accesses: what an access makes of arrival, and the literal of the side at the named one, the next variable being g.
-use Prim.Native.Nat.{ℕ, _+_, _-_}
-use mathlib.Core.List.{List, [], _∷_, _++_}
 use mathlib.Core.Bool.{cond}
-use lib.ListN.{length}
+use mathlib.Core.List.{[], _++_, _∷_}
+use Prim.Native.Nat.{_+_, _-_, ℕ}
 use lib.Dec.{eqb}
+use lib.ListN.{length}
+use Rattle.arithmetic.specs.Bits.{Bits}
+use Rattle.arithmetic.specs.Circuit.{Predicate, never}
+use Rattle.comparison.specs.Access.{above}
 use Rattle.netlist.specs.Literal.{opp, pos}
-use Rattle.netlist.specs.Node.{Node, and}
-use Rattle.bits.specs.Bits.{Bits}
-use Rattle.relations.specs.Access.{aboveNodes, aboveLit}
+use Rattle.netlist.specs.declared.Node.the-variants.{And}
 
 -- the highest bit
 abbrev pub top : Bits → (w : ℕ) → ℕ
 top a w = a (w - 1)
 
 -- an access that is not the named one, index a against a size: above, then in = AND(-top bit,-above), then arrival = AND(arrival,in)
-unfoldable pub accessNodes : (g : ℕ) → (a : Bits) → (size w arrival : ℕ) → List Node
-accessNodes g a size w arrival =
-    aboveNodes g a size w
-    ++ (and (opp (top a w)) (opp (aboveLit g size w)) ∷ and arrival (pos (g + length (aboveNodes g a size w))) ∷ [])
+unfoldable pub passing : (g : ℕ) → (a : Bits) → (size w arrival : ℕ) → Predicate
+passing g a size w arrival =
+    let x : Predicate = above g a size w in
+    let v : ℕ = g + length (x .nodes) in
+    record { nodes = x .nodes ++ (And (opp (top a w)) (opp (x .lit)) ∷ And arrival (pos v) ∷ []); lit = pos (v + 1) }
 
--- arrival after it
-unfoldable pub accessArrival : (g : ℕ) → (a : Bits) → (size w : ℕ) → ℕ
-accessArrival g a size w = pos (g + length (aboveNodes g a size w) + 1)
-
--- the named access: above, if the side is 1
-unfoldable pub claimNodes : (side g : ℕ) → (a : Bits) → (size w : ℕ) → List Node
-claimNodes side g a size w = cond (eqb side 1) (aboveNodes g a size w) []
-
--- the literal of the side: the top bit for side 0
-unfoldable pub claimLit : (side g : ℕ) → (a : Bits) → (size w : ℕ) → ℕ
-claimLit side g a size w = cond (eqb side 1) (aboveLit g size w) (top a w)
+-- the literal of the side at the named access: the top bit for side 0, above for side 1
+unfoldable pub claim : (side g : ℕ) → (a : Bits) → (size w : ℕ) → Predicate
+claim side g a size w =
+    cond (eqb side 0) (record { nodes = []; lit = top a w })
+    (cond (eqb side 1) (above g a size w)
+    never)

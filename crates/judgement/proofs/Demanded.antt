@@ -23,8 +23,8 @@ use Rattle.course.specs.Course.{course}
 use Rattle.course.specs.Goes.{goesWay, Comes}
 use Rattle.course.specs.declared.Course.{Course}
 use Rattle.course.proofs.Arriving.{comes, goes, same, arrives}
-use Rattle.clauses.specs.Clause.{Clause}
-use Rattle.clauses.specs.Meaning.{Assign, lit, satClause, sat}
+use Rattle.cnf.specs.Clause.{Clause}
+use Rattle.cnf.specs.Meaning.{Assign, lit, satClause, sat}
 use Rattle.netlist.specs.Node.{clausesOf}
 use Rattle.netlist.proofs.Literals.{lit-opp}
 use Rattle.netlist.proofs.Truth.{sat-append}

@@ -46,16 +46,22 @@ take s number arm = record { values = s .values; trail = set (s .trail) number a
 abbrev pub stop : State → (access : ℕ) → Whole → Side → State
 stop s access index side = record { values = s .values; trail = s .trail; outcome = Outcome.Stopped access index side }
 
--- 0x06 cut, 0x07 zero-extend, 0x08 sign-extend, 0x02 copy: from w bits to v bits
+-- 0x02 copy, 0x06 cut, 0x07 zero-extend, 0x08 sign-extend: from w bits to v bits
 unfoldable pub converted : (op v w a : ℕ) → ℕ
 converted op v w a =
-    cond (eqb op 0x06) (cut v a)
+    cond (eqb op 0x02) a
+    (cond (eqb op 0x06) (cut v a)
     (cond (eqb op 0x07) (zeroExtend a)
-    (cond (eqb op 0x08) (signExtend v w a) a))
+    (cond (eqb op 0x08) (signExtend v w a)
+    0)))
 
 -- 0x03 add, 0x04 subtract, 0x05 multiply
 unfoldable pub computed : (op w a b : ℕ) → ℕ
-computed op w a b = cond (eqb op 0x03) (add w a b) (cond (eqb op 0x04) (subtract w a b) (multiply w a b))
+computed op w a b =
+    cond (eqb op 0x03) (add w a b)
+    (cond (eqb op 0x04) (subtract w a b)
+    (cond (eqb op 0x05) (multiply w a b)
+    0))
 
 -- the condition of an if holds
 unfoldable pub holds : List ℕ → Condition → State → Bool

@@ -27,10 +27,11 @@ fn converted_by(op: u8, v: u8, w: u8, a: u32) -> u32
     ensures { λ r. ⌜ r ≡ converted op v w a ⌝ }
 {
     match op {
+        0x02 => a,
         0x06 => word::cut_to(v, a),
         0x07 => word::zero_extended(a),
         0x08 => signed::sign_extended(v, w, a),
-        _ => a,
+        _ => 0,
     }
 }
 
@@ -42,7 +43,8 @@ fn computed_by(op: u8, w: u8, a: u32, b: u32) -> u32
     match op {
         0x03 => word::sum(w, a, b),
         0x04 => word::difference(w, a, b),
-        _ => word::product(w, a, b),
+        0x05 => word::product(w, a, b),
+        _ => 0,
     }
 }
 

@@ -18,7 +18,7 @@ use Rattle.run.specs.Run as run
 use Rattle.run.specs.Run.{took, eventsAt, runArm}
 use Rattle.machine.specs.declared.State.{State}
 use Rattle.course.specs.Course.{course}
-use Rattle.clauses.specs.Meaning.{Assign}
+use Rattle.cnf.specs.Meaning.{Assign}
 use Rattle.netlist.specs.Meaning.{Inputs}
 use Rattle.netlist.proofs.Truth.{Models, models-append}
 use Rattle.wiring.specs.Command.{Stretch, simple}

@@ -1,13 +1,14 @@
 -- How many variables a translation takes at most. Assumes nothing.
-use Rattle.clauses.specs.Clause.{flatten}
-use Rattle.clauses.proofs.Appending.{flatten-append}
-use Rattle.netlist.specs.Node.{nodeClauses, clausesOf, Node}
+use Rattle.cnf.specs.Clause.{flatten}
+use Rattle.cnf.proofs.Appending.{flatten-append}
+use Rattle.netlist.specs.Node.{nodeClauses, clausesOf}
+use Rattle.netlist.specs.declared.Node.{Node}
 use Rattle.netlist.proofs.Nodes.{clausesOf-few, clausesOf-short}
 use Rattle.meaning.specs.Translation.{lastClauses, clausesOfAll, parameterNodes, start, whole}
 use Rattle.wires.specs.declared.Claim.{Claim}
 use mathlib.Core.Path.{_≡_, ap, subst, _∙_}
-use mathlib.Core.List.{List, [], _++_}
-use mathlib.Core.Bool.{Bool, true, false}
+use mathlib.Core.List.{List, _++_}
+use mathlib.Core.Bool.{Bool, true, false, cond}
 use Prim.Native.Nat.{ℕ, zero, suc, _+_, _*_, _^_, _<_, _≤_}
 use native.Mathlib.Nat.{mul-suc, mul-add, mul-le-mul, mul-le-mul-left}
 use native.Mathlib.Omega.{arith}
@@ -30,24 +31,23 @@ use Rattle.routine.proofs.Counting.{few-ifs}
 use Rattle.netlist.specs.Literal.{opp}
 use Rattle.netlist.specs.Inner.Emit.{Ready}
 use Rattle.netlist.specs.declared.Net.{Net}
-use Rattle.bits.specs.Bits.{Bits}
-use Rattle.adders.specs.Adder.{adder, subtractor, oppBits}
-use Rattle.circuits.specs.Product.{product}
-use Rattle.relations.specs.Access.{aboveNodes}
-use Rattle.adders.proofs.Adder.{length-adder}
-use Rattle.circuits.proofs.Product.{product-short}
-use Rattle.bits.proofs.Input.{length-inputs}
-use Rattle.circuits.proofs.Join.{length-join}
-use Rattle.relations.proofs.Access.{above-short}
-use Rattle.relations.proofs.Relating.{relation-short}
-use Rattle.wires.specs.Wires.{Wires, bitsIn, bitsOf, arriving}
-use Rattle.wiring.specs.Command.{Stretch, still, access, readInto, simple}
-use Rattle.operands.specs.Operation.{computeNodes}
-use Rattle.indexes.specs.Index.{accessNodes, accessArrival, claimNodes}
+use Rattle.arithmetic.specs.Bits.{Bits}
+use Rattle.arithmetic.specs.Adder.{sum, difference, oppBits}
+use Rattle.arithmetic.specs.Circuit.{nothing}
+use Rattle.arithmetic.specs.Product.{product}
+use Rattle.arithmetic.proofs.Adder.{length-adder}
+use Rattle.arithmetic.proofs.Product.{rows-short}
+use Rattle.arithmetic.proofs.Input.{length-inputs}
+use Rattle.arithmetic.proofs.Join.{length-joiner}
+use Rattle.comparison.proofs.Relating.{relation-short}
+use Rattle.wires.specs.Wires.{Wires, bitsIn, bitsOf}
+use Rattle.wiring.specs.Command.{Stretch, still, passed, access, readInto, simple}
+use Rattle.wiring.specs.Operation.{computation}
+use Rattle.indexes.proofs.Gates.{passing-short, claim-short}
 use Rattle.meaning.specs.Walk.{andThen, forked, armOf}
-use Rattle.branching.specs.Branch.{conditionNodes, conditionLit, armNodes, branchNodes, joinNodes, joined}
+use Rattle.branching.specs.Branch.{conditionOf, armArrival, arrivals, joinGroups, joined}
 use Rattle.lead.specs.declared.Target.{Target}
-use Rattle.meaning.proofs.Stretches.{by-cond, then-by, access-by, fork-by, frontOf, firstFrom, firstWires, firstOf, secondFrom, secondWires, secondOf, joinFrom, joinOf}
+use Rattle.meaning.proofs.Stretches.{then-by, access-by, fork-by, frontOf, firstFrom, firstWires, firstOf, secondFrom, secondWires, secondOf, joinFrom, joinOf}
 use Rattle.meaning.proofs.Counted.{commandsIn, ifsIn, all-ifs, few-commands}
 
 -- m variables are enough for every command with operands of at most w bits
@@ -64,19 +64,10 @@ enough w l = record {
 
 -- ---- gates
 
-access-few : (g : ℕ) (a : Bits) (size v arrival : ℕ) → length (accessNodes g a size v arrival) ≤ 3 * v + 2
-unfolding accessNodes
-access-few g a size v arrival = simp length-append (omega (arith, above-short g a size v))
-
-claim-few : (side g : ℕ) (a : Bits) (size v : ℕ) → length (claimNodes side g a size v) ≤ 3 * v
-unfolding claimNodes
-claim-few side g a size v =
-    by-cond (λ (ns : List Node). length ns ≤ 3 * v) (eqb side 1) (aboveNodes g a size v) [] (λ e. above-short g a size v) (λ e. omega arith)
-
-branch-few : (d arrival c : ℕ) → length (branchNodes d arrival c) ≤ 2
-branch-few d arrival c = pick (eqb d 1) (eqb d 0)
+arrivals-few : (d g arrival c : ℕ) → length (arrivals d g arrival c .nodes) ≤ 2
+arrivals-few d g arrival c = pick (eqb d 1) (eqb d 0)
   where
-    pick : (p q : Bool) → length (armNodes p arrival c ++ armNodes q arrival (opp c)) ≤ 2
+    pick : (p q : Bool) → length (armArrival p g arrival c .nodes ++ armArrival q (g + length (armArrival p g arrival c .nodes)) arrival (opp c) .nodes) ≤ 2
     pick true true = omega arith
     pick true false = omega arith
     pick false true = omega arith
@@ -107,14 +98,14 @@ module _ (bs : List ℕ) (h : Header) (w : ℕ) (narrow : (v : ℕ) → v < h .v
       simp length-append (omega (arith, parameters-short p (omega arith), length-inputs p (width bs p), narrow p (omega arith), mul-suc w p))
 
   -- the gates that join the first n variables
-  joins-few : (c : ℕ) (x y : List ℕ) (n : ℕ) → n ≤ h .variables → length (joinNodes bs c x y n) ≤ w * n
-  unfolding joinNodes
-  joins-few c x y zero l = omega arith
-  joins-few c x y (suc v) l =
+  joins-few : (g c : ℕ) (x y : List ℕ) (n : ℕ) → n ≤ h .variables → length (joinGroups bs g c x y n .nodes) ≤ w * n
+  unfolding joinGroups
+  joins-few g c x y zero l = omega arith
+  joins-few g c x y (suc v) l =
       simp length-append (omega (
         arith,
-        joins-few c x y v (omega arith),
-        length-join c (bitsIn bs x v) (bitsIn bs y v) (width bs v),
+        joins-few g c x y v (omega arith),
+        length-joiner c (bitsIn bs x v) (bitsIn bs y v) (width bs v),
         narrow v (omega arith),
         mul-suc w v,
       ))
@@ -124,18 +115,19 @@ module _ (bs : List ℕ) (h : Header) (w : ℕ) (narrow : (v : ℕ) → v < h .v
     joined-few : (g c : ℕ) (x y : Wires) → length (joined bs h g c x y .nodes) ≤ 32 * w + 1
     unfolding joined
     joined-few g c x y =
-        simp length-append (omega (arith, joins-few c (x .lits) (y .lits) (h .variables) (omega arith), mul-le-mul-left w few))
+        simp length-append (omega (arith, joins-few g c (x .lits) (y .lits) (h .variables) (omega arith), mul-le-mul-left w few))
 
     -- ---- commands
 
-    compute-few : (op g : ℕ) (a b : Bits) (v : ℕ) → v ≤ w → length (computeNodes op g a b v) ≤ m
-    unfolding computeNodes
-    compute-few op g a b v l =
-        by-cond (λ (ns : List Node). length ns ≤ m) (eqb op 0x03) (adder g a b 3 v) _
-        (λ e. omega (arith, length-adder g a b 3 v, big .access))
-        (λ e. by-cond (λ (ns : List Node). length ns ≤ m) (eqb op 0x04) (subtractor g a b v) (product g a b v v)
-        (λ f. omega (arith, length-adder g a (oppBits b) 2 v, big .access))
-        (λ f. omega (arith, product-short g a b v v (omega arith), big .product v l)))
+    compute-few : (op g : ℕ) (a b : Bits) (v : ℕ) → v ≤ w → length (computation op g a b v .nodes) ≤ m
+    unfolding computation
+    compute-few op g a b v l = pick (eqb op 0x03) (eqb op 0x04) (eqb op 0x05)
+      where
+        pick : (p q r : Bool) → length (cond p (sum g a b v) (cond q (difference g a b v) (cond r (product g a b v) nothing)) .nodes) ≤ m
+        pick true q r = omega (arith, length-adder g a b 3 v, big .access)
+        pick false true r = omega (arith, length-adder g a (oppBits b) 2 v, big .access)
+        pick false false true = omega (arith, rows-short g a b v v (omega arith), big .product v l)
+        pick false false false = omega arith
 
     -- an access, and what goes on after it
     at-access : (g array i : ℕ) (k : Counts) (s : Wires) (go : ℕ → Wires → Stretch) → i < h .variables
@@ -144,15 +136,15 @@ module _ (bs : List ℕ) (h : Header) (w : ℕ) (narrow : (v : ℕ) → v < h .v
         let a : Bits = bitsOf bs s i in
         let size : ℕ = arraySize bs h array in
         let v : ℕ = width bs i in
-        let ns : List Node = accessNodes g a size v (s .arrival) in
-        let x : Stretch = go (g + length ns) (arriving s (accessArrival g a size v)) in
+        let p : Stretch = passed bs h g array i s in
+        let x : Stretch = go (g + length (p .nodes)) (p .wires) in
         access-by (λ (z : Stretch). length (z .nodes) ≤ m) bs h t g array i k s go
-        (λ e. omega (arith, claim-few (t .side) g a size v, narrow i l, big .access))
+        (λ e. omega (arith, claim-short (t .side) g a size v, narrow i l, big .access))
         (λ e. omega (
           arith,
-          length-append ns (x .nodes),
-          access-few g a size v (s .arrival),
-          f (g + length ns) (arriving s (accessArrival g a size v)),
+          length-append (p .nodes) (x .nodes),
+          passing-short g a size v (s .arrival),
+          f (g + length (p .nodes)) (p .wires),
           narrow i l,
           big .access,
         ))
@@ -176,13 +168,16 @@ module _ (bs : List ℕ) (h : Header) (w : ℕ) (narrow : (v : ℕ) → v < h .v
     Few n go = (g : ℕ) (s : Wires) → length (go g s .nodes) ≤ n
 
     -- the gates of the condition and of the arms' arrivals
-    front-few : (d g : ℕ) (c : Condition) (s : Wires) → SoundIf bs h c → length (conditionNodes bs g c s ++ branchNodes d (s .arrival) (conditionLit bs g c)) ≤ m
+    front-few : (d g : ℕ) (c : Condition) (s : Wires) → SoundIf bs h c
+        → length (conditionOf bs g c s .nodes ++ arrivals d (g + length (conditionOf bs g c s .nodes)) (s .arrival) (conditionOf bs g c s .lit) .nodes) ≤ m
     front-few d g c s q =
+        let x = conditionOf bs g c s in
+        let k : ℕ = g + length (x .nodes) in
         omega (
           arith,
-          length-append (conditionNodes bs g c s) (branchNodes d (s .arrival) (conditionLit bs g c)),
+          length-append (x .nodes) (arrivals d k (s .arrival) (x .lit) .nodes),
           relation-short (c .relation) g (bitsOf bs s (c .s)) (bitsOf bs s (c .t)) (width bs (c .s)),
-          branch-few d (s .arrival) (conditionLit bs g c),
+          arrivals-few d k (s .arrival) (x .lit),
           narrow (c .s) (condition-fine bs h c q .1),
           big .access,
         )
@@ -198,7 +193,7 @@ module _ (bs : List ℕ) (h : Header) (w : ℕ) (narrow : (v : ℕ) → v < h .v
         let l₀ : length ns ≤ m = front-few d g c s q in
         let l₁ : length (x .nodes) ≤ n₁ = one (firstFrom bs h d g c s first second) (firstWires bs h d g c s first second) in
         let l₂ : length (y .nodes) ≤ n₂ = two (secondFrom bs h d g c s first second) (secondWires bs h d g c s first second) in
-        let l₃ : length (j .nodes) ≤ 32 * w + 1 = joined-few (joinFrom bs h d g c s first second) (conditionLit bs g c) (x .wires) (y .wires) in
+        let l₃ : length (j .nodes) ≤ 32 * w + 1 = joined-few (joinFrom bs h d g c s first second) (conditionOf bs g c s .lit) (x .wires) (y .wires) in
         fork-by bs h d g c s first second (λ (z : Stretch). length (z .nodes) ≤ m + (32 * w + 1) + n₁ + n₂)
         (λ e. omega (arith, length-append ns (x .nodes), l₀, l₁))
         (λ e e₁. omega (arith, length-append ns (x .nodes ++ y .nodes), length-append (x .nodes) (y .nodes), l₀, l₁, l₂))

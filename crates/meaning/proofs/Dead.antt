@@ -12,14 +12,13 @@ use Rattle.header.specs.declared.Header.{Header}
 use Rattle.command.specs.declared.Condition.{Condition}
 use Rattle.faults.specs.declared.Counts.{Counts}
 use Rattle.command.specs.declared.Simple.{Simple}
-use Rattle.clauses.specs.Meaning.{Assign, lit}
+use Rattle.cnf.specs.Meaning.{Assign, lit}
 use Rattle.netlist.specs.Meaning.{Inputs}
 use Rattle.netlist.proofs.Truth.{Models, models-append}
 use Rattle.wires.specs.Wires.{Wires, bitsOf}
-use Rattle.wiring.specs.Command.{Stretch, still, readInto, simple}
-use Rattle.indexes.specs.Index.{accessNodes, accessArrival}
+use Rattle.wiring.specs.Command.{Stretch, still, passed, readInto, simple}
 use Rattle.meaning.specs.Walk.{forked, armOf}
-use Rattle.branching.specs.Branch.{conditionNodes, conditionLit, branchNodes}
+use Rattle.branching.specs.Branch.{conditionOf, arrivals}
 use Rattle.lead.specs.declared.Target.{Target}
 use Rattle.meaning.proofs.Gates.{models-three, access-lit, first-lit, else-lit, joined-lit}
 use Rattle.meaning.proofs.Stretches.{then-by, access-by, fork-by, firstFrom, firstWires, firstOf, secondFrom, secondWires, secondOf, joinFrom, joinOf}
@@ -34,8 +33,8 @@ module _ (ins : Inputs) (ρ : Assign) (o : ρ 1 ≡ true) (bs : List ℕ) (h : H
   abbrev pub Deadens : ℕ → Wires → Stretch → Type 0
   Deadens g s x = Models ins ρ g (x .nodes) → lit ρ (s .arrival) ≡ false → lit ρ (x .wires .arrival) ≡ false
 
-  access-dead : (g i array : ℕ) (s : Wires) (m : Models ins ρ g (accessNodes g (bitsOf bs s i) (arraySize bs h array) (width bs i) (s .arrival)))
-      → lit ρ (s .arrival) ≡ false → lit ρ (accessArrival g (bitsOf bs s i) (arraySize bs h array) (width bs i)) ≡ false
+  access-dead : (g i array : ℕ) (s : Wires) (m : Models ins ρ g (passed bs h g array i s .nodes))
+      → lit ρ (s .arrival) ≡ false → lit ρ (passed bs h g array i s .wires .arrival) ≡ false
   access-dead g i array s m f = rw f at (access-lit ins ρ g (bitsOf bs s i) (arraySize bs h array) (width bs i) (s .arrival) m)
 
   pub simple-dead : (g : ℕ) (c : Simple) (k : Counts) (s : Wires) → Deadens g s (simple bs h t g c k s)
@@ -45,10 +44,10 @@ module _ (ins : Inputs) (ρ : Assign) (o : ρ 1 ≡ true) (bs : List ℕ) (h : H
   simple-dead g (Simple.Compute op d a b) k s = λ m f. f
   simple-dead g (Simple.Read d array i) k s =
       access-by (Deadens g s) bs h t g array i k s (readInto bs h d k) (λ e m f. f)
-      (λ e m f. access-dead g i array s (models-append ins ρ g (accessNodes g (bitsOf bs s i) (arraySize bs h array) (width bs i) (s .arrival)) _ m .0) f)
+      (λ e m f. access-dead g i array s (models-append ins ρ g (passed bs h g array i s .nodes) _ m .0) f)
   simple-dead g (Simple.Write array i a) k s =
       access-by (Deadens g s) bs h t g array i k s (λ g₁. still) (λ e m f. f)
-      (λ e m f. access-dead g i array s (models-append ins ρ g (accessNodes g (bitsOf bs s i) (arraySize bs h array) (width bs i) (s .arrival)) _ m .0) f)
+      (λ e m f. access-dead g i array s (models-append ins ρ g (passed bs h g array i s .nodes) _ m .0) f)
 
   -- both ways out of an if
   both-dead : (a b : Bool) → a ≡ false → b ≡ false → (a || b) ≡ false
@@ -63,9 +62,9 @@ module _ (ins : Inputs) (ρ : Assign) (o : ρ 1 ≡ true) (bs : List ℕ) (h : H
         let g₃ = secondFrom bs h d g c s first second in
         let g₄ = joinFrom bs h d g c s first second in
         let j = joinOf bs h d g c s first second in
-        let cn = conditionNodes bs g c s in
-        let l = conditionLit bs g c in
-        let bn = branchNodes d (s .arrival) l in
+        let cn = conditionOf bs g c s .nodes in
+        let l = conditionOf bs g c s .lit in
+        let bn = arrivals d (g + length cn) (s .arrival) l .nodes in
         fork-by bs h d g c s first second (Deadens g s)
         (λ e m f.
         let p = models-three ins ρ g cn bn (x .nodes) m in

@@ -26,8 +26,8 @@ use Rattle.inputs.specs.declared.Listed.{Listed}
 use Rattle.machine.specs.declared.Lies.{Lies}
 use Rattle.machine.specs.declared.State.{State}
 use Rattle.course.specs.declared.Course.{Course}
-use Rattle.netlist.specs.Node.{Node}
-use Rattle.clauses.specs.Meaning.{Assign, lit}
+use Rattle.netlist.specs.declared.Node.{Node}
+use Rattle.cnf.specs.Meaning.{Assign, lit}
 use Rattle.netlist.specs.Meaning.{Inputs}
 use Rattle.netlist.specs.Inner.Value.{nodeVal}
 use Rattle.netlist.proofs.Literals.{lit-true}

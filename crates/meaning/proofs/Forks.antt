@@ -21,14 +21,14 @@ use Rattle.run.specs.Run.{took}
 use Rattle.machine.specs.declared.State.{State}
 use Rattle.course.specs.Course.{follows, course}
 use Rattle.course.specs.declared.Course.{Course}
-use Rattle.clauses.specs.Meaning.{Assign, lit}
+use Rattle.cnf.specs.Meaning.{Assign, lit}
 use Rattle.netlist.specs.Meaning.{Inputs}
 use Rattle.netlist.proofs.Truth.{Models, models-append}
-use Rattle.bits.proofs.Values.{value}
-use Rattle.relations.proofs.Relating.{relation-value}
+use Rattle.arithmetic.proofs.Values.{value}
+use Rattle.comparison.proofs.Relating.{relation-value}
 use Rattle.wires.specs.Wires.{Wires, bitsOf, arriving, isMade}
 use Rattle.wiring.specs.Command.{Stretch}
-use Rattle.branching.specs.Branch.{conditionNodes, conditionLit, branchNodes, firstLit, elseLit, joined}
+use Rattle.branching.specs.Branch.{conditionOf, arrivals, joined}
 use Rattle.meaning.specs.Walk.{forked}
 use Rattle.meaning.specs.Faithful.{bitsOfList}
 use Rattle.wires.specs.declared.Claim.{Claim}
@@ -60,8 +60,8 @@ module _ (bs ins : List ℕ) (h : Header) (fine : Fine bs h) (t : Target) (ds : 
   I = bitsOfList ins
 
   -- the condition's literal
-  condition-says : (g : ℕ) (c : Condition) (s : Wires) (r : State) → SoundIf bs h c → Models I ρ g (conditionNodes bs g c s)
-      → Worth bs h fine ρ (s .lits) (r .values) → lit ρ (conditionLit bs g c) ≡ holds bs c r
+  condition-says : (g : ℕ) (c : Condition) (s : Wires) (r : State) → SoundIf bs h c → Models I ρ g (conditionOf bs g c s .nodes)
+      → Worth bs h fine ρ (s .lits) (r .values) → lit ρ (conditionOf bs g c s .lit) ≡ holds bs c r
   unfolding holds
   condition-says g c s r q m w =
       let f = condition-fine bs h c q in
@@ -143,7 +143,7 @@ module _ (bs ins : List ℕ) (h : Header) (fine : Fine bs h) (t : Target) (ds : 
     d = entry ds n
 
     abbrev l : ℕ
-    l = conditionLit bs g c
+    l = conditionOf bs g c s .lit
 
     abbrev x : Stretch
     x = firstOf bs h d g c s first second
@@ -177,10 +177,10 @@ module _ (bs ins : List ℕ) (h : Header) (fine : Fine bs h) (t : Target) (ds : 
     Fork-models = Models I ρ g (forked bs h d g c s first second .nodes)
 
     abbrev Condition-models : Type 0
-    Condition-models = Models I ρ g (conditionNodes bs g c s)
+    Condition-models = Models I ρ g (conditionOf bs g c s .nodes)
 
     abbrev Branch-models : Type 0
-    Branch-models = Models I ρ g₁ (branchNodes d (s .arrival) l)
+    Branch-models = Models I ρ g₁ (arrivals d g₁ (s .arrival) l .nodes)
 
     -- by where the claim was made, with the models of the parts
     by-claim : (P : Wires → Type 0)
@@ -191,8 +191,8 @@ module _ (bs ins : List ℕ) (h : Header) (fine : Fine bs h) (t : Target) (ds : 
         → isMade (x .wires .claim) ≡ false → isMade (y .wires .claim) ≡ false → P (j .wires))
         → Models I ρ g (forked bs h d g c s first second .nodes) → P (forked bs h d g c s first second .wires)
     by-claim P p q k =
-        let cn = conditionNodes bs g c s in
-        let bn = branchNodes d (s .arrival) l in
+        let cn = conditionOf bs g c s .nodes in
+        let bn = arrivals d g₁ (s .arrival) l .nodes in
         fork-by bs h d g c s first second (λ (z : Stretch). Models I ρ g (z .nodes) → P (z .wires))
         (λ e m. let u = models-three I ρ g cn bn (x .nodes) m in p (u .0) (u .1) (u .2) e)
         (λ e f m.
@@ -264,7 +264,7 @@ module _ (bs ins : List ℕ) (h : Header) (fine : Fine bs h) (t : Target) (ds : 
           (λ cm bm xm ym jm p p₁. joined-first g₄ l (x .wires) (y .wires) jm c₁ (z₁ .state) (says cm ∙ e) (else-dead cm bm ym) first-places p (tally cm bm xm))
         where
           tally : Condition-models → Branch-models → Models I ρ g₂ (x .nodes) → Tally bs h fine t ds ρ (x .wires) c₁ (z₁ .state)
-          tally cm bm xm = arms .one g₂ s₁ (take r n 0) xm (alive-at (firstLit d g₁) 0 (first-come cm bm ∙ ap₂ (λ (p v : Bool). cond p false v) q e))
+          tally cm bm xm = arms .one g₂ s₁ (take r n 0) xm (alive-at (arrivals d g₁ (s .arrival) l .first) 0 (first-come cm bm ∙ ap₂ (λ (p v : Bool). cond p false v) q e))
 
       first-run : Fork-models → Tallies bs h fine t ds ρ (forked bs h d g c s first second) (run.after (took n 0 before ∷ []) z₁)
       unfolding course
@@ -311,7 +311,7 @@ module _ (bs ins : List ℕ) (h : Header) (fine : Fine bs h) (t : Target) (ds : 
           tally : isMade (x .wires .claim) ≡ false → Condition-models → Branch-models → Models I ρ g₃ (y .nodes) → Tally bs h fine t ds ρ (y .wires) c₂ (z₂ .state)
           tally u cm bm ym =
               arms .two g₂ s₁ (a .unclaimed) u g₃ s₂ (take r n 1) ym
-              (alive-at (elseLit d g₁ (s .arrival) l) 1 (else-come cm bm ∙ ap₂ (λ (p v : Bool). cond p false (not v)) q e))
+              (alive-at (arrivals d g₁ (s .arrival) l .second) 1 (else-come cm bm ∙ ap₂ (λ (p v : Bool). cond p false (not v)) q e))
 
       else-run : Fork-models → Tallies bs h fine t ds ρ (forked bs h d g c s first second) (run.after (took n 1 before ∷ []) z₂)
       unfolding course

@@ -19,32 +19,34 @@ use Rattle.command.specs.declared.Simple.{Simple}
 use Rattle.routine.proofs.Views.{induction}
 use Rattle.faults.proofs.Fine.{convert-fine, compute-fine, read-fine, write-fine, condition-fine}
 use Rattle.netlist.specs.Literal.{opp, pos}
-use Rattle.netlist.specs.Node.{Node, one, and}
+use Rattle.netlist.specs.declared.Node.{Node}
+use Rattle.netlist.specs.declared.Node.the-variants.{One, And}
 use Rattle.netlist.proofs.Model.{Before, WellFormed}
 use Rattle.netlist.proofs.Formed.{before-later, before-opp, before-pos, before-neg, formed-append}
-use Rattle.bits.specs.Bits.{Bits}
-use Rattle.adders.specs.Adder.{adder, subtractor, sumBit, oppBits}
-use Rattle.circuits.specs.Product.{product, accBit}
-use Rattle.bits.specs.Extend.{constBit}
-use Rattle.bits.specs.Input.{inputs, inBit}
-use Rattle.relations.specs.Access.{aboveNodes, aboveLit}
-use Rattle.bits.proofs.Values.{AllBefore}
-use Rattle.adders.proofs.Adder.{length-adder, adder-formed, subtractor-formed, sum-before}
-use Rattle.circuits.proofs.Product.{product-formed, product-before}
-use Rattle.bits.proofs.Extend.{const-before, extend-before}
-use Rattle.bits.proofs.Input.{length-inputs, inputs-formed, input-before}
-use Rattle.relations.proofs.Access.{above-formed, above-before}
-use Rattle.relations.proofs.Relating.{relation-formed, relation-before}
+use Rattle.arithmetic.specs.Bits.{Bits}
+use Rattle.arithmetic.specs.Adder.{adder, sum, difference, sumBit, oppBits}
+use Rattle.arithmetic.specs.Circuit.{Predicate, Number, never, nothing}
+use Rattle.arithmetic.specs.Product.{product}
+use Rattle.arithmetic.specs.Extend.{constBit, extend}
+use Rattle.arithmetic.specs.Input.{inputs, inBit}
+use Rattle.comparison.specs.Access.{above}
+use Rattle.arithmetic.proofs.Values.{AllBefore}
+use Rattle.arithmetic.proofs.Adder.{length-adder, adder-formed, subtractor-formed, sum-before}
+use Rattle.arithmetic.proofs.Product.{product-formed, product-before}
+use Rattle.arithmetic.proofs.Extend.{const-before, extend-before}
+use Rattle.arithmetic.proofs.Input.{length-inputs, inputs-formed, input-before}
+use Rattle.comparison.proofs.Access.{above-formed, above-before}
+use Rattle.comparison.proofs.Relating.{relation-formed, relation-before}
 use Rattle.wires.specs.Wires.{Wires, bitsPut, bitsOf, put, arriving}
 use Rattle.wiring.specs.Command.{Stretch, after, still, access, readInto, simple}
-use Rattle.operands.specs.Operation.{convertBits, computeNodes, computeBits}
-use Rattle.indexes.specs.Index.{top, accessNodes, accessArrival, claimNodes, claimLit}
+use Rattle.wiring.specs.Operation.{conversion, computation}
+use Rattle.indexes.specs.Index.{top, passing, claim}
 use Rattle.meaning.specs.Walk.{andThen, forked, armOf}
-use Rattle.branching.specs.Branch.{conditionNodes, conditionLit, armNodes, armLit, branchNodes, firstLit, elseLit}
+use Rattle.branching.specs.Branch.{Arrivals, conditionOf, armArrival, arrivals}
 use Rattle.meaning.specs.Translation.{parameterNodes, parameterLits, start, whole}
 use Rattle.wires.specs.declared.Claim.{Claim}
 use Rattle.lead.specs.declared.Target.{Target}
-use Rattle.meaning.proofs.Stretches.{by-cond, then-by, access-by, fork-by, firstFrom, firstWires, firstOf, secondFrom, secondWires, secondOf, joinFrom, joinOf}
+use Rattle.meaning.proofs.Stretches.{then-by, access-by, fork-by, firstFrom, firstWires, firstOf, secondFrom, secondWires, secondOf, joinFrom, joinOf}
 use Rattle.meaning.proofs.Wired.{Held, Named, Wired, Made, held-later, named-later, wired-later, wired-arriving, made-after, held-put, wired-put, wide, var-bits, joined-made}
 
 module _ (bs : List ℕ) (h : Header) (fine : Fine bs h) where
@@ -53,62 +55,70 @@ module _ (bs : List ℕ) (h : Header) (fine : Fine bs h) where
   still-made : (g : ℕ) (s : Wires) → Wired g s → Made g (still s)
   still-made g s w = record { formed = tt; wired = wired-later (g + 0) (omega arith) w }
 
-  convert-before : (op g : ℕ) (a : Bits) (w v : ℕ) → 0 < w → 1 < g → AllBefore g a w → AllBefore g (convertBits op w a) v
-  convert-before op g a w v z o f =
-      extend-before g a w (cond (eqb op 0x08) (a (w - 1)) 3) v f
-      (by-cond (Before g) (eqb op 0x08) (a (w - 1)) 3 (λ e. f (w - 1) (omega arith)) (λ e. before-neg g 1 (omega arith) o))
-
-  -- the gates of a sum, a difference or a product, and their bits
-  record Computed (g w : ℕ) (ns : List Node) (r : Bits) : Type 0 where
-    gates : WellFormed g ns
-    bits : AllBefore (g + length ns) r w
-
-  compute-made : (op g : ℕ) (a b : Bits) (w : ℕ) → 1 < g → AllBefore g a w → AllBefore g b w → Computed g w (computeNodes op g a b w) (computeBits op g w)
-  unfolding computeNodes computeBits
-  compute-made op g a b w z ha hb = pick (eqb op 0x03) (eqb op 0x04)
+  convert-before : (op g : ℕ) (a : Bits) (w v : ℕ) → 0 < w → 1 < g → AllBefore g a w → AllBefore g (conversion op a w) v
+  unfolding conversion
+  convert-before op g a w v z o f = pick (eqb op 0x02) (eqb op 0x06) (eqb op 0x07) (eqb op 0x08)
     where
-      sums : (c : ℕ) (e : Bits) → WellFormed g (adder g a e c w) → Computed g w (adder g a e c w) (sumBit g)
+      falsity : Before g 3
+      falsity = before-neg g 1 (omega arith) o
+
+      pick : (p q r x : Bool)
+          → AllBefore g (cond p (extend a w 3) (cond q (extend a w 3) (cond r (extend a w 3) (cond x (extend a w (top a w)) (nothing .bits))))) v
+      pick true q r x = extend-before g a w 3 v f falsity
+      pick false true r x = extend-before g a w 3 v f falsity
+      pick false false true x = extend-before g a w 3 v f falsity
+      pick false false false true = extend-before g a w (top a w) v f (f (w - 1) (omega arith))
+      pick false false false false = λ j l. falsity
+
+  -- the gates of a number whose first variable is g, and its first w bits
+  record Numbered (g w : ℕ) (x : Number) : Type 0 where
+    gates : WellFormed g (x .nodes)
+    bits : AllBefore (g + length (x .nodes)) (x .bits) w
+
+  compute-made : (op g : ℕ) (a b : Bits) (w : ℕ) → 1 < g → AllBefore g a w → AllBefore g b w → Numbered g w (computation op g a b w)
+  unfolding computation
+  compute-made op g a b w z ha hb = pick (eqb op 0x03) (eqb op 0x04) (eqb op 0x05)
+    where
+      sums : (c : ℕ) (e : Bits) → WellFormed g (adder g a e c w) → Numbered g w (record { nodes = adder g a e c w; bits = sumBit g })
       sums c e f =
           record { gates = f; bits = subst (λ (n : ℕ). AllBefore (g + n) (sumBit g) w) (sym (length-adder g a e c w)) (sum-before g w (omega arith)) }
 
-      pick : (p q : Bool) → Computed g w (cond p (adder g a b 3 w) (cond q (subtractor g a b w) (product g a b w w))) (cond p (sumBit g) (cond q (sumBit g) (accBit g w w)))
-      pick true q = sums 3 b (adder-formed g a b 3 w (omega arith) ha hb (before-neg g 1 (omega arith) z))
-      pick false true = sums 2 (oppBits b) (subtractor-formed g a b w z ha hb)
-      pick false false = record { gates = product-formed g a b w w z (omega arith) ha hb; bits = product-before g a b w z }
+      pick : (p q r : Bool) → Numbered g w (cond p (sum g a b w) (cond q (difference g a b w) (cond r (product g a b w) nothing)))
+      pick true q r = sums 3 b (adder-formed g a b 3 w (omega arith) ha hb (before-neg g 1 (omega arith) z))
+      pick false true r = sums 2 (oppBits b) (subtractor-formed g a b w z ha hb)
+      pick false false true = record { gates = product-formed g a b w w z (omega arith) ha hb; bits = product-before g a b w z }
+      pick false false false = record { gates = tt; bits = λ j l. before-neg (g + 0) 1 (omega arith) (omega arith) }
+
+  -- the gates of a predicate whose first variable is g, and its literal
+  record Decided (g : ℕ) (x : Predicate) : Type 0 where
+    gates : WellFormed g (x .nodes)
+    literal : Before (g + length (x .nodes)) (x .lit)
 
   -- an access that is not the named one
-  record Accessed (g : ℕ) (ns : List Node) (l : ℕ) : Type 0 where
-    gates : WellFormed g ns
-    arrival : Before (g + length ns) l
-
-  access-made : (g : ℕ) (a : Bits) (size w arrival : ℕ) → 0 < w → 1 < g → AllBefore g a w → Before g arrival
-      → Accessed g (accessNodes g a size w arrival) (accessArrival g a size w)
-  unfolding accessNodes accessArrival
-  access-made g a size w arrival z o f b =
-      let ns : List Node = aboveNodes g a size w in
-      let k : ℕ = g + length ns in
-      let ms : List Node = and (opp (top a w)) (opp (aboveLit g size w)) ∷ and arrival (pos k) ∷ [] in
-      let e = length-append ns ms in
+  passing-made : (g : ℕ) (a : Bits) (size w arrival : ℕ) → 0 < w → 1 < g → AllBefore g a w → Before g arrival → Decided g (passing g a size w arrival)
+  unfolding passing
+  passing-made g a size w arrival z o f b =
+      let x : Predicate = above g a size w in
+      let k : ℕ = g + length (x .nodes) in
+      let ms : List Node = And (opp (top a w)) (opp (x .lit)) ∷ And arrival (pos k) ∷ [] in
+      let e = length-append (x .nodes) ms in
       record {
-        gates = formed-append g ns ms (above-formed g a size w z o f) (
-          (before-later k (omega arith) (before-opp (f (w - 1) (omega arith))), before-opp (above-before g a size w z o)),
+        gates = formed-append g (x .nodes) ms (above-formed g a size w o f) (
+          (before-later k (omega arith) (before-opp (f (w - 1) (omega arith))), before-opp (above-before g a size w o)),
           ((before-later (suc k) (omega arith) b, before-pos (suc k) k (omega arith) (omega arith)), tt),
         );
-        arrival = before-pos _ (k + 1) (omega arith) (omega arith);
+        literal = before-pos _ (k + 1) (omega arith) (omega arith);
       }
 
-  claim-before : (side g : ℕ) (a : Bits) (size w : ℕ) → 0 < w → 1 < g → AllBefore g a w → Before (g + length (claimNodes side g a size w)) (claimLit side g a size w)
-  unfolding claimNodes claimLit
-  claim-before side g a size w z o f = pick (eqb side 1)
+  -- the named one
+  claim-made : (side g : ℕ) (a : Bits) (size w : ℕ) → 0 < w → 1 < g → AllBefore g a w → Decided g (claim side g a size w)
+  unfolding claim
+  claim-made side g a size w z o f = pick (eqb side 0) (eqb side 1)
     where
-      pick : (b : Bool) → Before (g + length (cond b (aboveNodes g a size w) [])) (cond b (aboveLit g size w) (top a w))
-      pick true = above-before g a size w z o
-      pick false = before-later (g + 0) (omega arith) (f (w - 1) (omega arith))
-
-  claim-formed : (side g : ℕ) (a : Bits) (size w : ℕ) → 0 < w → 1 < g → AllBefore g a w → WellFormed g (claimNodes side g a size w)
-  unfolding claimNodes
-  claim-formed side g a size w z o f =
-      by-cond (WellFormed g) (eqb side 1) (aboveNodes g a size w) [] (λ e. above-formed g a size w z o f) (λ e. tt)
+      pick : (p q : Bool) → Decided g (cond p (record { nodes = []; lit = top a w }) (cond q (above g a size w) never))
+      pick true q = record { gates = tt; literal = before-later (g + 0) (omega arith) (f (w - 1) (omega arith)) }
+      pick false true = record { gates = above-formed g a size w o f; literal = above-before g a size w o }
+      pick false false = record { gates = tt; literal = before-neg (g + 0) 1 (omega arith) (omega arith) }
 
   module _ (t : Target) where
     -- an access, and what goes on after it
@@ -119,17 +129,18 @@ module _ (bs : List ℕ) (h : Header) (fine : Fine bs h) where
         let size : ℕ = arraySize bs h array in
         let v : ℕ = width bs i in
         let b = var-bits bs h fine g s w i l in
-        let ns : List Node = accessNodes g a size v (s .arrival) in
-        let u : Wires = arriving s (accessArrival g a size v) in
-        let p = access-made g a size v (s .arrival) (wide bs h fine i l) (w .some) b (w .arrival) in
+        let x : Predicate = passing g a size v (s .arrival) in
+        let n : ℕ = g + length (x .nodes) in
+        let u : Wires = arriving s (x .lit) in
+        let p = passing-made g a size v (s .arrival) (wide bs h fine i l) (w .some) b (w .arrival) in
+        let c = claim-made (t .side) g a size v (wide bs h fine i l) (w .some) b in
         access-by (Made g) bs h t g array i k s go
         (λ e. record {
-          formed = claim-formed (t .side) g a size v (wide bs h fine i l) (w .some) b;
-          wired = let q = wired-later {s = s} (g + length (claimNodes (t .side) g a size v)) (omega arith) w in
-              record { some = q .some; held = q .held; arrival = q .arrival; claim = (q .arrival, claim-before (t .side) g a size v (wide bs h fine i l) (w .some) b) };
+          formed = c .gates;
+          wired = let q = wired-later {s = s} (g + length (claim (t .side) g a size v .nodes)) (omega arith) w in
+              record { some = q .some; held = q .held; arrival = q .arrival; claim = (q .arrival, c .literal) };
         })
-        (λ e. made-after g ns (go (g + length ns) u) (p .gates)
-        (f (g + length ns) u (wired-arriving {s = s} (accessArrival g a size v) (wired-later {s = s} (g + length ns) (omega arith) w) (p .arrival))))
+        (λ e. made-after g (x .nodes) (go n u) (p .gates) (f n u (wired-arriving {s = s} (x .lit) (wired-later {s = s} n (omega arith) w) (p .literal))))
 
     read-made : (d : ℕ) (k : Counts) (g : ℕ) (s : Wires) → Wired g s → Made g (readInto bs h d k g s)
     read-made d k g s w =
@@ -146,7 +157,7 @@ module _ (bs : List ℕ) (h : Header) (fine : Fine bs h) where
     simple-made g (Simple.Set d c) k s q w = still-made g (put bs s d (constBit c)) (wired-put bs g s w d (constBit c) (const-before g c (width bs d) (w .some)))
     simple-made g (Simple.Convert op d a) k s q w =
         let p = convert-fine bs h op d a q in
-        let f : Bits = convertBits op (width bs a) (bitsOf bs s a) in
+        let f : Bits = conversion op (bitsOf bs s a) (width bs a) in
         still-made g (put bs s d f)
         (wired-put bs g s w d f (convert-before op g (bitsOf bs s a) (width bs a) (width bs d) (wide bs h fine a (p .1)) (w .some) (var-bits bs h fine g s w a (p .1))))
     simple-made g (Simple.Compute op d a b) k s q w =
@@ -155,7 +166,7 @@ module _ (bs : List ℕ) (h : Header) (fine : Fine bs h) where
         let y = bitsOf bs s b in
         let m = compute-made op g x y (width bs d) (w .some)
         (subst (AllBefore g x) (sym (p .3)) (var-bits bs h fine g s w a (p .1))) (subst (AllBefore g y) (sym (p .4)) (var-bits bs h fine g s w b (p .2))) in
-        record { formed = m .gates; wired = wired-put bs _ s (wired-later _ (omega arith) w) d (computeBits op g (width bs d)) (m .bits) }
+        record { formed = m .gates; wired = wired-put bs _ s (wired-later _ (omega arith) w) d (computation op g x y (width bs d) .bits) (m .bits) }
     simple-made g (Simple.Read d array i) k s q w =
         at-access g array i k s (readInto bs h d k) (read-fine bs h d array i q .2) w (read-made d k)
     simple-made g (Simple.Write array i a) k s q w =
@@ -163,26 +174,30 @@ module _ (bs : List ℕ) (h : Header) (fine : Fine bs h) where
 
     -- ---- ifs
 
-    record Branched (g : ℕ) (ns : List Node) (x y : ℕ) : Type 0 where
-      gates : WellFormed g ns
-      first : Before (g + length ns) x
-      else : Before (g + length ns) y
+    -- the gates of both arrivals, and their literals
+    record Arriving (g : ℕ) (x : Arrivals) : Type 0 where
+      gates : WellFormed g (x .nodes)
+      first : Before (g + length (x .nodes)) (x .first)
+      second : Before (g + length (x .nodes)) (x .second)
 
-    branch-made : (d g arrival c : ℕ) → 1 < g → Before g arrival → Before g c
-        → Branched g (branchNodes d arrival c) (firstLit d g) (elseLit d g arrival c)
-    branch-made d g arrival c z a b = pick (eqb d 1) (eqb d 0)
+    arrivals-made : (d g arrival c : ℕ) → 1 < g → Before g arrival → Before g c → Arriving g (arrivals d g arrival c)
+    arrivals-made d g arrival c z a b = pick (eqb d 1) (eqb d 0)
       where
         falsity : (k : ℕ) → 1 < k → Before k 3
         falsity k l = before-neg k 1 (omega arith) l
 
-        pick : (p q : Bool) → Branched g (armNodes p arrival c ++ armNodes q arrival (opp c)) (armLit p g) (armLit q (g + length (armNodes p arrival c)))
-        pick true true = record { gates = tt; first = falsity _ (omega arith); else = falsity _ (omega arith) }
-        pick true false = record { gates = ((before-later _ (omega arith) a, before-opp b), tt); first = falsity _ (omega arith); else = before-pos _ _ (omega arith) (omega arith) }
-        pick false true = record { gates = ((a, b), tt); first = before-pos _ _ (omega arith) (omega arith); else = falsity _ (omega arith) }
+        pick : (p q : Bool) → Arriving g (record {
+          nodes = armArrival p g arrival c .nodes ++ armArrival q (g + length (armArrival p g arrival c .nodes)) arrival (opp c) .nodes;
+          first = armArrival p g arrival c .lit;
+          second = armArrival q (g + length (armArrival p g arrival c .nodes)) arrival (opp c) .lit;
+        })
+        pick true true = record { gates = tt; first = falsity _ (omega arith); second = falsity _ (omega arith) }
+        pick true false = record { gates = ((before-later _ (omega arith) a, before-opp b), tt); first = falsity _ (omega arith); second = before-pos _ _ (omega arith) (omega arith) }
+        pick false true = record { gates = ((a, b), tt); first = before-pos _ _ (omega arith) (omega arith); second = falsity _ (omega arith) }
         pick false false = record {
           gates = ((a, b), ((before-later _ (omega arith) a, before-later _ (omega arith) (before-opp b)), tt));
           first = before-pos _ _ (omega arith) (omega arith);
-          else = before-pos _ _ (omega arith) (omega arith);
+          second = before-pos _ _ (omega arith) (omega arith);
         }
 
     made-front : (g : ℕ) (a b : List Node) (x : Stretch) → WellFormed g a → WellFormed (g + length a) b → Made (g + length a + length b) x
@@ -201,13 +216,13 @@ module _ (bs : List ℕ) (h : Header) (fine : Fine bs h) where
           let v = width bs (c .s) in
           let a = var-bits bs h fine g s w (c .s) (f .1) in
           let b = subst (AllBefore g (bitsOf bs s (c .t))) (sym (f .3)) (var-bits bs h fine g s w (c .t) (f .2)) in
-          let cn = conditionNodes bs g c s in
-          let l = conditionLit bs g c in
+          let cn = conditionOf bs g c s .nodes in
+          let l = conditionOf bs g c s .lit in
           let k₁ : ℕ = g + length cn in
           let cf : WellFormed g cn = relation-formed (c .relation) g (bitsOf bs s (c .s)) (bitsOf bs s (c .t)) v (w .some) a b in
           let lb : Before k₁ l = relation-before (c .relation) g (bitsOf bs s (c .s)) (bitsOf bs s (c .t)) v (wide bs h fine (c .s) (f .1)) (w .some) in
-          let bn = branchNodes d (s .arrival) l in
-          let br = branch-made d k₁ (s .arrival) l (omega (arith, w .some)) (before-later k₁ (omega arith) (w .arrival)) lb in
+          let bn = arrivals d k₁ (s .arrival) l .nodes in
+          let br = arrivals-made d k₁ (s .arrival) l (omega (arith, w .some)) (before-later k₁ (omega arith) (w .arrival)) lb in
           let x = firstOf bs h d g c s first second in
           let y = secondOf bs h d g c s first second in
           let j = joinOf bs h d g c s first second in
@@ -217,7 +232,7 @@ module _ (bs : List ℕ) (h : Header) (fine : Fine bs h) where
           let s₁ = firstWires bs h d g c s first second in
           let s₂ = secondWires bs h d g c s first second in
           let m₁ : Made g₂ x = one g₂ s₁ (wired-arriving {s = s} _ (wired-later {s = s} g₂ (omega arith) w) (br .first)) in
-          let m₂ : Made g₃ y = two g₃ s₂ (wired-arriving {s = s} _ (wired-later {s = s} g₃ (omega arith) w) (before-later g₃ (omega arith) (br .else))) in
+          let m₂ : Made g₃ y = two g₃ s₂ (wired-arriving {s = s} _ (wired-later {s = s} g₃ (omega arith) w) (before-later g₃ (omega arith) (br .second))) in
           fork-by bs h d g c s first second (Made g)
           (λ e. made-front g cn bn x cf (br .gates) m₁)
           (λ e e₁. made-front g cn bn (after (x .nodes) y) cf (br .gates) (made-after g₂ (x .nodes) y (m₁ .formed) m₂))
@@ -296,5 +311,5 @@ module _ (bs : List ℕ) (h : Header) (fine : Fine bs h) where
           let ns : List Node = parameterNodes bs (h .parameters) in
           let x : Stretch = armOf bs h t ds a wholeFrom (start bs (h .parameters)) in
           let z = length-append ns (x .nodes) in
-          subst (Named (1 + length (one ∷ (ns ++ x .nodes)))) e
-          (named-later (1 + length (one ∷ (ns ++ x .nodes))) (x .wires .claim) (omega arith) (commands-made .wired .claim))
+          subst (Named (1 + length (One ∷ (ns ++ x .nodes)))) e
+          (named-later (1 + length (One ∷ (ns ++ x .nodes))) (x .wires .claim) (omega arith) (commands-made .wired .claim))

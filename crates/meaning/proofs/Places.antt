@@ -8,8 +8,8 @@ use native.Mathlib.Omega.{arith}
 use lib.ListN.{length, getD, set, length-set}
 use lib.Seq.{sets, length-sets, getD-set-same, getD-set-other, getD-take, getD-drop}
 use Rattle.header.specs.Header.{width}
-use Rattle.bits.specs.Bits.{Bits, tabulate}
-use Rattle.bits.proofs.Values.{order, length-tabulate, getD-tabulate}
+use Rattle.arithmetic.specs.Bits.{Bits, tabulate}
+use Rattle.arithmetic.proofs.Values.{order, length-tabulate, getD-tabulate}
 use Rattle.wires.specs.Wires.{bitsIn, bitsPut}
 
 -- ---- a list laid over another, from place i on

@@ -12,14 +12,14 @@ use Rattle.machine.specs.State.{lies}
 use Rattle.machine.specs.declared.Lies.{Lies}
 use Rattle.machine.specs.declared.Side.{Side}
 use Rattle.machine.specs.declared.Side.the-variants.{Below, Above}
-use Rattle.clauses.specs.Meaning.{Assign, lit}
+use Rattle.cnf.specs.Meaning.{Assign, lit}
 use Rattle.netlist.specs.Meaning.{Inputs}
 use Rattle.netlist.proofs.Truth.{Models}
-use Rattle.bits.specs.Bits.{Bits}
-use Rattle.relations.specs.Access.{aboveNodes, aboveLit}
-use Rattle.bits.proofs.Values.{not-less, value, value-lt, top-value}
-use Rattle.relations.proofs.Access.{above-value}
-use Rattle.indexes.specs.Index.{top, claimNodes, claimLit}
+use Rattle.arithmetic.specs.Bits.{Bits}
+use Rattle.comparison.specs.Access.{above}
+use Rattle.arithmetic.proofs.Values.{not-less, value, value-lt, top-value}
+use Rattle.comparison.proofs.Access.{above-value}
+use Rattle.indexes.specs.Index.{top, claim}
 use Rattle.machine.specs.Side.{sideOf}
 
 -- not negative and below the size, at or above it, or negative: p says that the index is not negative, q that it is not below the size
@@ -70,14 +70,14 @@ module _ (ins : Inputs) (ρ : Assign) (o : ρ 1 ≡ true) (a : Bits) (size w : �
   lies-says = lies-placed w index size (value-lt ρ a w)
 
   -- inside: not below and not above
-  pub inside-says : (g : ℕ) → Models ins ρ g (aboveNodes g a size w)
-      → Entered (lies size (signed w index)) (not (lit ρ (top a w)) && not (lit ρ (aboveLit g size w)))
+  pub inside-says : (g : ℕ) → Models ins ρ g (above g a size w .nodes)
+      → Entered (lies size (signed w index)) (not (lit ρ (top a w)) && not (lit ρ (above g a size w .lit)))
   inside-says g m = rw (lies-says, top-says, above-value ins ρ g a size w z o m) (entered-placed natural (leb size index))
 
   -- the literal of the side
-  pub side-says : (side g : ℕ) → side ≤ 1 → Models ins ρ g (claimNodes side g a size w)
-      → (lit ρ (claimLit side g a size w) ≡ true) ↔ (lies size (signed w index) ≡ Lies.Outside (sideOf side))
-  unfolding claimNodes claimLit
+  pub side-says : (side g : ℕ) → side ≤ 1 → Models ins ρ g (claim side g a size w .nodes)
+      → (lit ρ (claim side g a size w .lit) ≡ true) ↔ (lies size (signed w index) ≡ Lies.Outside (sideOf side))
+  unfolding claim
   side-says zero g l m = rw (lies-says, top-says) (below-placed natural (leb size index))
   side-says (suc zero) g l m = rw (lies-says, above-value ins ρ g a size w z o m) (above-placed natural (leb size index))
   side-says (suc (suc n)) g l m = absurd (omega arith)

@@ -27,24 +27,26 @@ use Rattle.machine.specs.declared.Outcome.{Outcome}
 use Rattle.machine.specs.declared.State.{State}
 use Rattle.course.specs.Course.{course}
 use Rattle.course.specs.declared.Course.{Course}
-use Rattle.netlist.specs.Node.{Node}
-use Rattle.clauses.specs.Meaning.{Assign, lit}
+use Rattle.netlist.specs.declared.Node.{Node}
+use Rattle.cnf.specs.Meaning.{Assign, lit}
 use Rattle.netlist.specs.Meaning.{Inputs}
+use Rattle.netlist.proofs.Literals.{lit-false}
 use Rattle.netlist.proofs.Truth.{Models, models-append}
-use Rattle.bits.specs.Bits.{Bits}
-use Rattle.adders.specs.Adder.{adder, subtractor, sumBit}
-use Rattle.circuits.specs.Product.{product, accBit}
-use Rattle.bits.specs.Extend.{constBit, extend}
-use Rattle.bits.specs.Input.{inBit}
-use Rattle.bits.proofs.Values.{value}
-use Rattle.adders.proofs.Adder.{sum-word, difference-word}
-use Rattle.circuits.proofs.Product.{product-word}
-use Rattle.bits.proofs.Extend.{const-word, cut-word, zero-extend-word, sign-extend-word}
-use Rattle.bits.proofs.Input.{input-word}
+use Rattle.arithmetic.specs.Bits.{Bits}
+use Rattle.arithmetic.specs.Adder.{sum, difference}
+use Rattle.arithmetic.specs.Circuit.{nothing}
+use Rattle.arithmetic.specs.Product.{product}
+use Rattle.arithmetic.specs.Extend.{constBit, extend}
+use Rattle.arithmetic.specs.Input.{inBit}
+use Rattle.arithmetic.proofs.Values.{value, value-zero}
+use Rattle.arithmetic.proofs.Adder.{sum-word, difference-word}
+use Rattle.arithmetic.proofs.Product.{product-word}
+use Rattle.arithmetic.proofs.Extend.{const-word, cut-word, zero-extend-word, sign-extend-word}
+use Rattle.arithmetic.proofs.Input.{input-word}
 use Rattle.wires.specs.Wires.{Wires, bitsOf, put, arriving, claiming}
 use Rattle.wiring.specs.Command.{Stretch, still, access, readInto, simple}
-use Rattle.operands.specs.Operation.{convertBits, computeNodes, computeBits}
-use Rattle.indexes.specs.Index.{accessNodes, accessArrival, claimNodes, claimLit}
+use Rattle.wiring.specs.Operation.{conversion, computation}
+use Rattle.indexes.specs.Index.{top, passing, claim}
 use Rattle.meaning.specs.Faithful.{bitsOfList}
 use Rattle.wires.specs.declared.Claim.{Claim}
 use Rattle.lead.specs.declared.Target.{Target}
@@ -57,47 +59,48 @@ use Rattle.meaning.proofs.Worth.{Worth, put-worth}
 
 -- ---- copy, cut and the extensions
 
--- cut makes no wider, and the others make no narrower
-fits : (op v w : ℕ) (b c : Bool) → eqb op 0x02 ≡ b → eqb op 0x06 ≡ c → cond b (eqb v w) (cond c (ltb v w) (ltb w v)) ≡ true
-    → (c ≡ true → v ≤ w) × (c ≡ false → w ≤ v)
-fits op v w true c e f q = let z = eqb-true v w q in ((λ x. omega arith), (λ x. omega arith))
-fits op v w false true e f q =
-    let z = ltb-true v w q in
-    ((λ x. omega arith), (λ x. let y : _≡_ {A = ℕ} 0 1 = cc in absurd (omega arith)))
-fits op v w false false e f q =
-    let z = ltb-true w v q in
-    ((λ x. let y : _≡_ {A = ℕ} 0 1 = cc in absurd (omega arith)), (λ x. omega arith))
+-- the bits of no number are worth 0
+nothing-worth : (ρ : Assign) → ρ 1 ≡ true → (w : ℕ) → value ρ (nothing .bits) w ≡ 0
+nothing-worth ρ o w = value-zero ρ (nothing .bits) w (λ j l. lit-false ρ o)
 
 pub convert-word : (ρ : Assign) → ρ 1 ≡ true → (op v w : ℕ) (a : Bits) → 0 < w → converts op v w ≡ true
-    → value ρ (convertBits op w a) v ≡ converted op v w (value ρ a w)
-unfolding converted
-convert-word ρ o op v w a z q = pick (eqb op 0x06) (eqb op 0x07) (eqb op 0x08) refl refl refl
+    → value ρ (conversion op a w) v ≡ converted op v w (value ρ a w)
+unfolding converted conversion
+convert-word ρ o op v w a z = pick (eqb op 0x02) (eqb op 0x06) (eqb op 0x07) (eqb op 0x08)
   where
-    f : (eqb op 0x06 ≡ true → v ≤ w) × (eqb op 0x06 ≡ false → w ≤ v)
-    f = fits op v w (eqb op 0x02) (eqb op 0x06) refl refl q
+    x : ℕ
+    x = value ρ a w
 
-    pick : (b c d : Bool) → eqb op 0x06 ≡ b → eqb op 0x07 ≡ c → eqb op 0x08 ≡ d
-        → value ρ (extend a w (cond d (a (w - 1)) 3)) v
-        ≡ cond b (cut v (value ρ a w)) (cond c (zeroExtend (value ρ a w)) (cond d (signExtend v w (value ρ a w)) (value ρ a w)))
-    pick true c d e₁ e₂ e₃ = cut-word ρ a w (cond d (a (w - 1)) 3) v (f .0 e₁)
-    pick false true true e₁ e₂ e₃ = let x = eqb-true op 0x07 e₂ in let y = eqb-true op 0x08 e₃ in absurd (omega arith)
-    pick false true false e₁ e₂ e₃ = zero-extend-word ρ a w v (f .1 e₁) o
-    pick false false true e₁ e₂ e₃ = sign-extend-word ρ a w v z (f .1 e₁)
-    pick false false false e₁ e₂ e₃ = zero-extend-word ρ a w v (f .1 e₁) o
+    -- copy keeps the width, cut makes narrower, and the others make wider
+    pick : (b c d e : Bool) → cond b (eqb v w) (cond c (ltb v w) (ltb w v)) ≡ true
+        → value ρ (cond b (extend a w 3) (cond c (extend a w 3) (cond d (extend a w 3) (cond e (extend a w (top a w)) (nothing .bits))))) v
+        ≡ cond b x (cond c (cut v x) (cond d (zeroExtend x) (cond e (signExtend v w x) 0)))
+    pick true c d e q = let y = eqb-true v w q in zero-extend-word ρ a w v (omega arith) o
+    pick false true d e q = let y = ltb-true v w q in cut-word ρ a w 3 v (omega arith)
+    pick false false true e q = let y = ltb-true w v q in zero-extend-word ρ a w v (omega arith) o
+    pick false false false true q = let y = ltb-true w v q in sign-extend-word ρ a w v z (omega arith)
+    pick false false false false q = nothing-worth ρ o v
 
 -- ---- sum, difference, product
 
-pub compute-word : (ins : Inputs) (ρ : Assign) → ρ 1 ≡ true → (op g : ℕ) (a b : Bits) (w : ℕ) → Models ins ρ g (computeNodes op g a b w)
-    → value ρ (computeBits op g w) w ≡ computed op w (value ρ a w) (value ρ b w)
-unfolding computed computeNodes computeBits
-compute-word ins ρ o op g a b w m = pick (eqb op 0x03) (eqb op 0x04) m
+pub compute-word : (ins : Inputs) (ρ : Assign) → ρ 1 ≡ true → (op g : ℕ) (a b : Bits) (w : ℕ) → Models ins ρ g (computation op g a b w .nodes)
+    → value ρ (computation op g a b w .bits) w ≡ computed op w (value ρ a w) (value ρ b w)
+unfolding computed computation
+compute-word ins ρ o op g a b w = pick (eqb op 0x03) (eqb op 0x04) (eqb op 0x05)
   where
-    pick : (p q : Bool) → Models ins ρ g (cond p (adder g a b 3 w) (cond q (subtractor g a b w) (product g a b w w)))
-        → value ρ (cond p (sumBit g) (cond q (sumBit g) (accBit g w w))) w
-        ≡ cond p (add w (value ρ a w) (value ρ b w)) (cond q (subtract w (value ρ a w) (value ρ b w)) (multiply w (value ρ a w) (value ρ b w)))
-    pick true q m = sum-word ins ρ g a b w o m
-    pick false true m = difference-word ins ρ g a b w o m
-    pick false false m = product-word ins ρ g a b w o m
+    x : ℕ
+    x = value ρ a w
+
+    y : ℕ
+    y = value ρ b w
+
+    pick : (p q r : Bool) → Models ins ρ g (cond p (sum g a b w) (cond q (difference g a b w) (cond r (product g a b w) nothing)) .nodes)
+        → value ρ (cond p (sum g a b w) (cond q (difference g a b w) (cond r (product g a b w) nothing)) .bits) w
+        ≡ cond p (add w x y) (cond q (subtract w x y) (cond r (multiply w x y) 0))
+    pick true q r m = sum-word ins ρ g a b w o m
+    pick false true r m = difference-word ins ρ g a b w o m
+    pick false false true m = product-word ins ρ g a b w o m
+    pick false false false m = nothing-worth ρ o w
 
 -- ---- commands
 
@@ -148,18 +151,18 @@ module _ (bs ins : List ℕ) (h : Header) (fine : Fine bs h) (t : Target) (ds : 
     wide = omega (arith, fine .widths i l)
 
     -- the run comes to the named access
-    at-claim : eqb (accesses k) (t .access) ≡ true → Models (bitsOfList ins) ρ g (claimNodes (t .side) g bits size w)
-        → Tally bs h fine t ds ρ (claiming s (claimLit (t .side) g bits size w)) (course ds (t .access) (came (accesses k) array (indexOf bs r i) ∷ []))
+    at-claim : eqb (accesses k) (t .access) ≡ true → Models (bitsOfList ins) ρ g (claim (t .side) g bits size w .nodes)
+        → Tally bs h fine t ds ρ (claiming s (claim (t .side) g bits size w .lit)) (course ds (t .access) (came (accesses k) array (indexOf bs r i) ∷ []))
         (accessed bs h array i k r next)
     at-claim e m =
-        here (claimLit (t .side) g bits size w) array (indexOf bs r i) refl (a .come) (came-here (accesses k) array (indexOf bs r i) e)
+        here (claim (t .side) g bits size w .lit) array (indexOf bs r i) refl (a .come) (came-here (accesses k) array (indexOf bs r i) e)
         (rw (← index) (side-says (bitsOfList ins) ρ o bits size w wide (t .side) g side m))
 
     abbrev ns : List Node
-    ns = accessNodes g bits size w (s .arrival)
+    ns = passing g bits size w (s .arrival) .nodes
 
     abbrev u : Wires
-    u = arriving s (accessArrival g bits size w)
+    u = arriving s (passing g bits size w (s .arrival) .lit)
 
     abbrev x : Stretch
     x = go (g + length ns) u
@@ -205,7 +208,7 @@ module _ (bs ins : List ℕ) (h : Header) (fine : Fine bs h) (t : Target) (ds : 
       alive-through (put bs s d (constBit c)) Course.Passing (state.put r d c) (alive-put s r a d (constBit c) c (p .0) (const-word ρ c (width bs d) o (p .1))) refl
   simple-alive sd g (Simple.Convert op d b) k s r q f m a =
       let p = convert-fine bs h op d b q in
-      let e : Bits = convertBits op (width bs b) (bitsOf bs s b) in
+      let e : Bits = conversion op (bitsOf bs s b) (width bs b) in
       let x : ℕ = converted op (width bs d) (width bs b) (entry (r .values) b) in
       let z : 0 < width bs b = omega (arith, fine .widths b (p .1)) in
       alive-through (put bs s d e) Course.Passing (state.put r d x)
@@ -217,8 +220,9 @@ module _ (bs ins : List ℕ) (h : Header) (fine : Fine bs h) (t : Target) (ds : 
       let x : ℕ = computed op w (entry (r .values) b) (entry (r .values) c) in
       let vb : value ρ (bitsOf bs s b) w ≡ entry (r .values) b = ap (value ρ (bitsOf bs s b)) (p .3) ∙ a .worth .worth b (p .1) in
       let vc : value ρ (bitsOf bs s c) w ≡ entry (r .values) c = ap (value ρ (bitsOf bs s c)) (p .4) ∙ a .worth .worth c (p .2) in
-      alive-through (put bs s d (computeBits op g w)) Course.Passing (state.put r d x)
-      (alive-put s r a d (computeBits op g w) x (p .0)
+      let e : Bits = computation op g (bitsOf bs s b) (bitsOf bs s c) w .bits in
+      alive-through (put bs s d e) Course.Passing (state.put r d x)
+      (alive-put s r a d e x (p .0)
       (compute-word (bitsOfList ins) ρ o op g (bitsOf bs s b) (bitsOf bs s c) w m ∙ ap₂ (computed op w) vb vc)) refl
   simple-alive sd g (Simple.Read d array i) k s r q f m a =
       let p = read-fine bs h d array i q in

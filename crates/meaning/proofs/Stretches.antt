@@ -6,22 +6,22 @@ use Prim.Native.Nat.{ℕ, zero, suc, _+_}
 use lib.ListN.{length}
 use lib.Dec.{eqb}
 use Rattle.slices.specs.Bytes.{entry}
-use Rattle.header.specs.Header.{width, arraySize}
+use Rattle.header.specs.Header.{width}
 use Rattle.faults.specs.Step.{accesses}
 use Rattle.routine.specs.Routine.{Arm, done, plain, fork}
 use Rattle.header.specs.declared.Header.{Header}
 use Rattle.command.specs.declared.Condition.{Condition}
 use Rattle.faults.specs.declared.Counts.{Counts}
 use Rattle.command.specs.declared.Simple.{Simple}
-use Rattle.netlist.specs.Node.{Node}
-use Rattle.bits.specs.Extend.{constBit}
-use Rattle.bits.specs.Input.{inBit}
-use Rattle.wires.specs.Wires.{Wires, bitsOf, arriving, claiming, isMade}
-use Rattle.wiring.specs.Command.{Stretch, after, still, access, simple, readInto}
-use Rattle.operands.specs.Operation.{convertBits, computeBits}
-use Rattle.indexes.specs.Index.{accessNodes, accessArrival, claimNodes, claimLit}
+use Rattle.netlist.specs.declared.Node.{Node}
+use Rattle.arithmetic.specs.Extend.{constBit}
+use Rattle.arithmetic.specs.Input.{inBit}
+use Rattle.wires.specs.Wires.{Wires, bitsOf, arriving, isMade}
+use Rattle.wiring.specs.Command.{Stretch, after, still, claimed, passed, access, simple, readInto}
+use Rattle.wiring.specs.Operation.{conversion, computation}
 use Rattle.meaning.specs.Walk.{andThen, forked, armOf}
-use Rattle.branching.specs.Branch.{joinLits, joined, conditionNodes, conditionLit, branchNodes, firstLit, elseLit}
+use Rattle.arithmetic.specs.Circuit.{Predicate}
+use Rattle.branching.specs.Branch.{Arrivals, conditionOf, arrivals, joinGroups, joined}
 use Rattle.lead.specs.declared.Target.{Target}
 use Rattle.meaning.proofs.Places.{put-length}
 
@@ -39,34 +39,35 @@ module _ (Q : Stretch → Type 0) where
 
   module _ (bs : List ℕ) (h : Header) (t : Target) (g array i : ℕ) (k : Counts) (s : Wires) (go : ℕ → Wires → Stretch) where
     -- the named access, and another one
-    pub access-by : (eqb (accesses k) (t .access) ≡ true
-        → Q (record {
-          nodes = claimNodes (t .side) g (bitsOf bs s i) (arraySize bs h array) (width bs i);
-          wires = claiming s (claimLit (t .side) g (bitsOf bs s i) (arraySize bs h array) (width bs i));
-        }))
+    pub access-by : (eqb (accesses k) (t .access) ≡ true → Q (claimed bs h t g array i s))
         → (eqb (accesses k) (t .access) ≡ false
-        → Q (after (accessNodes g (bitsOf bs s i) (arraySize bs h array) (width bs i) (s .arrival))
-        (go (g + length (accessNodes g (bitsOf bs s i) (arraySize bs h array) (width bs i) (s .arrival)))
-        (arriving s (accessArrival g (bitsOf bs s i) (arraySize bs h array) (width bs i))))))
+        → Q (after (passed bs h g array i s .nodes) (go (g + length (passed bs h g array i s .nodes)) (passed bs h g array i s .wires))))
         → Q (access bs h t g array i k s go)
     access-by = by-cond Q (eqb (accesses k) (t .access)) _ _
 
 -- ---- the parts of an if
 
 module _ (bs : List ℕ) (h : Header) (d g : ℕ) (c : Condition) (s : Wires) (first second : ℕ → Wires → Stretch) where
-  -- the gates before the arms
-  abbrev pub frontOf : List Node
-  frontOf = conditionNodes bs g c s ++ branchNodes d (s .arrival) (conditionLit bs g c)
+  -- the condition, and the arrivals of the arms
+  abbrev conditionHere : Predicate
+  conditionHere = conditionOf bs g c s
 
   abbrev pub afterCondition : ℕ
-  afterCondition = g + length (conditionNodes bs g c s)
+  afterCondition = g + length (conditionHere .nodes)
+
+  abbrev arrivalsHere : Arrivals
+  arrivalsHere = arrivals d afterCondition (s .arrival) (conditionHere .lit)
+
+  -- the gates before the arms
+  abbrev pub frontOf : List Node
+  frontOf = conditionHere .nodes ++ arrivalsHere .nodes
 
   abbrev pub firstFrom : ℕ
-  firstFrom = afterCondition + length (branchNodes d (s .arrival) (conditionLit bs g c))
+  firstFrom = afterCondition + length (arrivalsHere .nodes)
 
   -- the wires before the first arm, and its stretch
   abbrev pub firstWires : Wires
-  firstWires = arriving s (firstLit d afterCondition)
+  firstWires = arriving s (arrivalsHere .first)
 
   abbrev pub firstOf : Stretch
   firstOf = first firstFrom firstWires
@@ -76,7 +77,7 @@ module _ (bs : List ℕ) (h : Header) (d g : ℕ) (c : Condition) (s : Wires) (f
 
   -- the wires before the else, and its stretch
   abbrev pub secondWires : Wires
-  secondWires = arriving s (elseLit d afterCondition (s .arrival) (conditionLit bs g c))
+  secondWires = arriving s (arrivalsHere .second)
 
   abbrev pub secondOf : Stretch
   secondOf = second secondFrom secondWires
@@ -85,7 +86,7 @@ module _ (bs : List ℕ) (h : Header) (d g : ℕ) (c : Condition) (s : Wires) (f
   joinFrom = secondFrom + length (secondOf .nodes)
 
   abbrev pub joinOf : Stretch
-  joinOf = joined bs h joinFrom (conditionLit bs g c) (firstOf .wires) (secondOf .wires)
+  joinOf = joined bs h joinFrom (conditionHere .lit) (firstOf .wires) (secondOf .wires)
 
   -- the claim was made in the first arm, or in the else, or in neither
   pub fork-by : (Q : Stretch → Type 0) → (isMade (firstOf .wires .claim) ≡ true → Q (after frontOf firstOf))
@@ -99,10 +100,10 @@ module _ (bs : List ℕ) (h : Header) (d g : ℕ) (c : Condition) (s : Wires) (f
 
 -- ---- the number of places
 
-joins-length : (bs : List ℕ) (g c : ℕ) (x y : List ℕ) (n : ℕ) → length (joinLits bs g c x y n) ≡ length x
-unfolding joinLits
+joins-length : (bs : List ℕ) (g c : ℕ) (x y : List ℕ) (n : ℕ) → length (joinGroups bs g c x y n .lits) ≡ length x
+unfolding joinGroups
 joins-length bs g c x y zero = refl
-joins-length bs g c x y (suc v) = put-length bs (joinLits bs g c x y v) v _ ∙ joins-length bs g c x y v
+joins-length bs g c x y (suc v) = put-length bs (joinGroups bs g c x y v .lits) v _ ∙ joins-length bs g c x y v
 
 abbrev Keeps : Wires → Stretch → Type 0
 Keeps s x = length (x .wires .lits) ≡ length (s .lits)
@@ -115,11 +116,11 @@ module _ (bs : List ℕ) (h : Header) (t : Target) (ds : List ℕ) where
   pub simple-length : (g : ℕ) (c : Simple) (k : Counts) (s : Wires) → length (simple bs h t g c k s .wires .lits) ≡ length (s .lits)
   unfolding simple
   simple-length g (Simple.Set d c) k s = put-length bs (s .lits) d (constBit c)
-  simple-length g (Simple.Convert op d a) k s = put-length bs (s .lits) d (convertBits op (width bs a) (bitsOf bs s a))
-  simple-length g (Simple.Compute op d a b) k s = put-length bs (s .lits) d (computeBits op g (width bs d))
+  simple-length g (Simple.Convert op d a) k s = put-length bs (s .lits) d (conversion op (bitsOf bs s a) (width bs a))
+  simple-length g (Simple.Compute op d a b) k s = put-length bs (s .lits) d (computation op g (bitsOf bs s a) (bitsOf bs s b) (width bs d) .bits)
   simple-length g (Simple.Read d array i) k s =
       access-by (Keeps s) bs h t g array i k s (readInto bs h d k) (λ e. refl)
-      (λ e. put-length bs (s .lits) d (inBit (g + length (accessNodes g (bitsOf bs s i) (arraySize bs h array) (width bs i) (s .arrival)))))
+      (λ e. put-length bs (s .lits) d (inBit (g + length (passed bs h g array i s .nodes))))
   simple-length g (Simple.Write array i a) k s = access-by (Keeps s) bs h t g array i k s (λ g₁. still) (λ e. refl) (λ e. refl)
 
   module _ (first second : ℕ → Wires → Stretch) (one : (g : ℕ) (s : Wires) → Keeps s (first g s)) (two : (g : ℕ) (s : Wires) → Keeps s (second g s)) where
@@ -130,7 +131,7 @@ module _ (bs : List ℕ) (h : Header) (t : Target) (ds : List ℕ) where
         let l : Keeps s x = one (firstFrom bs h d g c s first second) (firstWires bs h d g c s first second) in
         fork-by bs h d g c s first second (Keeps s) (λ e. l)
         (λ e e₁. two (secondFrom bs h d g c s first second) (secondWires bs h d g c s first second))
-        (λ e e₁. joined-length bs h (joinFrom bs h d g c s first second) (conditionLit bs g c) (x .wires) (y .wires) ∙ l)
+        (λ e e₁. joined-length bs h (joinFrom bs h d g c s first second) (conditionOf bs g c s .lit) (x .wires) (y .wires) ∙ l)
 
   -- an arm keeps the number of places
   pub arm-length : (a : Arm) (g : ℕ) (s : Wires) → length (armOf bs h t ds a g s .wires .lits) ≡ length (s .lits)

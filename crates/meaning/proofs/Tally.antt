@@ -18,7 +18,7 @@ use Rattle.machine.specs.declared.Outcome.{Outcome}
 use Rattle.machine.specs.declared.State.{State}
 use Rattle.course.specs.Course.{course}
 use Rattle.course.specs.declared.Course.{Course}
-use Rattle.clauses.specs.Meaning.{Assign, lit}
+use Rattle.cnf.specs.Meaning.{Assign, lit}
 use Rattle.wiring.specs.Command.{Stretch, after}
 use Rattle.wires.specs.Wires.{Wires, isMade}
 use Rattle.meaning.specs.Walk.{andThen}

@@ -10,16 +10,17 @@ use Rattle.header.specs.Header.{width}
 use Rattle.faults.specs.Inner.Sound.{Fine}
 use Rattle.header.specs.declared.Header.{Header}
 use Rattle.netlist.specs.Literal.{opp}
-use Rattle.netlist.specs.Node.{Node, and}
+use Rattle.netlist.specs.declared.Node.{Node}
+use Rattle.netlist.specs.declared.Node.the-variants.{And}
 use Rattle.netlist.proofs.Model.{Before, WellFormed}
 use Rattle.netlist.proofs.Formed.{before-later, before-opp, before-neg, formed-append}
-use Rattle.bits.specs.Bits.{Bits}
-use Rattle.circuits.specs.Join.{join, joinBit}
-use Rattle.bits.proofs.Values.{AllBefore}
-use Rattle.circuits.proofs.Join.{join-formed, join-before}
+use Rattle.arithmetic.specs.Bits.{Bits}
+use Rattle.arithmetic.specs.Join.{joiner, joinBit}
+use Rattle.arithmetic.proofs.Values.{AllBefore}
+use Rattle.arithmetic.proofs.Join.{join-formed, join-before}
 use Rattle.wires.specs.Wires.{Wires, bitsIn, bitsPut, bitsOf, put, arriving}
 use Rattle.wiring.specs.Command.{Stretch, after}
-use Rattle.branching.specs.Branch.{joinNodes, joinLits, joined}
+use Rattle.branching.specs.Branch.{joinGroups, joined}
 use Rattle.wires.specs.declared.Claim.{Claim}
 use Rattle.meaning.proofs.Places.{bits-place, put-length, put-keeps}
 
@@ -86,26 +87,26 @@ module _ (bs : List ℕ) where
 module _ (bs : List ℕ) (g c : ℕ) (x y : List ℕ) (z : 1 < g) (hc : Before g c) (hx : Held g x) (hy : Held g y) where
   -- the gates of the first n variables, and their literals
   record Joined (n : ℕ) : Type 0 where
-    gates : WellFormed g (joinNodes bs c x y n)
-    lits : Held (g + length (joinNodes bs c x y n)) (joinLits bs g c x y n)
+    gates : WellFormed g (joinGroups bs g c x y n .nodes)
+    lits : Held (g + length (joinGroups bs g c x y n .nodes)) (joinGroups bs g c x y n .lits)
 
   joins : (n : ℕ) → ((v : ℕ) → v < n → (v < 32) × (width bs v ≤ 32)) → Joined n
-  unfolding joinNodes joinLits
+  unfolding joinGroups
   joins zero f = record { gates = tt; lits = held-later (g + 0) (omega arith) hx }
   joins (suc v) f =
       let p = joins v (λ u l. f u (omega arith)) in
-      let k : ℕ = g + length (joinNodes bs c x y v) in
+      let k : ℕ = g + length (joinGroups bs g c x y v .nodes) in
       let w : ℕ = width bs v in
       let r = f v (omega arith) in
       let a = held-bits bs k x (held-later k (omega arith) hx) v (r .0) (r .1) in
       let b = held-bits bs k y (held-later k (omega arith) hy) v (r .0) (r .1) in
-      let ns : List Node = join c (bitsIn bs x v) (bitsIn bs y v) w in
-      let e : k + length ns ≡ g + length (joinNodes bs c x y v ++ ns) =
-      add-assoc g (length (joinNodes bs c x y v)) (length ns) ∙ ap (λ (n : ℕ). g + n) (sym (length-append (joinNodes bs c x y v) ns)) in
+      let ns : List Node = joiner c (bitsIn bs x v) (bitsIn bs y v) w in
+      let e : k + length ns ≡ g + length (joinGroups bs g c x y v .nodes ++ ns) =
+      add-assoc g (length (joinGroups bs g c x y v .nodes)) (length ns) ∙ ap (λ (n : ℕ). g + n) (sym (length-append (joinGroups bs g c x y v .nodes) ns)) in
       record {
-        gates = formed-append g (joinNodes bs c x y v) ns (p .gates) (join-formed k c (bitsIn bs x v) (bitsIn bs y v) w (before-later k (omega arith) hc) a b);
-        lits = subst (λ (n : ℕ). Held n (bitsPut bs (joinLits bs g c x y v) v (joinBit k c (bitsIn bs x v) (bitsIn bs y v)))) e
-            (held-put bs (k + length ns) (joinLits bs g c x y v) (held-later (k + length ns) (omega arith) (p .lits)) v
+        gates = formed-append g (joinGroups bs g c x y v .nodes) ns (p .gates) (join-formed k c (bitsIn bs x v) (bitsIn bs y v) w (before-later k (omega arith) hc) a b);
+        lits = subst (λ (n : ℕ). Held n (bitsPut bs (joinGroups bs g c x y v .lits) v (joinBit k c (bitsIn bs x v) (bitsIn bs y v)))) e
+            (held-put bs (k + length ns) (joinGroups bs g c x y v .lits) (held-later (k + length ns) (omega arith) (p .lits)) v
             (joinBit k c (bitsIn bs x v) (bitsIn bs y v))
             (join-before k c (bitsIn bs x v) (bitsIn bs y v) w (before-later k (omega arith) hc) a b (omega arith)));
       }
@@ -124,11 +125,11 @@ module _ (bs : List ℕ) (h : Header) (fine : Fine bs h) where
   unfolding joined
   joined-made g c x y wx wy hc =
       let p = joins bs g c (x .lits) (y .lits) (wx .some) hc (wx .held) (wy .held) (h .variables) few in
-      let ns : List Node = joinNodes bs c (x .lits) (y .lits) (h .variables) in
+      let ns : List Node = joinGroups bs g c (x .lits) (y .lits) (h .variables) .nodes in
       let k : ℕ = g + length ns in
-      let e = length-append ns (and (opp (x .arrival)) (opp (y .arrival)) ∷ []) in
+      let e = length-append ns (And (opp (x .arrival)) (opp (y .arrival)) ∷ []) in
       record {
-        formed = formed-append g ns (and (opp (x .arrival)) (opp (y .arrival)) ∷ []) (p .gates)
+        formed = formed-append g ns (And (opp (x .arrival)) (opp (y .arrival)) ∷ []) (p .gates)
             ((before-later k (omega arith) (before-opp (wx .arrival)), before-later k (omega arith) (before-opp (wy .arrival))), tt);
         wired = record { some = omega (arith, wx .some); held = held-later _ (omega arith) (p .lits); arrival = before-neg _ k (omega (arith, wx .some)) (omega arith); claim = tt };
       }

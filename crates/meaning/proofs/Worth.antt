@@ -15,27 +15,21 @@ use Rattle.header.specs.Header.{width}
 use Rattle.faults.specs.Inner.Sound.{Fine}
 use Rattle.header.specs.declared.Header.{Header}
 use Rattle.machine.specs.State.{over}
-use Rattle.clauses.specs.Meaning.{Assign, lit}
+use Rattle.cnf.specs.Meaning.{Assign, lit}
 use Rattle.netlist.specs.Meaning.{Inputs}
 use Rattle.netlist.proofs.Literals.{lit-false}
 use Rattle.netlist.proofs.Truth.{Models, models-append}
-use Rattle.bits.specs.Bits.{Bits}
-use Rattle.bits.specs.Input.{inputs, inBit}
-use Rattle.circuits.specs.Join.{join, joinBit}
-use Rattle.bits.proofs.Values.{bit, value, value-cong, value-zero}
-use Rattle.bits.proofs.Input.{input-word}
-use Rattle.circuits.proofs.Join.{join-value}
+use Rattle.arithmetic.specs.Bits.{Bits}
+use Rattle.arithmetic.specs.Input.{inputs, inBit}
+use Rattle.arithmetic.specs.Join.{joiner, joinBit}
+use Rattle.arithmetic.proofs.Values.{value, value-cong, value-zero}
+use Rattle.arithmetic.proofs.Input.{input-word}
+use Rattle.arithmetic.proofs.Join.{join-word}
 use Rattle.wires.specs.Wires.{bitsIn, bitsPut}
-use Rattle.branching.specs.Branch.{joinNodes, joinLits}
+use Rattle.branching.specs.Branch.{joinGroups}
 use Rattle.meaning.specs.Translation.{parameterNodes, parameterLits}
 use Rattle.meaning.specs.Faithful.{bitsOfList}
 use Rattle.meaning.proofs.Places.{bits-place, put-length, put-same, put-other}
-
--- equal truth of the bits is equal worth
-value-like : (ρ : Assign) (a b : Bits) (w : ℕ) → ((j : ℕ) → j < w → lit ρ (a j) ≡ lit ρ (b j)) → value ρ a w ≡ value ρ b w
-unfolding value
-value-like ρ a b zero f = refl
-value-like ρ a b (suc j) f = λ i. value-like ρ a b j (λ m q. f m (omega arith)) i + bit (f j (omega arith) i) * 2 ^ j
 
 module _ (bs : List ℕ) (h : Header) (fine : Fine bs h) (ρ : Assign) where
   -- the literals are worth the values
@@ -96,31 +90,26 @@ module _ (bs : List ℕ) (h : Header) (fine : Fine bs h) (ρ : Assign) where
   module _ (ins : Inputs) (g c : ℕ) (x y : List ℕ) (lx : length x ≡ 1024) where
     -- what a joined variable is worth: as in the arm that the condition picks
     record Joins (n : ℕ) : Type 0 where
-      places : length (joinLits bs g c x y n) ≡ 1024
-      done : (v : ℕ) → v < n → value ρ (bitsIn bs (joinLits bs g c x y n) v) (width bs v) ≡ cond (lit ρ c) (value ρ (bitsIn bs x v) (width bs v)) (value ρ (bitsIn bs y v) (width bs v))
+      places : length (joinGroups bs g c x y n .lits) ≡ 1024
+      done : (v : ℕ) → v < n → value ρ (bitsIn bs (joinGroups bs g c x y n .lits) v) (width bs v) ≡ cond (lit ρ c) (value ρ (bitsIn bs x v) (width bs v)) (value ρ (bitsIn bs y v) (width bs v))
 
-    joins : (n : ℕ) → n ≤ h .variables → Models ins ρ g (joinNodes bs c x y n) → Joins n
-    unfolding joinNodes joinLits
+    joins : (n : ℕ) → n ≤ h .variables → Models ins ρ g (joinGroups bs g c x y n .nodes) → Joins n
+    unfolding joinGroups
     joins zero l m = record { places = lx; done = λ v k. absurd (omega arith) }
     joins (suc u) l m =
-        let r = models-append ins ρ g (joinNodes bs c x y u) (join c (bitsIn bs x u) (bitsIn bs y u) (width bs u)) m in
-        let k : ℕ = g + length (joinNodes bs c x y u) in
+        let r = models-append ins ρ g (joinGroups bs g c x y u .nodes) (joiner c (bitsIn bs x u) (bitsIn bs y u) (width bs u)) m in
+        let k : ℕ = g + length (joinGroups bs g c x y u .nodes) in
         let p = joins u (omega arith) (r .0) in
         let f : Bits = joinBit k c (bitsIn bs x u) (bitsIn bs y u) in
-        let ls : List ℕ = joinLits bs g c x y u in
+        let ls : List ℕ = joinGroups bs g c x y u .lits in
         record {
           places = put-length bs ls u f ∙ p .places;
-          done = λ v q. pick u l ls f (p .places) (p .done) (join-value ins ρ k c (bitsIn bs x u) (bitsIn bs y u) (width bs u) (r .1)) v q (eqb v u) refl;
+          done = λ v q. pick u l ls f (p .places) (p .done) (join-word ins ρ k c (bitsIn bs x u) (bitsIn bs y u) (width bs u) (r .1)) v q (eqb v u) refl;
         }
       where
-        chosen : (a b : Bits) (f : Bits) (w : ℕ) (t : Bool) → ((j : ℕ) → j < w → lit ρ (f j) ≡ cond t (lit ρ (a j)) (lit ρ (b j)))
-            → value ρ f w ≡ cond t (value ρ a w) (value ρ b w)
-        chosen a b f w true e = value-like ρ f a w e
-        chosen a b f w false e = value-like ρ f b w e
-
         pick : (u : ℕ) → suc u ≤ h .variables → (ls : List ℕ) (f : Bits) → length ls ≡ 1024
             → ((v : ℕ) → v < u → value ρ (bitsIn bs ls v) (width bs v) ≡ cond (lit ρ c) (value ρ (bitsIn bs x v) (width bs v)) (value ρ (bitsIn bs y v) (width bs v)))
-            → ((j : ℕ) → j < width bs u → lit ρ (f j) ≡ cond (lit ρ c) (lit ρ (bitsIn bs x u j)) (lit ρ (bitsIn bs y u j)))
+            → value ρ f (width bs u) ≡ cond (lit ρ c) (value ρ (bitsIn bs x u) (width bs u)) (value ρ (bitsIn bs y u) (width bs u))
             → (v : ℕ) → v < suc u → (b : Bool) → eqb v u ≡ b
             → value ρ (bitsIn bs (bitsPut bs ls u f) v) (width bs v) ≡ cond (lit ρ c) (value ρ (bitsIn bs x v) (width bs v)) (value ρ (bitsIn bs y v) (width bs v))
         pick u l ls f s p e v q true z =
@@ -128,7 +117,7 @@ module _ (bs : List ℕ) (h : Header) (fine : Fine bs h) (ρ : Assign) where
             (sym (eqb-true v u z))
             (value-cong ρ (bitsIn bs (bitsPut bs ls u f) u) f (width bs u)
             (λ j m. put-same bs ls u f j m (omega (arith, fine .few)) (fine .widths u (omega arith) .1) s)
-            ∙ chosen (bitsIn bs x u) (bitsIn bs y u) f (width bs u) (lit ρ c) e)
+            ∙ e)
         pick u l ls f s p e v q false z =
             let ne : v ≢ u = eqb-false v u z in
             value-cong ρ (bitsIn bs (bitsPut bs ls u f) v) (bitsIn bs ls v) (width bs v)
@@ -136,15 +125,15 @@ module _ (bs : List ℕ) (h : Header) (fine : Fine bs h) (ρ : Assign) where
             ∙ p v (omega arith)
 
     -- the condition holds, and the first arm's literals are worth the values
-    pub join-first : (values : List ℕ) → lit ρ c ≡ true → Models ins ρ g (joinNodes bs c x y (h .variables)) → Worth x values
-        → Worth (joinLits bs g c x y (h .variables)) values
+    pub join-first : (values : List ℕ) → lit ρ c ≡ true → Models ins ρ g (joinGroups bs g c x y (h .variables) .nodes) → Worth x values
+        → Worth (joinGroups bs g c x y (h .variables) .lits) values
     join-first values e m w =
         let p = joins (h .variables) (omega arith) m in
         record { places = p .places; count = w .count; worth = λ v l. (rw e at (p .done v l)) ∙ w .worth v l }
 
     -- it does not, and the else's are
-    pub join-second : (values : List ℕ) → lit ρ c ≡ false → Models ins ρ g (joinNodes bs c x y (h .variables)) → Worth y values
-        → Worth (joinLits bs g c x y (h .variables)) values
+    pub join-second : (values : List ℕ) → lit ρ c ≡ false → Models ins ρ g (joinGroups bs g c x y (h .variables) .nodes) → Worth y values
+        → Worth (joinGroups bs g c x y (h .variables) .lits) values
     join-second values e m w =
         let p = joins (h .variables) (omega arith) m in
         record { places = p .places; count = w .count; worth = λ v l. (rw e at (p .done v l)) ∙ w .worth v l }

@@ -18,9 +18,9 @@ use Rattle.inputs.specs.declared.Listed.{Listed}
 use Rattle.machine.specs.declared.Lies.{Lies}
 use Rattle.course.specs.Course.{course}
 use Rattle.course.specs.declared.Course.{Course}
-use Rattle.bits.specs.Input.{bitsOfWord}
+use Rattle.arithmetic.specs.Input.{bitsOfWord}
 use Rattle.netlist.specs.Node.{clausesOf}
-use Rattle.clauses.specs.Meaning.{Assign, lit, sat}
+use Rattle.cnf.specs.Meaning.{Assign, lit, sat}
 use Rattle.netlist.specs.Meaning.{Inputs, Extends, Agree}
 use Rattle.wiring.specs.Command.{Stretch}
 use Rattle.meaning.specs.Translation.{whole}

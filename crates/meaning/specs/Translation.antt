@@ -5,11 +5,13 @@ use lib.ListN.{length, replicate}
 use Rattle.header.specs.Header.{width}
 use Rattle.routine.specs.Routine.{Arm}
 use Rattle.header.specs.declared.Header.{Header}
-use Rattle.clauses.specs.Clause.{Clause, flatten}
+use Rattle.cnf.specs.Clause.{Clause, flatten}
 use Rattle.netlist.specs.Literal.{opp}
-use Rattle.netlist.specs.Node.{Node, one, clausesOf}
-use Rattle.bits.specs.Input.{inputs, inBit}
-use Rattle.wires.specs.Wires.{Wires, bitsPut}
+use Rattle.netlist.specs.declared.Node.{Node}
+use Rattle.netlist.specs.declared.Node.the-variants.{One}
+use Rattle.netlist.specs.Node.{clausesOf}
+use Rattle.arithmetic.specs.Input.{inputs, inBit}
+use Rattle.wires.specs.Wires.{Wires, allPlaces, bitsPut}
 use Rattle.wiring.specs.Command.{Stretch, after}
 use Rattle.meaning.specs.Walk.{armOf}
 use Rattle.wires.specs.declared.Claim.{Claim}
@@ -23,7 +25,7 @@ parameterNodes bs (suc p) = parameterNodes bs p ++ inputs p (width bs p)
 
 -- their literals; the bits of other variables begin as 3
 unfoldable pub parameterLits : List ℕ → (n : ℕ) → List ℕ
-parameterLits bs zero = replicate 1024 3
+parameterLits bs zero = replicate allPlaces 3
 parameterLits bs (suc p) = bitsPut bs (parameterLits bs p) p (inBit (2 + length (parameterNodes bs p)))
 
 -- the beginning: arrival is 2, and there is no claim yet
@@ -33,7 +35,7 @@ start bs parameters = record { lits = parameterLits bs parameters; arrival = 2; 
 -- variable 1 is true, then come the parameters' bits, then the commands
 unfoldable pub whole : List ℕ → Target → (ds : List ℕ) → Header → Arm → Stretch
 whole bs t ds h a =
-    after (one ∷ parameterNodes bs (h .parameters))
+    after (One ∷ parameterNodes bs (h .parameters))
     (armOf bs h t ds a (2 + length (parameterNodes bs (h .parameters))) (start bs (h .parameters)))
 
 -- the last two clauses: {arrival}, {-side literal}

@@ -7,10 +7,10 @@ use Rattle.slices.specs.Bytes.{entry}
 use Rattle.header.specs.declared.Header.{Header}
 use Rattle.command.specs.declared.Condition.{Condition}
 use Rattle.routine.specs.Routine.{Arm, done, plain, fork}
-use Rattle.netlist.specs.Node.{Node}
+use Rattle.arithmetic.specs.Circuit.{Predicate}
 use Rattle.wires.specs.Wires.{Wires, arriving, isMade}
 use Rattle.wiring.specs.Command.{Stretch, after, still, simple}
-use Rattle.branching.specs.Branch.{conditionNodes, conditionLit, branchNodes, firstLit, elseLit, joined}
+use Rattle.branching.specs.Branch.{Arrivals, conditionOf, arrivals, joined}
 use Rattle.lead.specs.declared.Target.{Target}
 
 -- goes on after a stretch whose first variable is g, unless the claim was made in it
@@ -20,15 +20,14 @@ andThen g x go = cond (isMade (x .wires .claim)) x (after (x .nodes) (go (g + le
 -- an if: its condition and the arms' arrivals, the first arm, the else from the bits at the if, and the end; d is the decision
 abbrev pub forked : List ℕ → Header → (d g : ℕ) → Condition → Wires → (first second : ℕ → Wires → Stretch) → Stretch
 forked bs h d g c s first second =
-    let ns : List Node = conditionNodes bs g c s in
-    let l : ℕ = conditionLit bs g c in
-    let g₁ : ℕ = g + length ns in
-    let ms : List Node = branchNodes d (s .arrival) l in
-    let g₂ : ℕ = g₁ + length ms in
-    after (ns ++ ms)
-    (andThen g₂ (first g₂ (arriving s (firstLit d g₁))) (λ g₃ x.
-    andThen g₃ (second g₃ (arriving s (elseLit d g₁ (s .arrival) l))) (λ g₄ y.
-    joined bs h g₄ l x y)))
+    let x : Predicate = conditionOf bs g c s in
+    let g₁ : ℕ = g + length (x .nodes) in
+    let a : Arrivals = arrivals d g₁ (s .arrival) (x .lit) in
+    let g₂ : ℕ = g₁ + length (a .nodes) in
+    after (x .nodes ++ a .nodes)
+    (andThen g₂ (first g₂ (arriving s (a .first))) (λ g₃ y.
+    andThen g₃ (second g₃ (arriving s (a .second))) (λ g₄ z.
+    joined bs h g₄ (x .lit) y z)))
 
 -- an arm, from the next variable g and the wires s on
 unfoldable pub armOf : List ℕ → Header → Target → (ds : List ℕ) → Arm → (g : ℕ) → Wires → Stretch

@@ -6,7 +6,7 @@ use mathlib.Core.Bool.{true, false, true≢false}
 use native.Mathlib.Omega.{arith}
 use lib.ListN.{length, getD, set, length-set}
 use borrow.Author.Tests.{lt-ltb, le-ltb}
-use Rattle.clauses.specs.Clause.{Clause}
+use Rattle.cnf.specs.Clause.{Clause}
 use Rattle.propagation.specs.Marks.{trueMark}
 use Rattle.propagation.specs.Hint.{hintOf}
 use Rattle.propagation.specs.Stored.{clauseAt}

@@ -9,7 +9,7 @@ use native.Mathlib.Nat.{add-zero}
 use lib.ListN.{length, getD, take, drop, set, replicate, length-set}
 use lib.Seq.{slice, slice-empty, length-slice, take-set-le, take-suc-set, take-set-lt, drop-set-lt, drop-append-le, length-take-le, getD-set-same, getD-set-other}
 use borrow.Author.Tests.{eq-eqb}
-use Rattle.clauses.specs.Clause.{flatten}
+use Rattle.cnf.specs.Clause.{flatten}
 use Rattle.propagation.specs.Marks.{undecided}
 use Rattle.propagation.specs.Stored.{startOf, endOf, clauseAt, clausesOf}
 use Rattle.propagation.specs.Inner.Standing.{LiteralsIn, Stands}

@@ -9,7 +9,7 @@ use lib.ListN.{length, getD, set, length-set}
 use lib.Seq.{slice, getD-set-same, getD-set-other}
 use lib.Dec.{eqb, leb}
 use borrow.Author.Tests.{eqb-true, eqb-false, eq-eqb, ne-eqb, le-leb, lt-leb}
-use Rattle.clauses.specs.Clause.{Clause}
+use Rattle.cnf.specs.Clause.{Clause}
 use Rattle.propagation.specs.Marks.{falseMark, undecided}
 use Rattle.propagation.specs.Stored.{clausesOf}
 use Rattle.propagation.specs.Inner.Standing.{LiteralsIn}

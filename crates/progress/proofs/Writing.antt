@@ -7,8 +7,8 @@ use native.Mathlib.Numerals.{add-one}
 use native.Mathlib.Nat.{zero-add}
 use lib.ListN.{length, set}
 use lib.Seq.{sets}
-use Rattle.clauses.specs.Clause.{Clause, flatten, offsets}
-use Rattle.clauses.proofs.Appending.{set-sets, sets-append, flatten-append, offsets-append, length-offsets}
+use Rattle.cnf.specs.Clause.{Clause, flatten, offsets}
+use Rattle.cnf.proofs.Appending.{set-sets, sets-append, flatten-append, offsets-append, length-offsets}
 
 -- one literal more
 pub words-literal : (w₀ w : List ℕ) (cs : List Clause) (c : Clause) (l to : ℕ) → w ≡ sets (sets w₀ 0 (flatten cs)) (length (flatten cs) + 1) c

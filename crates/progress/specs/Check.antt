@@ -4,7 +4,7 @@ use mathlib.Core.List.{List, [], _∷_}
 use mathlib.Core.Bool.{Bool, true, not, _&&_}
 use lib.ListN.{length, getD, set}
 use lib.Dec.{ltb, leb, eqb}
-use Rattle.clauses.specs.Clause.{Clause}
+use Rattle.cnf.specs.Clause.{Clause}
 use Rattle.propagation.specs.Marks.{variableOf, trueMark}
 use Rattle.propagation.specs.Hint.{hintOf}
 use Rattle.propagation.specs.declared.Hint.{Hint}

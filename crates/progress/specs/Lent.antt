@@ -3,7 +3,7 @@ use Prim.Native.Nat.{ℕ, _+_, _-_}
 use mathlib.Core.List.{List}
 use lib.ListN.{length}
 use lib.Seq.{sets}
-use Rattle.clauses.specs.Clause.{flatten, offsets}
+use Rattle.cnf.specs.Clause.{flatten, offsets}
 use Rattle.progress.specs.State.{State, Limits}
 
 -- what there is room for: a mark for each variable and one more

@@ -3,7 +3,7 @@ use Prim.Native.Nat.{ℕ, _+_}
 use mathlib.Core.List.{List, [], _∷_, _++_}
 use mathlib.Core.Bool.{Bool, cond}
 use lib.ListN.{length, set, replicate}
-use Rattle.clauses.specs.Clause.{Clause, flatten}
+use Rattle.cnf.specs.Clause.{Clause, flatten}
 use Rattle.propagation.specs.Marks.{variableOf, falseMark}
 use Rattle.step.specs.Phase.{phaseAfter}
 use Rattle.step.specs.declared.Phase.{Phase}

@@ -3,7 +3,7 @@ use Prim.Native.Nat.{ℕ}
 use mathlib.Core.Path.{_≡_, refl}
 use mathlib.Core.List.{List, [], _∷_}
 use Rattle.slices.specs.Bytes.{word}
-use Rattle.clauses.specs.Clause.{Clause}
+use Rattle.cnf.specs.Clause.{Clause}
 use Rattle.propagation.specs.Hint.{notFalse, allSame, ofLeft, hintOf}
 use Rattle.reader.specs.Command.{commandAt}
 use Rattle.progress.specs.State.{Limits, unless}

@@ -6,8 +6,8 @@ use native.Mathlib.Omega.{arith}
 use native.Mathlib.Nat.{add-zero, zero-add}
 use lib.ListN.{length, getD, take, drop, replicate, length-append, List·getD-append}
 use lib.Seq.{slice, sets, length-sets, take-at, drop-at, getD-append-seam, getD-drop, getD-take, ext-getD}
-use Rattle.clauses.specs.Clause.{Clause, flatten, offsets}
-use Rattle.clauses.proofs.Appending.{sets-front, sets-twice, length-offsets}
+use Rattle.cnf.specs.Clause.{Clause, flatten, offsets}
+use Rattle.cnf.proofs.Appending.{sets-front, sets-twice, length-offsets}
 use Rattle.propagation.specs.Stored.{startOf, endOf, clauseAt, clausesOf}
 use Rattle.propagation.specs.Inner.Standing.{LiteralsIn}
 use Rattle.propagation.proofs.Standing.{clauses-length, clauses-at}

@@ -7,7 +7,7 @@ use mathlib.Core.Logic.{inl, inr}
 use lib.ListN.{length, getD}
 use lib.Dec.{eqb·suc-zero}
 use borrow.Author.Tests.{ltb-true, not-true}
-use Rattle.clauses.specs.Clause.{Clause}
+use Rattle.cnf.specs.Clause.{Clause}
 use Rattle.propagation.specs.Hint.{hintOf}
 use Rattle.propagation.specs.declared.Hint.{Hint}
 use Rattle.propagation.proofs.Cases.{both}
@@ -15,7 +15,7 @@ use Rattle.reader.specs.Command.{commandAt}
 use Rattle.step.specs.Phase.{going, conflicted, phaseAfter}
 use Rattle.progress.specs.State.{State, Limits, Next, more, stop, begin}
 use Rattle.progress.specs.Check.{onLiteral, afterHint, onHint, onClose, onEnd, obey, step, Outcome, follow, run, checkProof}
-use Rattle.clauses.specs.Meaning.{Assign, satClause, sat}
+use Rattle.cnf.specs.Meaning.{Assign, satClause, sat}
 use Rattle.proof.specs.Sound.{Refutes}
 use Rattle.reader.specs.declared.Command.{Command}
 use Rattle.step.specs.declared.Refusal.{Refusal}

@@ -9,7 +9,7 @@ use lib.ListN.{length, getD}
 use lib.Seq.{slice, slice-empty, slice-cons}
 use lib.Dec.{eqb}
 use borrow.Author.Tests.{eq-eqb, ne-eqb}
-use Rattle.clauses.specs.Clause.{Clause}
+use Rattle.cnf.specs.Clause.{Clause}
 use Rattle.propagation.specs.Marks.{isFalse, undecided}
 use Rattle.propagation.specs.Hint.{notFalse, allSame, ofLeft, hintOf}
 use Rattle.propagation.specs.declared.Hint.{Hint}

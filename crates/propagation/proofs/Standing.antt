@@ -7,7 +7,7 @@ use mathlib.Core.Logic.{_⊎_, inl, inr, ⊎-elim}
 use native.Mathlib.Omega.{arith}
 use lib.ListN.{length, getD, length-append, List·getD-append}
 use lib.Seq.{slice, slice-empty, slice-cons, getD-append-seam}
-use Rattle.clauses.specs.Clause.{Clause}
+use Rattle.cnf.specs.Clause.{Clause}
 use Rattle.propagation.specs.Marks.{isFalse, undecided}
 use Rattle.propagation.specs.Hint.{notFalse, allSame, ofLeft, hintOf}
 use Rattle.propagation.specs.Stored.{startOf, endOf, clauseAt, clausesOf}

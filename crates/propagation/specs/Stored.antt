@@ -3,7 +3,7 @@ use Prim.Native.Nat.{ℕ, zero, suc, _+_}
 use mathlib.Core.List.{List, [], _∷_, _++_}
 use lib.ListN.{getD}
 use lib.Seq.{slice}
-use Rattle.clauses.specs.Clause.{Clause}
+use Rattle.cnf.specs.Clause.{Clause}
 
 -- where clause i has its count
 abbrev pub startOf : List ℕ → ℕ → ℕ

@@ -15,7 +15,7 @@ use Rattle.faults.specs.declared.Counts.{Counts}
 use Rattle.routine.specs.Routine.{Arm}
 use Rattle.routine.specs.Decode.{routine, decode}
 use Rattle.routine.specs.Inner.Known.{Counted}
-use Rattle.clauses.specs.Clause.{Clause, flatten, offsets}
+use Rattle.cnf.specs.Clause.{Clause, flatten, offsets}
 use Rattle.wiring.specs.Command.{Stretch}
 use Rattle.lead.specs.declared.Target.{Target}
 use Rattle.translation.specs.Answer as answer

@@ -11,7 +11,7 @@ use Rattle.faults.proofs.Fine.{fine}
 use Rattle.routine.specs.Routine.{Arm}
 use Rattle.routine.specs.Decode.{routine, decode, noCounts}
 use Rattle.routine.proofs.Accepted.{decoded}
-use Rattle.clauses.specs.Clause.{Clause}
+use Rattle.cnf.specs.Clause.{Clause}
 use Rattle.netlist.specs.Node.{clausesOf}
 use Rattle.netlist.proofs.Formed.{before-opp}
 use Rattle.netlist.proofs.Within.{Within, AllWithin, within-append, nodes-within}

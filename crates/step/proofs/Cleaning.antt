@@ -5,7 +5,7 @@ use mathlib.Core.List.{List, []}
 use native.Mathlib.Omega.{arith}
 use native.Mathlib.Numerals.{add-one}
 use lib.ListN.{length, set, List·getD-eq-default}
-use Rattle.clauses.specs.Clause.{Clause}
+use Rattle.cnf.specs.Clause.{Clause}
 use Rattle.propagation.specs.Stored.{clauseAt, clausesOf}
 use Rattle.propagation.specs.Inner.Clear.{clear}
 use Rattle.propagation.proofs.Standing.{clauses-at, clauses-length}

@@ -5,7 +5,6 @@ use Prim.Native.Nat.{ℕ, _+_, _-_, _≤_}
 use native.Mathlib.Nat.{zero-add}
 use native.Mathlib.Omega.{arith}
 use lib.ListN.{length}
-use lib.Seq.{length-sets}
 use Rattle.header.specs.Header.{firstCommand}
 use Rattle.routine.specs.Routine.{Arm}
 use Rattle.routine.specs.Decode.{routine, decode, IsRoutine}
@@ -14,18 +13,19 @@ use Rattle.header.specs.declared.Header.{Header}
 use Rattle.faults.specs.declared.Counts.{Counts}
 use Rattle.routine.proofs.Accepted.{decoded}
 use Rattle.faults.proofs.Fine.{fine}
-use Rattle.clauses.specs.Clause.{Clause, flatten, offsets}
-use Rattle.clauses.specs.Inner.Append.{Appended, Room}
-use Rattle.clauses.specs.declared.Store.{Store}
-use Rattle.clauses.proofs.Appending.{appended-then, room-weaken}
-use Rattle.netlist.specs.Node.{one, nodeClauses, clausesOf}
+use Rattle.cnf.specs.Clause.{Clause}
+use Rattle.cnf.specs.Inner.Append.{Appended, Room}
+use Rattle.cnf.specs.declared.Store.{Store}
+use Rattle.cnf.proofs.Appending.{appended-then}
+use Rattle.netlist.specs.declared.Node.the-variants.{One}
+use Rattle.netlist.specs.Node.{clausesOf}
 use Rattle.netlist.specs.Inner.Emit.{Emitted, Ready}
 use Rattle.netlist.specs.declared.Net.{Net}
-use Rattle.netlist.proofs.Emitting.{emitted-then, ready-after, ready-room}
+use Rattle.netlist.proofs.Emitting.{emitted-then, ready-after, ready-clauses}
 use Rattle.wiring.specs.Command.{Stretch, after}
 use Rattle.meaning.specs.Walk.{armOf}
 use Rattle.meaning.specs.Translation.{parameterNodes, start, whole, lastClauses, clausesOfAll, sizeOf}
-use Rattle.walking.specs.Inner.Walker.{wiresAt, beginning, Arrives, Roomy, ArmMade, ArmRoom, Begun, WholeMade}
+use Rattle.walking.specs.Inner.Walker.{wiresAt, beginning, Arrives, Roomy, ArmMade, ArmRoom, Begun, WholeMade, noStore}
 use Rattle.meaning.specs.declared.Size.{Size}
 use Rattle.lead.specs.declared.Target.{Target}
 use Rattle.walking.specs.declared.Walk.{Walk}
@@ -33,25 +33,21 @@ use Rattle.wires.specs.declared.Claim.{Claim}
 use Rattle.walking.proofs.Beginning.{parameters-length}
 use Rattle.meaning.proofs.Bound.{parameters-few, roomy}
 
--- nothing is stored yet
-abbrev pub noStore : Store
-noStore = record { words = 0; clauses = 0 }
-
--- the clause of variable 1
-abbrev pub first : List Clause
-first = (2 ∷ []) ∷ []
+-- nothing is stored yet, and the next variable is 1
+abbrev pub empty : Net
+empty = record { store = noStore; next = 1 }
 
 pub fine-here : (bs : List ℕ) (h : Header) → IsRoutine bs h → Fine bs h
 fine-here bs h i = fine bs h (decoded bs h (i .commands) (i .counts) (i .decodes) .header)
 
-module _ {bs : List ℕ} {h : Header} (i : IsRoutine bs h) {w u w₁ u₁ : List ℕ} {s₁ : Store} (p : Appended w u noStore first w₁ u₁ s₁) where
-  pub begin-ready : Ready (record { store = s₁; next = 2 }) 2048
-  begin-ready = record { words = omega (arith, p .used); clauses = omega (arith, p .count); next = omega arith }
+module _ {bs : List ℕ} {h : Header} (i : IsRoutine bs h) {w u w₁ u₁ : List ℕ} {n₁ : Net} (p : Emitted w u empty (One ∷ []) w₁ u₁ n₁) where
+  pub begin-ready : Ready n₁ 2048
+  begin-ready = let r : Ready empty 2049 = record { words = omega arith; clauses = omega arith; next = omega arith } in ready-after 2048 p r (omega arith)
 
-  module _ {n : Net} {l : List ℕ} (b : Begun bs (record { store = s₁; next = 2 }) (h .parameters) l n) where
+  module _ {n : Net} {l : List ℕ} (b : Begun bs n₁ (h .parameters) l n) where
     -- where the commands begin
     from : n .next ≡ 2 + length (parameterNodes bs (h .parameters))
-    from = b .emitted w₁ u₁ .next
+    from = b .emitted w₁ u₁ .next ∙ ap (λ (g : ℕ). g + length (parameterNodes bs (h .parameters))) (p .next)
 
     ready-here : Ready n 1024
     ready-here = ready-after 1024 (b .emitted w₁ u₁) begin-ready (omega (arith, parameters-few bs h (fine-here bs h i)))
@@ -74,10 +70,10 @@ module _ {bs : List ℕ} {h : Header} (i : IsRoutine bs h) {w u w₁ u₁ : List
         arrives : (a : Arm) (k : Counts) → decode bs ≡ routine h a k → Arrives w₁ u₁ n (armOf bs h t ds a (n .next) (wiresAt l (beginning at n))) (length bs) k w₂ u₂ l₂ r
         arrives a k d = x .tells a (length bs) k (rw e (decoded bs h a k d .stands))
 
-        pub claim-room : Room (r .net .store) 2
+        pub claim-room : Room (r .net .store) 2 4
         claim-room =
             let q = arrives (i .commands) (i .counts) (i .decodes) in
-            room-weaken (omega arith) (ready-room {k = 0} (ready-after 1 (q .emitted) (room-for t ds at (i .commands) (i .counts) (i .decodes)) (omega arith)))
+            ready-clauses 1 (ready-after 1 (q .emitted) (room-for t ds at (i .commands) (i .counts) (i .decodes)) (omega arith)) (omega arith) (omega arith)
 
         pub some-variables : 2 ≤ r .net .next
         some-variables = let q = arrives (i .commands) (i .counts) (i .decodes) in omega (arith, q .emitted .next, from)
@@ -97,33 +93,27 @@ module _ {bs : List ℕ} {h : Header} (i : IsRoutine bs h) {w u w₁ u₁ : List
             arm-there : Arrives w₁ u₁ n Y (length bs) k w₂ u₂ l₂ r
             arm-there = subst (λ (z : Stretch). Arrives w₁ u₁ n z (length bs) k w₂ u₂ l₂ r) arm-is (arrives a k d)
 
-            rest-made : Emitted w₁ u₁ (record { store = s₁; next = 2 }) (parameterNodes bs (h .parameters) ++ Y .nodes) w₂ u₂ (r .net)
-            rest-made = emitted-then (b .emitted w₁ u₁) (arm-there .emitted)
+            nodes-made : Emitted w u empty (One ∷ (parameterNodes bs (h .parameters) ++ Y .nodes)) w₂ u₂ (r .net)
+            nodes-made = emitted-then p (emitted-then (b .emitted w₁ u₁) (arm-there .emitted))
 
             all-made : Appended w u noStore (clausesOfAll X) w₃ u₃ all
-            unfolding clausesOfAll clausesOf nodeClauses whole X Y
+            unfolding clausesOfAll whole X Y
             all-made =
-                subst (λ (cs : List Clause). Appended w u noStore ((clausesOf 1 (one ∷ (parameterNodes bs (h .parameters) ++ Y .nodes))) ++ cs) w₃ u₃ all)
+                subst (λ (cs : List Clause). Appended w u noStore (clausesOf 1 (One ∷ (parameterNodes bs (h .parameters) ++ Y .nodes)) ++ cs) w₃ u₃ all)
                 (ap lastClauses (arm-there .claim))
-                (appended-then (appended-then p (rest-made .store)) c)
+                (appended-then (nodes-made .store) c)
 
             size-is : _≡_ {A = Size} (record { clauses = all .clauses; words = all .words; variables = r .net .next - 1 }) (sizeOf X)
             unfolding whole X Y
             size-is =
-                let v : r .net .next - 1 ≡ length (whole bs t ds h a .nodes) = omega (arith, rest-made .next) in
+                let v : r .net .next - 1 ≡ length (whole bs t ds h a .nodes) = omega (arith, nodes-made .next) in
                 λ j. record { clauses = (all-made .count ∙ zero-add _) j; words = (all-made .used ∙ zero-add _) j; variables = v j }
 
           pub whole-made : WholeMade bs h t ds w u w₃ u₃ (record { clauses = all .clauses; words = all .words; variables = r .net .next - 1 })
           unfolding X
-          whole-made = record { tells = λ a k d. (size-is a k d, all-made a k d .words, all-made a k d .starts) }
-
--- the buffers stay as long as they were
-module _ {bs : List ℕ} {h : Header} (i : IsRoutine bs h) {t : Target} {ds w u w₁ u₁ : List ℕ} {r : Size} (x : WholeMade bs h t ds w u w₁ u₁ r) where
-  abbrev clauses : List Clause
-  clauses = clausesOfAll (whole bs t ds h (i .commands))
-
-  pub made-words : length w₁ ≡ length w
-  made-words = ap length (x .tells (i .commands) (i .counts) (i .decodes) .1) ∙ length-sets w 0 (flatten clauses)
-
-  pub made-starts : length u₁ ≡ length u
-  made-starts = ap length (x .tells (i .commands) (i .counts) (i .decodes) .2) ∙ length-sets u 0 (offsets 0 clauses)
+          whole-made = record {
+            size = λ a k d. size-is a k d;
+            written = λ a k d. all-made a k d .written;
+            words-long = all-made (i .commands) (i .counts) (i .decodes) .words-long;
+            starts-long = all-made (i .commands) (i .counts) (i .decodes) .starts-long;
+          }

@@ -10,8 +10,8 @@ use Rattle.routine.specs.Routine.{Arm}
 use Rattle.routine.specs.Decode.{routine, decode}
 use Rattle.header.specs.declared.Header.{Header}
 use Rattle.faults.specs.declared.Counts.{Counts}
-use Rattle.clauses.specs.Clause.{flatten, offsets}
-use Rattle.clauses.proofs.Appending.{length-offsets}
+use Rattle.cnf.specs.Clause.{flatten, offsets}
+use Rattle.cnf.proofs.Appending.{length-offsets}
 use Rattle.meaning.specs.Translation.{whole, clausesOfAll, sizeOf}
 use Rattle.walking.specs.Inner.Walker.{WholeMade}
 use Rattle.slices.specs.Lent.{usable}
@@ -41,10 +41,10 @@ module _ (bs : List ℕ) (h : Header) (t : Target) (ds words starts : List ℕ) 
     (ew : w ≡ usable words) (ec : c ≡ usable starts) where
   -- the counts over empty slices are the counts
   words-are : (a : Arm) (k : Counts) → decode bs ≡ routine h a k → need .words ≡ sizeOf (whole bs t ds h a) .words
-  words-are a k d = ap (λ (s : Size). s .words) (n .tells a k d .0)
+  words-are a k d = ap (λ (s : Size). s .words) (n .size a k d)
 
   clauses-are : (a : Arm) (k : Counts) → decode bs ≡ routine h a k → need .clauses ≡ sizeOf (whole bs t ds h a) .clauses
-  clauses-are a k d = ap (λ (s : Size). s .clauses) (n .tells a k d .0)
+  clauses-are a k d = ap (λ (s : Size). s .clauses) (n .size a k d)
 
   pub words-short : w < need .words → Fitted bs h t ds words starts words starts (Translated.Refused (Refusal.TooSmall Buffer.Words))
   words-short l = record { tells = λ a k d. rw (lt-leb (sizeOf (whole bs t ds h a) .words) (usable words) (omega (arith, words-are a k d))) }
@@ -58,13 +58,13 @@ module _ (bs : List ℕ) (h : Header) (t : Target) (ds words starts : List ℕ) 
     both-fit = record {
       tells = λ a k d.
           let x = whole bs t ds h a in
-          let p = m .tells a k d in
           let lw : length (flatten (clausesOfAll x)) ≤ w = omega (arith, words-are a k d) in
           let lc : length (offsets 0 (clausesOfAll x)) ≤ c = rw (length-offsets 0 (clausesOfAll x)) (omega (arith, clauses-are a k d)) in
+          let p = m .written a k d (record { words = rw (length-take-le w words (omega arith)) (omega (arith, lw)); starts = rw (length-take-le c starts (omega arith)) (omega (arith, clauses-are a k d)) }) in
           let ww : words₁ ++ drop w words ≡ sets words 0 (flatten (clausesOfAll x)) =
-          ap (λ (y : List ℕ). y ++ drop w words) (p .1) ∙ sets-part (flatten (clausesOfAll x)) words w (omega arith) lw in
+          ap (λ (y : List ℕ). y ++ drop w words) (p .words) ∙ sets-part (flatten (clausesOfAll x)) words w (omega arith) lw in
           let ss : starts₁ ++ drop c starts ≡ sets starts 0 (offsets 0 (clausesOfAll x)) =
-          ap (λ (y : List ℕ). y ++ drop c starts) (p .2) ∙ sets-part (offsets 0 (clausesOfAll x)) starts c (omega arith) lc in
+          ap (λ (y : List ℕ). y ++ drop c starts) (p .starts) ∙ sets-part (offsets 0 (clausesOfAll x)) starts c (omega arith) lc in
           rw (le-leb (sizeOf (whole bs t ds h a) .words) (usable words) (omega (arith, words-are a k d)), le-leb (sizeOf (whole bs t ds h a) .clauses) (usable starts) (omega (arith, clauses-are a k d)))
-          (λ j. record { translated = Translated.Made (p .0 j); words = ww j; starts = ss j });
+          (λ j. record { translated = Translated.Made (m .size a k d j); words = ww j; starts = ss j });
     }

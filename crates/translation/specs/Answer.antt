@@ -10,7 +10,7 @@ use Rattle.header.specs.declared.Header.{Header}
 use Rattle.faults.specs.declared.Counts.{Counts}
 use Rattle.routine.specs.Routine.{Arm}
 use Rattle.routine.specs.Decode.{routine, decode}
-use Rattle.clauses.specs.Clause.{flatten, offsets}
+use Rattle.cnf.specs.Clause.{flatten, offsets}
 use Rattle.lead.specs.Lead.{Admission, refused, translates, admission}
 use Rattle.lead.specs.declared.Target.{Target}
 use Rattle.wiring.specs.Command.{Stretch}

@@ -2,28 +2,31 @@
 use crate::Buffer;
 use crate::Refusal;
 use crate::Translated;
-use clauses::Store;
-use clauses::append1;
+use cnf::Store;
+use cnf::append1;
 use header::Header;
 use header::first_command;
 use lead::Target;
 use meaning::Size;
 use netlist::Net;
+use netlist::Node;
+use netlist::emit;
 use netlist::opposite;
 use slices::usable;
 use walking::parameters::begin;
 use walking::parameters::first_walk;
 use walking::walks::arm_made;
+use wires::ALL_PLACES;
 use wires::Claim;
 ghost use Rattle.routine.specs.Decode.{IsRoutine};
-ghost use Rattle.clauses.specs.Inner.Append.{Appended, Room};
+ghost use Rattle.cnf.specs.Inner.Append.{Appended, Room};
 ghost use Rattle.meaning.specs.Translation.{lastClauses};
 ghost use Rattle.walking.specs.Inner.Walker.{WholeMade};
 ghost use Rattle.translation.specs.Inner.Fitted.{Fitted};
 
 // The last two clauses: {arrival}, {-side literal}.
 fn append_claim(words: &mut [u32], starts: &mut [u32], s: Store, claim: Claim) -> Store
-    requires { ⌜ Room s 2 ⌝ }
+    requires { ⌜ Room s 2 4 ⌝ }
     ensures { λ r. ⌜ Appended (now (words .entry)) (now (starts .entry)) s (lastClauses claim) (now (words .exit)) (now (starts .exit)) r ⌝ }
 {
     match claim {
@@ -48,16 +51,16 @@ fn make(
     requires { ⌜ IsRoutine (now bytes) h ⌝ }
     ensures { λ r. ⌜ WholeMade (now (bytes .entry)) h t (now (decisions .entry)) (now (words .entry)) (now (starts .entry)) (now (words .exit)) (now (starts .exit)) r ⌝ }
 {
-    let mut lits = [3u32; 1024];
+    let mut lits = [3u32; ALL_PLACES];
     let none = Store {
         words: 0,
         clauses: 0,
     };
-    let one = append1(words, starts, none, 2);
-    let n = Net {
-        store: one,
-        next: 2,
+    let empty = Net {
+        store: none,
+        next: 1,
     };
+    let n = emit(words, starts, empty, Node::One);
     let net = begin(&mut lits, n, bytes, h);
     let p = first_walk(first_command(h), net);
     let r = arm_made(words, starts, &mut lits, bytes, h, t, decisions, 0, 0x00, p);

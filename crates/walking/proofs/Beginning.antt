@@ -4,21 +4,21 @@ use mathlib.Core.List.{List, [], _++_}
 use Prim.Native.Nat.{ℕ, zero, suc, _+_, _*_, _≤_}
 use native.Mathlib.Omega.{arith}
 use native.Mathlib.Numerals.{add-one}
-use lib.ListN.{length, take, length-append}
-use lib.Seq.{sets, length-sets}
+use lib.ListN.{length, length-append}
+use lib.Seq.{length-sets}
 use Rattle.header.specs.Header.{width}
 use Rattle.faults.specs.Inner.Sound.{Fine}
 use Rattle.header.specs.declared.Header.{Header}
-use Rattle.netlist.specs.Node.{Node}
+use Rattle.netlist.specs.declared.Node.{Node}
 use Rattle.netlist.specs.Inner.Emit.{Emitted}
 use Rattle.netlist.specs.declared.Net.{Net}
 use Rattle.netlist.proofs.Emitting.{emitted-then}
-use Rattle.bits.specs.Bits.{tabulate}
-use Rattle.bits.specs.Input.{inputs, inBit}
-use Rattle.bits.specs.Inner.Taken.{TakesInputs}
-use Rattle.bits.proofs.Input.{length-inputs}
-use Rattle.bits.proofs.Laws.{sized-table}
+use Rattle.arithmetic.specs.Bits.{tabulate}
+use Rattle.arithmetic.specs.Input.{inputs, inBit}
+use Rattle.arithmetic.specs.Inner.Taken.{TakesInputs}
+use Rattle.arithmetic.proofs.Input.{length-inputs}
 use Rattle.meaning.specs.Translation.{parameterNodes, parameterLits}
+use Rattle.wires.specs.Wires.{allPlaces, bitsPut}
 use Rattle.wires.proofs.Ranges.{ranged}
 
 pub some-few : (bs : List ℕ) (h : Header) → Fine bs h → (p : ℕ) → p ≤ h .parameters → length (parameterNodes bs p) ≤ 32 * p
@@ -35,17 +35,14 @@ module _ (bs : List ℕ) (n n₁ n₂ : Net) (p w : ℕ) (e : w ≡ width bs p) 
       rw (add-one p)
       (subst (λ (ns : List Node). Emitted W U n (parameterNodes bs p ++ ns) W U n₂) (λ i. inputs p (e i)) (emitted-then (q W U) (r .tells W U p)))
 
-  pub parameter-wired : n .next ≡ 2 → (l l₁ bits : List ℕ) → l ≡ parameterLits bs p → bits ≡ tabulate (inBit (n₁ .next)) 32 → w ≤ 32
-      → l₁ ≡ sets l (32 * p) (take w bits) → l₁ ≡ parameterLits bs (p + 1)
+  pub parameter-wired : n .next ≡ 2 → (l l₁ : List ℕ) → l ≡ parameterLits bs p → l₁ ≡ bitsPut bs l p (inBit (n₁ .next)) → l₁ ≡ parameterLits bs (p + 1)
   unfolding parameterLits
-  parameter-wired two l l₁ bits a f s b =
+  parameter-wired two l l₁ a b =
       let g : n₁ .next ≡ 2 + length (parameterNodes bs p) = q [] [] .next ∙ ap (λ (i : ℕ). i + length (parameterNodes bs p)) two in
-      rw (add-one p)
-      (b ∙ ap (sets l (32 * p)) (sized-table _ f w s)
-      ∙ (λ i. sets (a i) (32 * p) (tabulate (inBit (g i)) (e i))))
+      rw (add-one p) (b ∙ (λ i. bitsPut bs (a i) p (inBit (g i))))
 
 -- the literals keep their places
-pub parameters-length : (bs : List ℕ) (p : ℕ) → length (parameterLits bs p) ≡ 1024
+pub parameters-length : (bs : List ℕ) (p : ℕ) → length (parameterLits bs p) ≡ allPlaces
 unfolding parameterLits
 parameters-length bs zero = refl
 parameters-length bs (suc p) =

@@ -12,7 +12,7 @@ use Rattle.command.specs.declared.Condition.{Condition}
 use Rattle.routine.proofs.Standing.{else-room, second-falls}
 use Rattle.netlist.specs.Inner.Emit.{Ready}
 use Rattle.netlist.proofs.Emitting.{emitted-starts-length, emitted-words-length}
-use Rattle.wires.specs.Wires.{isMade}
+use Rattle.wires.specs.Wires.{isMade, allPlaces}
 use Rattle.branching.specs.Branch.{joined}
 use Rattle.branching.specs.Inner.Branched.{Branched}
 use Rattle.walking.specs.Inner.Walker.{wiresAt, inFirst, inElse, Arrives, ArmMade, ArmRoom, ifOf, IfMade, IfRoom}
@@ -76,7 +76,7 @@ module _ {bs : List ℕ} {h : Header} {t : Target} {ds : List ℕ} {depth : ℕ}
 
             module _ (o₁ : k₁ ≡ false) where
               pub join-asks : Fine bs h → length l₂ ≡ length l → length l₃ ≡ length l'
-                  → Ready (y .net) 8192 × (length l₂ ≡ 1024) × (length l₃ ≡ 1024) × Fine bs h
+                  → Ready (y .net) 8192 × (length l₂ ≡ allPlaces) × (length l₃ ≡ allPlaces) × Fine bs h
               join-asks fine z z₁ = (
                 join-ready bs h t ds depth c l p (a .some) branched first-made (sym by ∙ o) second-made (sym by₁ ∙ o₁) (a .room),
                 z ∙ a .places,

@@ -17,7 +17,7 @@ use Rattle.command.proofs.Sizes.{simple-size}
 use Rattle.routine.proofs.Standing.{not-missing, close-room, simple-known, some-if}
 use Rattle.netlist.specs.Inner.Emit.{Ready}
 use Rattle.netlist.proofs.Emitting.{emitted-starts-length, emitted-words-length, ready-weaken}
-use Rattle.wires.specs.Wires.{isMade}
+use Rattle.wires.specs.Wires.{isMade, allPlaces}
 use Rattle.wiring.specs.Command.{simple}
 use Rattle.walking.specs.Inner.Walker.{wiresAt, Arrives, ArmMade, ArmRoom, IfMade, IfRoom}
 use Rattle.lead.specs.declared.Target.{Target}
@@ -27,7 +27,7 @@ use Rattle.walking.proofs.Translating.{Left, begun, arm-told, some-here
 -- what the loop keeps: it began at p₀ with the literals l and is now at p with the literals l₁
 pub record Going (bs : List ℕ) (h : Header) (t : Target) (ds : List ℕ) (depth close : ℕ) (w u l : List ℕ) (p₀ : Walk) (w₁ u₁ l₁ : List ℕ) (p : Walk) : Type 0 where
   pub onward : p₀ .next ≤ p .next
-  pub long : length l₁ ≡ 1024
+  pub long : length l₁ ≡ allPlaces
   pub left : (i : SomeArm bs h depth close (p₀ .next) (p₀ .counts)) → Left bs h t ds depth close w u l p₀ i w₁ u₁ l₁ p
 
 module _ {bs : List ℕ} {h : Header} {t : Target} {ds : List ℕ} {depth close : ℕ} {l : List ℕ} {p₀ : Walk} (a : ArmRoom bs h t ds depth close l p₀) where
@@ -95,7 +95,7 @@ module _ {bs : List ℕ} {h : Header} {t : Target} {ds : List ℕ} {depth close 
         known = simple-known bs h depth close (p .next) (p .counts) here r is c q
 
         pub simple-asks : Fine bs h
-            → (Ready (p .net) 8192 × (length l₁ ≡ 1024))
+            → (Ready (p .net) 8192 × (length l₁ ≡ allPlaces))
             × ((Sound bs h c × (tooMany c (p .counts) ≡ false) × (p .next + sizeOfSimple c ≤ length bs)) × (Fine bs h × (isMade (p .reach .claim) ≡ false)))
         simple-asks f =
             ((ready-weaken (omega arith) (room-here bs h t ds depth close w u l p₀ (a .some) rest (a .room)), g .long), (known, (f, rest .going)))

@@ -12,15 +12,15 @@ use Rattle.routine.specs.Inner.Stands.{Stands, SomeIf}
 use Rattle.header.specs.declared.Header.{Header}
 use Rattle.command.specs.declared.Condition.{Condition}
 use Rattle.faults.specs.declared.Counts.{Counts}
-use Rattle.netlist.specs.Node.{Node}
+use Rattle.netlist.specs.declared.Node.{Node}
 use Rattle.netlist.specs.Inner.Emit.{Emitted, Ready}
 use Rattle.netlist.proofs.Emitting.{emitted-then, ready-after}
-use Rattle.wires.specs.Wires.{Wires, arriving, isMade}
+use Rattle.wires.specs.Wires.{Wires, arriving, isMade, allPlaces}
 use Rattle.wiring.specs.Command.{Stretch, after}
 use Rattle.meaning.specs.Walk.{forked, armOf}
-use Rattle.branching.specs.Branch.{conditionNodes, conditionLit, branchNodes, joined}
+use Rattle.branching.specs.Branch.{conditionOf, joined}
 use Rattle.walking.specs.Inner.Walker.{wiresAt, inFirst, inElse, Arrives, Roomy, ArmMade, ArmRoom, ifOf, IfMade}
-use Rattle.branching.specs.Inner.Branched.{Branched}
+use Rattle.branching.specs.Inner.Branched.{Branched, arrivalsAt}
 use Rattle.lead.specs.declared.Target.{Target}
 use Rattle.walking.specs.declared.Walk.{Walk}
 use Rattle.branching.specs.declared.Branches.{Branches}
@@ -88,12 +88,12 @@ module _ (bs : List ℕ) (h : Header) (t : Target) (ds : List ℕ) (depth : ℕ)
 
   module _ {w u w₁ u₁ : List ℕ} {br : Branches} (b : Branched bs w u (p .net) c (entry ds (p .counts .ifs)) (wiresAt l p) w₁ u₁ br) where
     from-first : br .net .next ≡ firstFrom bs h d (p .net .next) c s first second
-    from-first = b .emitted .next ∙ ap (λ (m : ℕ). p .net .next + m) (length-append (conditionNodes bs (p .net .next) c s) (branchNodes d (s .arrival) (conditionLit bs (p .net .next) c))) ∙ sym (add-assoc (p .net .next) _ _)
+    from-first = b .emitted .next ∙ ap (λ (m : ℕ). p .net .next + m) (length-append (conditionOf bs (p .net .next) c s .nodes) (arrivalsAt bs (p .net .next) c d s .nodes)) ∙ sym (add-assoc (p .net .next) _ _)
 
     first-is : first (br .net .next) (arriving s (br .first)) ≡ First
     first-is = λ j. first (from-first j) (arriving s (b .first j))
 
-    pub first-room : Roomy (p .net) Fork → length l ≡ 1024 → ArmRoom bs h t ds (depth + 1) 12 l (inFirst (p .next + 4) p br)
+    pub first-room : Roomy (p .net) Fork → length l ≡ allPlaces → ArmRoom bs h t ds (depth + 1) 12 l (inFirst (p .next + 4) p br)
     first-room r long = record {
       some = record { arm = i .first; end = i .else; after = i .between; stands = i .stands-first };
       room = rw first-is (ready-after (2 ^ 25 + length (First .nodes)) (b .emitted) r (omega (arith, first-longer)));
@@ -131,7 +131,7 @@ module _ (bs : List ℕ) (h : Header) (t : Target) (ds : List ℕ) (depth : ℕ)
         else-stands : Stands bs h (depth + 1) 13 (x .next) (x .counts) (i .second) (i .end) (i .after)
         else-stands = rw (first-arrives .next o, first-arrives .counts o) (i .stands-second)
 
-        pub second-room : Roomy (p .net) Fork → length l ≡ 1024 → ArmRoom bs h t ds (depth + 1) 13 l (inElse p br x)
+        pub second-room : Roomy (p .net) Fork → length l ≡ allPlaces → ArmRoom bs h t ds (depth + 1) 13 l (inElse p br x)
         second-room r long = record {
           some = record { arm = i .second; end = i .end; after = i .after; stands = else-stands };
           room =

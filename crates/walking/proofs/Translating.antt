@@ -16,11 +16,11 @@ use Rattle.command.specs.declared.Simple.{Simple}
 use Rattle.command.specs.declared.Command.{Command}
 use Rattle.routine.proofs.Views.{by-close, by-simple, by-if, BySimple, ByIf}
 use Rattle.routine.proofs.Standing.{arms-of, if-ends}
-use Rattle.netlist.specs.Node.{Node}
+use Rattle.netlist.specs.declared.Node.{Node}
 use Rattle.netlist.specs.Inner.Emit.{Emitted}
 use Rattle.netlist.specs.declared.Net.{Net}
 use Rattle.netlist.proofs.Emitting.{emitted-none, emitted-then, ready-after, ready-weaken}
-use Rattle.wires.specs.Wires.{Wires, isMade}
+use Rattle.wires.specs.Wires.{Wires, isMade, allPlaces}
 use Rattle.wiring.specs.Command.{Stretch, after, still, simple}
 use Rattle.meaning.specs.Walk.{andThen, armOf}
 use Rattle.walking.specs.Inner.Walker.{wiresAt, Arrives, Roomy, ArmMade, ifOf, IfMade, IfRoom}
@@ -196,7 +196,7 @@ module _ (bs : List ℕ) (h : Header) (t : Target) (ds : List ℕ) (depth close 
           unfolding armOf fork-here
           if-same = rw (if-here .arm) at (y .same)
 
-          pub if-roomy : length l₁ ≡ 1024 → Roomy (p .net) (armOf bs h t ds (y .rest) (p .net .next) (wiresAt l₁ p)) → IfRoom bs h t ds depth c l₁ p
+          pub if-roomy : length l₁ ≡ allPlaces → Roomy (p .net) (armOf bs h t ds (y .rest) (p .net .next) (wiresAt l₁ p)) → IfRoom bs h t ds depth c l₁ p
           unfolding armOf fork-here
           if-roomy long r = record {
             some = arms-of if-here;

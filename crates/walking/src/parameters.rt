@@ -1,23 +1,25 @@
 // The beginning of a translation.
 use crate::Walk;
-use bits::inputs::input_bits;
-use bits::inputs::take_inputs;
+use arithmetic::input_words::input_bits;
+use arithmetic::input_words::take_inputs;
 use faults::Counts;
 use header::Header;
 use header::width_of;
 use netlist::Net;
 use wires::Claim;
 use wires::Reach;
+use wires::literals::place_of;
 use wires::literals::store_bits;
 ghost use mathlib.Core.Path.{_≡_};
 ghost use lib.ListN.{replicate};
 ghost use Rattle.faults.specs.Inner.Sound.{Fine};
 ghost use Rattle.netlist.specs.Inner.Emit.{Ready};
+ghost use Rattle.wires.specs.Wires.{allPlaces};
 ghost use Rattle.walking.specs.Inner.Walker.{Begun, beginning};
 
 // The parameters' bits take the next variables; other bits begin as literal 3.
 pub fn begin(lits: &mut [u32], n: Net, bytes: &[u8], h: Header) -> Net
-    requires { ⌜ now lits ≡ replicate 1024 3 ⌝ }
+    requires { ⌜ now lits ≡ replicate allPlaces 3 ⌝ }
     requires { ⌜ Ready n 2048 × (n .next ≡ 2) ⌝ }
     requires { ⌜ Fine (now bytes) h ⌝ }
     ensures { λ r. ⌜ Begun (now (bytes .entry)) n (h .parameters) (now (lits .exit)) r ⌝ }
@@ -28,7 +30,7 @@ pub fn begin(lits: &mut [u32], n: Net, bytes: &[u8], h: Header) -> Net
         let w = width_of(bytes, p) as usize;
         let bits = input_bits(net.next);
         net = take_inputs(net, w);
-        store_bits(lits, p, &bits, w);
+        store_bits(lits, place_of(p), &bits[..w]);
         p += 1;
     }
     net

@@ -1,7 +1,7 @@
 // The steps of a walk over the commands: a command that is no if, and from arm to arm.
 use crate::Walk;
 use branching::Branches;
-use branching::join_arms;
+use branching::joins::join_arms;
 use command::Simple;
 use command::commands::simple_size;
 use faults::steps::counts_after;
@@ -19,7 +19,7 @@ ghost use Rattle.command.specs.Command.{sizeOfSimple};
 ghost use Rattle.faults.specs.Step.{tooMany, after};
 ghost use Rattle.faults.specs.Inner.Sound.{Sound, Fine};
 ghost use Rattle.netlist.specs.Inner.Emit.{Ready};
-ghost use Rattle.wires.specs.Wires.{isMade};
+ghost use Rattle.wires.specs.Wires.{allPlaces, isMade};
 ghost use Rattle.wiring.specs.Command.{simple};
 ghost use Rattle.branching.specs.Branch.{joined};
 ghost use Rattle.walking.specs.Inner.Walker.{Arrives, wiresAt, inFirst, inElse};
@@ -43,7 +43,7 @@ pub fn simple_walked(
     c: Simple,
     start: Walk,
 ) -> Walk
-    requires { ⌜ Ready (start .net) 8192 × (length (now lits) ≡ 1024) ⌝ }
+    requires { ⌜ Ready (start .net) 8192 × (length (now lits) ≡ allPlaces) ⌝ }
     requires { ⌜ Sound (now bytes) h c × (tooMany c (start .counts) ≡ false) × (start .next + sizeOfSimple c ≤ length (now bytes)) ⌝ }
     requires { ⌜ Fine (now bytes) h × (isMade (start .reach .claim) ≡ false) ⌝ }
     ensures { λ r. ⌜ Arrives (now (words .entry)) (now (starts .entry)) (start .net) (simple (now (bytes .entry)) h t (start .net .next) c (start .counts) (wiresAt (now (lits .entry)) start)) (start .next + sizeOfSimple c) (after c (start .counts)) (now (words .exit)) (now (starts .exit)) (now (lits .exit)) r ⌝ }
@@ -109,7 +109,7 @@ pub fn arms_walked(
     other: &[u32],
     y: Walk,
 ) -> Walk
-    requires { ⌜ Ready (y .net) 8192 × (length (now lits) ≡ 1024) × (length (now other) ≡ 1024) × Fine (now bytes) h ⌝ }
+    requires { ⌜ Ready (y .net) 8192 × (length (now lits) ≡ allPlaces) × (length (now other) ≡ allPlaces) × Fine (now bytes) h ⌝ }
     ensures { λ r. ⌜ Arrives (now (words .entry)) (now (starts .entry)) (y .net) (joined (now (bytes .entry)) h (y .net .next) c (wiresAt (now (lits .entry)) x) (wiresAt (now (other .entry)) y)) (y .next) (y .counts) (now (words .exit)) (now (starts .exit)) (now (lits .exit)) r ⌝ }
 {
     let n = y.net;

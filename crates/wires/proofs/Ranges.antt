@@ -1,14 +1,17 @@
--- What the operands of an accepted command are like: variables below 32, widths from 1 to 32. Assumes nothing.
-use mathlib.Core.Path.{_≡_}
+-- The places of a variable among all literals: they are there, they are as many as the variable is wide, and what is stored there becomes its bits.
+-- Assumes nothing.
+use mathlib.Core.Path.{_≡_, ap, _∙_}
 use mathlib.Core.List.{List}
-use Prim.Native.Nat.{ℕ, _≤_, _<_}
+use Prim.Native.Nat.{ℕ, _≤_, _<_, _+_, _-_}
 use native.Mathlib.Omega.{arith}
-use lib.ListN.{length}
-use Rattle.bits.specs.Bits.{Bits, tabulate}
-use Rattle.bits.proofs.Laws.{table-length}
+use lib.ListN.{length, take, drop, length-drop}
+use lib.Seq.{sets, length-take-le}
+use Rattle.arithmetic.specs.Bits.{Bits, litAt, places, tabulate}
+use Rattle.arithmetic.proofs.Laws.{sized-length, sized-table}
 use Rattle.header.specs.Header.{width}
 use Rattle.faults.specs.Inner.Sound.{Fine}
 use Rattle.header.specs.declared.Header.{Header}
+use Rattle.wires.specs.Wires.{allPlaces, placeOf, bitsIn, bitsPut}
 
 -- a variable of the routine, and its width
 pub record Ranged (bs : List ℕ) (v : ℕ) : Type 0 where
@@ -19,11 +22,28 @@ pub record Ranged (bs : List ℕ) (v : ℕ) : Type 0 where
 pub ranged : (bs : List ℕ) (h : Header) (v : ℕ) → Fine bs h → v < h .variables → Ranged bs v
 ranged bs h v f l = let w = f .widths v l in record { variable = omega (arith, f .few); some = omega (arith, w .0); few = w .1 }
 
-module _ (bs : List ℕ) (h : Header) (v w : ℕ) (f : Fine bs h) (l : v < h .variables) (e : w ≡ width bs v) where
-  -- the same, of a width that is given
-  pub ranged-as : (v < 32) × (0 < w) × (w ≤ 32)
-  ranged-as = let r = ranged bs h v f l in (r .variable, omega (arith, r .some, e), omega (arith, r .few, e))
+-- from place x on, w places: those of variable v
+module _ (bs : List ℕ) (h : Header) (v x w : ℕ) (f : Fine bs h) (l : v < h .variables) (e : x ≡ placeOf v) (q : w ≡ width bs v) where
+  pub ranged-as : (0 < w) × (w ≤ 32)
+  ranged-as = let r = ranged bs h v f l in (omega (arith, r .some, q), omega (arith, r .few, q))
 
-  -- a table of 32 bits has the bits that are stored in the variable
-  pub storable : {r : List ℕ} (g : Bits) → r ≡ tabulate g 32 → (v < 32) × (w ≤ 32) × (w ≤ length r)
-  storable g q = (ranged-as .0, ranged-as .2, omega (arith, ranged-as .2, table-length g q))
+  module _ (lits : List ℕ) (n : length lits ≡ allPlaces) where
+    pub part-end : x + w ≤ length lits
+    part-end = let r = ranged bs h v f l in omega (arith, r .variable, r .few, e, q, n)
+
+    -- the part of the literals that a call is lent
+    pub part-length : length (take (x + w - x) (drop x lits)) ≡ w
+    part-length = let z : x + w - x ≡ w = omega arith in rw z (length-take-le w _ (rw length-drop (omega (arith, part-end))))
+
+    pub part-bits : litAt (take (x + w - x) (drop x lits)) ≡ bitsIn bs lits v
+    part-bits = let z : x + w - x ≡ width bs v = omega (arith, q) in λ i. litAt (take (z i) (drop (e i) lits))
+
+    -- a table has the bits that are stored in the variable
+    module _ {r : List ℕ} (g : Bits) (t : r ≡ tabulate g places) where
+      pub storable : x + length (take w r) ≤ length lits
+      storable = omega (arith, sized-length g t w (omega (arith, ranged-as .1)), part-end)
+
+      pub stored : (lits₁ : List ℕ) → lits₁ ≡ sets lits x (take w r) → lits₁ ≡ bitsPut bs lits v g
+      stored lits₁ s =
+          s ∙ ap (sets lits x) (sized-table g t w (omega (arith, ranged-as .1)))
+          ∙ (λ i. sets lits (e i) (tabulate g (q i)))

@@ -1,13 +1,24 @@
--- The state of a translation: the literals of the variables' bits, 32 places for each variable, the lowest bit first; the literal of arrival; and the
--- claim, once the named access was come to.
+-- The state of a translation: the literals of the variables' bits, a group of places for each variable, the lowest bit first; the literal of arrival; and
+-- the claim, once the named access was come to.
 use Prim.Native.Nat.{ℕ, _*_}
 use mathlib.Core.List.{List}
 use mathlib.Core.Bool.{Bool, true, false}
-use lib.ListN.{take, drop}
 use lib.Seq.{sets}
 use Rattle.header.specs.Header.{width}
-use Rattle.bits.specs.Bits.{Bits, litAt, tabulate}
+use Rattle.arithmetic.specs.Bits.{Bits, bitsAt, tabulate}
 use Rattle.wires.specs.declared.Claim.{Claim}
+
+-- the places of one variable
+abbrev pub variablePlaces : ℕ
+variablePlaces = 32
+
+-- all places: those of 32 variables
+abbrev pub allPlaces : ℕ
+allPlaces = 1024
+
+-- the first place of variable v
+abbrev pub placeOf : ℕ → ℕ
+placeOf v = variablePlaces * v
 
 -- a literal for each bit of each variable, arrival, and the claim
 pub record Wires : Type 0 where
@@ -15,13 +26,13 @@ pub record Wires : Type 0 where
   pub arrival : ℕ
   pub claim : Claim
 
--- the bits of variable v: the places of its width, from place 32 v on
+-- the bits of variable v: as many places as it is wide
 abbrev pub bitsIn : (bs lits : List ℕ) → (v : ℕ) → Bits
-bitsIn bs lits v = litAt (take (width bs v) (drop (32 * v) lits))
+bitsIn bs lits v = bitsAt lits (placeOf v) (width bs v)
 
 -- other bits for variable v
 abbrev pub bitsPut : (bs lits : List ℕ) → (v : ℕ) → Bits → List ℕ
-bitsPut bs lits v f = sets lits (32 * v) (tabulate f (width bs v))
+bitsPut bs lits v f = sets lits (placeOf v) (tabulate f (width bs v))
 
 -- the bits of variable v
 abbrev pub bitsOf : List ℕ → Wires → ℕ → Bits

@@ -1,6 +1,12 @@
-// The wires of a translation: the literals of the variables' bits, arrival and the claim. The literals are lent: 32 places a variable, the
-// lowest bit first.
+// The symbolic state of a translation: the literals of the variables' bits, arrival and the claim. The literals are lent: a group of places for each
+// variable, the lowest bit first.
 pub mod literals;
+
+// The places of one variable.
+pub const VARIABLE_PLACES: usize = 32;
+
+// All places: those of 32 variables.
+pub const ALL_PLACES: usize = 1024;
 
 // The claim: none yet, or at the named access the literal of arrival and that of the side.
 pub enum Claim {

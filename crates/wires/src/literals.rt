@@ -1,35 +1,42 @@
 // The literals of the variables' bits, arrival and the claim.
+use crate::ALL_PLACES;
 use crate::Claim;
 use crate::Reach;
+use crate::VARIABLE_PLACES;
 ghost use mathlib.Core.Path.{_≡_};
-ghost use Prim.Native.Nat.{_≤_, _<_, _*_};
-ghost use lib.ListN.{length, take};
+ghost use Prim.Native.Nat.{_≤_, _+_};
+ghost use lib.ListN.{length};
 ghost use lib.Seq.{sets};
-ghost use Rattle.wires.specs.Wires.{isMade};
+ghost use Rattle.wires.specs.Wires.{allPlaces, isMade, placeOf};
 ghost use Rattle.wires.specs.Inner.Reach.{reaching};
 
-// The first w of r become the literals of variable v.
-pub fn store_bits(lits: &mut [u32], v: u8, r: &[u32], w: usize)
-    requires { ⌜ length (now lits) ≡ 1024 ⌝ }
-    requires { ⌜ (v < 32) × (w ≤ 32) × (w ≤ length (now r)) ⌝ }
-    ensures { λ _. ⌜ now (lits .exit) ≡ sets (now (lits .entry)) (32 * v) (take w (now (r .entry))) ⌝ }
+// The first place of variable v.
+pub fn place_of(v: u8) -> usize
+    ensures { λ r. ⌜ r ≡ placeOf v ⌝ }
 {
-    let at = 32 * (v as usize);
+    VARIABLE_PLACES * (v as usize)
+}
+
+// The bits r become the literals from a place on.
+pub fn store_bits(lits: &mut [u32], place: usize, r: &[u32])
+    requires { ⌜ place + length (now r) ≤ length (now lits) ⌝ }
+    ensures { λ _. ⌜ now (lits .exit) ≡ sets (now (lits .entry)) place (now (r .entry)) ⌝ }
+{
     let mut j = 0;
-    while j < w {
-        lits[at + j] = r[j];
+    while j < r.len() {
+        lits[place + j] = r[j];
         j += 1;
     }
 }
 
 // The literals, copied: an else starts from those at its if.
-pub fn copied(lits: &[u32]) -> [u32; 1024]
-    requires { ⌜ length (now lits) ≡ 1024 ⌝ }
+pub fn copied(lits: &[u32]) -> [u32; ALL_PLACES]
+    requires { ⌜ length (now lits) ≡ allPlaces ⌝ }
     ensures { λ r. ⌜ r ≡ now (lits .entry) ⌝ }
 {
-    let mut r = [3u32; 1024];
+    let mut r = [3u32; ALL_PLACES];
     let mut i = 0;
-    while i < 1024 {
+    while i < ALL_PLACES {
         r[i] = lits[i];
         i += 1;
     }

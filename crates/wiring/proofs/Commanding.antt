@@ -3,6 +3,7 @@ use mathlib.Core.Path.{_≡_, refl, sym, ap, subst, _∙_}
 use mathlib.Core.List.{List, [], append-nil}
 use mathlib.Core.Bool.{Bool, true, false, cond}
 use Prim.Native.Nat.{ℕ, _+_, _*_, _≤_}
+use native.Mathlib.Nat.{mul-le-mul}
 use native.Mathlib.Omega.{arith}
 use lib.ListN.{length, take, drop, length-append}
 use lib.Seq.{sets}
@@ -15,84 +16,46 @@ use Rattle.faults.specs.declared.Counts.{Counts}
 use Rattle.command.specs.declared.Simple.{Simple}
 use Rattle.netlist.specs.declared.Net.{Net}
 use Rattle.netlist.proofs.Emitting.{emitted-then}
-use Rattle.bits.specs.Bits.{Bits, litAt, tabulate}
-use Rattle.bits.specs.Input.{inBit}
-use Rattle.bits.specs.Inner.Taken.{TakesInputs}
-use Rattle.bits.proofs.Laws.{sized-table}
-use Rattle.relations.specs.Access.{aboveNodes}
-use Rattle.relations.proofs.Access.{above-short}
+use Rattle.arithmetic.specs.Bits.{Bits, litAt, tabulate}
+use Rattle.arithmetic.specs.Input.{inBit}
+use Rattle.arithmetic.specs.Inner.Taken.{TakesInputs}
+use Rattle.arithmetic.specs.Circuit.{Number}
+use Rattle.arithmetic.specs.Inner.Made as made
+use Rattle.arithmetic.specs.declared.Bundle.{Bundle}
+use Rattle.indexes.proofs.Gates.{claim-short, passing-short}
 use Rattle.wires.specs.Wires.{Wires, bitsIn, bitsPut, bitsOf, put, arriving, claiming, isMade}
 use Rattle.wires.specs.Inner.Reach.{wiresOf}
 use Rattle.wiring.specs.Command.{Stretch, after, still, claimed, passed, readInto, simple}
-use Rattle.operands.specs.Operation.{computeNodes}
-use Rattle.indexes.specs.Index.{claimNodes, claimLit, accessNodes, accessArrival}
+use Rattle.indexes.specs.Index.{claim, passing}
 use Rattle.wiring.specs.Inner.Makes.{accessOf, Makes}
 use Rattle.lead.specs.declared.Target.{Target}
 use Rattle.wiring.specs.declared.Made.{Made}
 use Rattle.faults.proofs.Tests.{not-both}
 
--- the first w places of an array were stored for variable d
-pub stored : (bs l : List ℕ) (d : ℕ) {r : List ℕ} (f : Bits) (l₁ : List ℕ) (w : ℕ) → l₁ ≡ sets l (32 * d) (take w r) → w ≡ width bs d
-    → r ≡ tabulate f 32 → width bs d ≤ 32 → l₁ ≡ bitsPut bs l d f
-stored bs l d {r} f l₁ w e q p h = e ∙ ap (λ (i : ℕ). sets l (32 * d) (take i r)) q ∙ ap (sets l (32 * d)) (sized-table f p (width bs d) h)
-
--- operands of one width
-pub computed-at : (bs l : List ℕ) (op d a b g : ℕ) (w : ℕ) → w ≡ width bs d → width bs d ≡ width bs a → width bs d ≡ width bs b
-    → computeNodes op g (litAt (take w (drop (32 * a) l))) (litAt (take w (drop (32 * b) l))) w
-    ≡ computeNodes op g (bitsIn bs l a) (bitsIn bs l b) (width bs d)
-computed-at bs l op d a b g w e x y =
-    λ i. computeNodes op g (litAt (take ((e ∙ x) i) (drop (32 * a) l))) (litAt (take ((e ∙ y) i) (drop (32 * b) l))) (e i)
-
-module _ (bs : List ℕ) (h : Header) (t : Target) (g array i : ℕ) (k : Counts) (s : Wires) where
-  -- the named access, read with its width and its size
-  pub claim-at : (w size : ℕ) → w ≡ width bs i → size ≡ arraySize bs h array → accesses k ≡ t .access
-      → _≡_ {A = Stretch}
-      (record {
-        nodes = claimNodes (t .side) g (litAt (take w (drop (32 * i) (s .lits)))) size w;
-        wires = claiming s (claimLit (t .side) g (litAt (take w (drop (32 * i) (s .lits)))) size w);
-      })
-      (accessOf bs h t g array i k s)
-  claim-at w size e f q =
-      rw (eq-eqb _ _ q)
-      (λ j. record {
-        nodes = claimNodes (t .side) g (litAt (take (e j) (drop (32 * i) (s .lits)))) (f j) (e j);
-        wires = claiming s (claimLit (t .side) g (litAt (take (e j) (drop (32 * i) (s .lits)))) (f j) (e j));
-      })
+module _ (bs : List ℕ) (h : Header) (t : Target) (g array i : ℕ) (k : Counts) (s : Wires) (a : Bits) (size w : ℕ) (p : a ≡ bitsOf bs s i) (q : size ≡ arraySize bs h array)
+    (e : w ≡ width bs i) where
+  -- the named access, from the bits of its index, its width and its size
+  pub claim-at : accesses k ≡ t .access
+      → _≡_ {A = Stretch} (record { nodes = claim (t .side) g a size w .nodes; wires = claiming s (claim (t .side) g a size w .lit) }) (accessOf bs h t g array i k s)
+  claim-at f =
+      rw (eq-eqb _ _ f)
+      (λ j. record { nodes = claim (t .side) g (p j) (q j) (e j) .nodes; wires = claiming s (claim (t .side) g (p j) (q j) (e j) .lit) })
 
   -- another access
-  pub pass-at : (w size : ℕ) → w ≡ width bs i → size ≡ arraySize bs h array → (accesses k ≡ t .access → ⊥)
-      → _≡_ {A = Stretch}
-      (record {
-        nodes = accessNodes g (litAt (take w (drop (32 * i) (s .lits)))) size w (s .arrival);
-        wires = arriving s (accessArrival g (litAt (take w (drop (32 * i) (s .lits)))) size w);
-      })
-      (accessOf bs h t g array i k s)
-  pass-at w size e f q =
-      rw (ne-eqb _ _ q)
-      (λ j. record {
-        nodes = accessNodes g (litAt (take (e j) (drop (32 * i) (s .lits)))) (f j) (e j) (s .arrival);
-        wires = arriving s (accessArrival g (litAt (take (e j) (drop (32 * i) (s .lits)))) (f j) (e j));
-      })
+  pub pass-at : (accesses k ≡ t .access → ⊥)
+      → _≡_ {A = Stretch} (record { nodes = passing g a size w (s .arrival) .nodes; wires = arriving s (passing g a size w (s .arrival) .lit) }) (accessOf bs h t g array i k s)
+  pass-at f =
+      rw (ne-eqb _ _ f)
+      (λ j. record { nodes = passing g (p j) (q j) (e j) (s .arrival) .nodes; wires = arriving s (passing g (p j) (q j) (e j) (s .arrival) .lit) })
 
+module _ (bs : List ℕ) (h : Header) (t : Target) (g array i : ℕ) (k : Counts) (s : Wires) where
   -- an access takes few variables
-  passed-few : width bs i ≤ 32 → length (passed bs h g array i s .nodes) ≤ 128
-  unfolding accessNodes
-  passed-few l = simp length-append (omega (arith, above-short g (bitsOf bs s i) (arraySize bs h array) (width bs i)))
-
-  claimed-few : width bs i ≤ 32 → length (claimed bs h t g array i s .nodes) ≤ 128
-  unfolding claimNodes
-  claimed-few l = pick (eqb (t .side) 1)
-    where
-      pick : (b : Bool) → length (cond b (aboveNodes g (bitsOf bs s i) (arraySize bs h array) (width bs i)) []) ≤ 128
-      pick true = omega (arith, above-short g (bitsOf bs s i) (arraySize bs h array) (width bs i))
-      pick false = omega arith
-
   pub access-few : width bs i ≤ 32 → length (accessOf bs h t g array i k s .nodes) ≤ 128
   access-few l = pick (eqb (accesses k) (t .access))
     where
       pick : (b : Bool) → length (cond b (claimed bs h t g array i s) (passed bs h g array i s) .nodes) ≤ 128
-      pick true = claimed-few l
-      pick false = passed-few l
+      pick true = omega (arith, claim-short (t .side) g (bitsOf bs s i) (arraySize bs h array) (width bs i))
+      pick false = omega (arith, passing-short g (bitsOf bs s i) (arraySize bs h array) (width bs i) (s .arrival))
 
   -- a write is its access
   pub write-is : (a : ℕ) → accessOf bs h t g array i k s ≡ simple bs h t g (Simple.Write array i a) k s
@@ -150,3 +113,11 @@ read-makes {w₁ = w₁} {u₁ = u₁} {n = n} {x = x} {m} bs h d k p wd e n₁ 
   emitted = emitted-then (p .emitted) (rw e at (q .tells w₁ u₁ (h .parameters + k .reads)));
   wires = ap (λ (l : List ℕ). wiresOf l (m .reach)) z ∙ (λ j. put bs (p .wires j) d (inBit (p .emitted .next j)));
 }
+
+-- 4 w w variables are enough for a multiplication
+pub square-few : (w : ℕ) → w ≤ 32 → 4 * w * w ≤ 4096
+square-few w l = let z : 4 * w ≤ 128 = omega arith in mul-le-mul z l
+
+-- an equal number is made alike
+pub makes-number : {w t w₁ t₁ : List ℕ} {n : Net} {x y : Number} {r : Bundle} → x ≡ y → made.Makes w t n x w₁ t₁ r → made.Makes w t n y w₁ t₁ r
+makes-number {w} {t} {w₁} {t₁} {n} {x} {y} {r} e m = subst (λ (z : Number). made.Makes w t n z w₁ t₁ r) e m

@@ -9,13 +9,14 @@ use Rattle.faults.specs.Step.{accesses}
 use Rattle.header.specs.declared.Header.{Header}
 use Rattle.faults.specs.declared.Counts.{Counts}
 use Rattle.command.specs.declared.Simple.{Simple}
-use Rattle.netlist.specs.Node.{Node}
-use Rattle.bits.specs.Extend.{constBit}
-use Rattle.bits.specs.Input.{inputs, inBit}
+use Rattle.netlist.specs.declared.Node.{Node}
+use Rattle.arithmetic.specs.Extend.{constBit}
+use Rattle.arithmetic.specs.Input.{inputs, inBit}
 use Rattle.lead.specs.declared.Target.{Target}
-use Rattle.operands.specs.Operation.{convertBits, computeNodes, computeBits}
-use Rattle.indexes.specs.Index.{accessNodes, accessArrival, claimNodes, claimLit}
+use Rattle.arithmetic.specs.Circuit.{Predicate, Number}
+use Rattle.indexes.specs.Index.{passing, claim}
 use Rattle.wires.specs.Wires.{Wires, bitsOf, put, arriving, claiming}
+use Rattle.wiring.specs.Operation.{conversion, computation}
 
 -- a stretch of a translation: the nodes that it makes, and the wires that it leaves
 pub record Stretch : Type 0 where
@@ -33,18 +34,14 @@ still s = record { nodes = []; wires = s }
 -- the named access makes the claim
 abbrev pub claimed : List ℕ → Header → Target → (g array i : ℕ) → Wires → Stretch
 claimed bs h t g array i s =
-    record {
-      nodes = claimNodes (t .side) g (bitsOf bs s i) (arraySize bs h array) (width bs i);
-      wires = claiming s (claimLit (t .side) g (bitsOf bs s i) (arraySize bs h array) (width bs i));
-    }
+    let x : Predicate = claim (t .side) g (bitsOf bs s i) (arraySize bs h array) (width bs i) in
+    record { nodes = x .nodes; wires = claiming s (x .lit) }
 
 -- another access leaves another arrival
 abbrev pub passed : List ℕ → Header → (g array i : ℕ) → Wires → Stretch
 passed bs h g array i s =
-    record {
-      nodes = accessNodes g (bitsOf bs s i) (arraySize bs h array) (width bs i) (s .arrival);
-      wires = arriving s (accessArrival g (bitsOf bs s i) (arraySize bs h array) (width bs i));
-    }
+    let x : Predicate = passing g (bitsOf bs s i) (arraySize bs h array) (width bs i) (s .arrival) in
+    record { nodes = x .nodes; wires = arriving s (x .lit) }
 
 -- an access, of the number that the counts before it give; after one that is not named goes on
 abbrev pub access : List ℕ → Header → Target → (g array i : ℕ) → Counts → Wires → (ℕ → Wires → Stretch) → Stretch
@@ -59,8 +56,9 @@ readInto bs h d k g s = record { nodes = inputs (h .parameters + k .reads) (widt
 -- a command that is no if, the next variable being g
 unfoldable pub simple : List ℕ → Header → Target → (g : ℕ) → Simple → Counts → Wires → Stretch
 simple bs h t g (Simple.Set d c) k s = still (put bs s d (constBit c))
-simple bs h t g (Simple.Convert op d a) k s = still (put bs s d (convertBits op (width bs a) (bitsOf bs s a)))
+simple bs h t g (Simple.Convert op d a) k s = still (put bs s d (conversion op (bitsOf bs s a) (width bs a)))
 simple bs h t g (Simple.Compute op d a b) k s =
-    record { nodes = computeNodes op g (bitsOf bs s a) (bitsOf bs s b) (width bs d); wires = put bs s d (computeBits op g (width bs d)) }
+    let x : Number = computation op g (bitsOf bs s a) (bitsOf bs s b) (width bs d) in
+    record { nodes = x .nodes; wires = put bs s d (x .bits) }
 simple bs h t g (Simple.Read d array i) k s = access bs h t g array i k s (readInto bs h d k)
 simple bs h t g (Simple.Write array i a) k s = access bs h t g array i k s (λ g₁. still)

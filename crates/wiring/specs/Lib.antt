@@ -1,2 +1,3 @@
+pub mod Operation
 pub mod Command
 pub mod Inner

@@ -1,8 +1,10 @@
 // Commands that are no if.
 use crate::Made;
-use bits::constants::const_bits;
-use bits::inputs::input_bits;
-use bits::inputs::take_inputs;
+use crate::operations::compute;
+use crate::operations::convert;
+use arithmetic::constants::const_bits;
+use arithmetic::input_words::input_bits;
+use arithmetic::input_words::take_inputs;
 use command::Simple;
 use faults::Counts;
 use faults::steps::accesses_of;
@@ -13,12 +15,11 @@ use indexes::claim_access;
 use indexes::pass_access;
 use lead::Target;
 use netlist::Net;
-use operands::operations::compute;
-use operands::operations::convert;
 use slices::wide;
 use wires::Claim;
 use wires::Reach;
 use wires::literals::is_made;
+use wires::literals::place_of;
 use wires::literals::store_bits;
 use wires::literals::with_arrival;
 ghost use mathlib.Core.Path.{_≡_};
@@ -27,10 +28,10 @@ ghost use Prim.Native.Nat.{_<_};
 ghost use lib.ListN.{length};
 ghost use Rattle.faults.specs.Inner.Sound.{Sound, Fine};
 ghost use Rattle.netlist.specs.Inner.Emit.{Emitted, Ready};
-ghost use Rattle.bits.specs.Extend.{constBit};
-ghost use Rattle.wires.specs.Wires.{bitsIn, bitsPut, isMade};
+ghost use Rattle.arithmetic.specs.Extend.{constBit};
+ghost use Rattle.wires.specs.Wires.{allPlaces, bitsIn, bitsPut, isMade};
 ghost use Rattle.wires.specs.Inner.Reach.{wiresOf};
-ghost use Rattle.operands.specs.Operation.{convertBits, computeNodes, computeBits};
+ghost use Rattle.wiring.specs.Operation.{conversion, computation};
 ghost use Rattle.wiring.specs.Command.{simple};
 ghost use Rattle.wiring.specs.Inner.Makes.{accessOf, Makes};
 ghost use Rattle.header.specs.Header.{width};
@@ -38,25 +39,26 @@ ghost use Rattle.command.specs.declared.Simple.{Simple};
 
 // d := c.
 fn set_made(lits: &mut [u32], bytes: &[u8], h: Header, d: u8, c: u32)
-    requires { ⌜ length (now lits) ≡ 1024 ⌝ }
+    requires { ⌜ length (now lits) ≡ allPlaces ⌝ }
     requires { ⌜ Sound (now bytes) h (Simple.Set d c) × Fine (now bytes) h ⌝ }
     ensures { λ _. ⌜ now (lits .exit) ≡ bitsPut (now (bytes .entry)) (now (lits .entry)) d (constBit c) ⌝ }
 {
-    let bits = const_bits(c);
     let w = width_of(bytes, d) as usize;
-    store_bits(lits, d, &bits, w);
+    let bits = const_bits(c);
+    store_bits(lits, place_of(d), &bits[..w]);
 }
 
 // Copy, cut, and the extensions.
 fn convert_made(lits: &mut [u32], bytes: &[u8], h: Header, op: u8, d: u8, a: u8)
-    requires { ⌜ length (now lits) ≡ 1024 ⌝ }
+    requires { ⌜ length (now lits) ≡ allPlaces ⌝ }
     requires { ⌜ Sound (now bytes) h (Simple.Convert op d a) × Fine (now bytes) h ⌝ }
-    ensures { λ _. ⌜ now (lits .exit) ≡ bitsPut (now (bytes .entry)) (now (lits .entry)) d (convertBits op (width (now (bytes .entry)) a) (bitsIn (now (bytes .entry)) (now (lits .entry)) a)) ⌝ }
+    ensures { λ _. ⌜ now (lits .exit) ≡ bitsPut (now (bytes .entry)) (now (lits .entry)) d (conversion op (bitsIn (now (bytes .entry)) (now (lits .entry)) a) (width (now (bytes .entry)) a)) ⌝ }
 {
-    let from = width_of(bytes, a) as usize;
-    let bits = convert(lits, op, a, from);
+    let from = place_of(a);
+    let to = from + width_of(bytes, a) as usize;
+    let bits = convert(op, &lits[from..to]);
     let w = width_of(bytes, d) as usize;
-    store_bits(lits, d, &bits, w);
+    store_bits(lits, place_of(d), &bits[..w]);
 }
 
 // Add, subtract, multiply.
@@ -73,15 +75,17 @@ fn compute_made(
     b: u8,
 ) -> Net
     requires { ⌜ Ready n 8192 ⌝ }
-    requires { ⌜ length (now lits) ≡ 1024 ⌝ }
+    requires { ⌜ length (now lits) ≡ allPlaces ⌝ }
     requires { ⌜ Sound (now bytes) h (Simple.Compute op d a b) × Fine (now bytes) h ⌝ }
-    ensures { λ r. ⌜ Emitted (now (words .entry)) (now (starts .entry)) n (computeNodes op (n .next) (bitsIn (now (bytes .entry)) (now (lits .entry)) a) (bitsIn (now (bytes .entry)) (now (lits .entry)) b) (width (now (bytes .entry)) d)) (now (words .exit)) (now (starts .exit)) r ⌝ }
-    ensures { λ _. ⌜ now (lits .exit) ≡ bitsPut (now (bytes .entry)) (now (lits .entry)) d (computeBits op (n .next) (width (now (bytes .entry)) d)) ⌝ }
+    ensures { λ r. ⌜ Emitted (now (words .entry)) (now (starts .entry)) n (computation op (n .next) (bitsIn (now (bytes .entry)) (now (lits .entry)) a) (bitsIn (now (bytes .entry)) (now (lits .entry)) b) (width (now (bytes .entry)) d) .nodes) (now (words .exit)) (now (starts .exit)) r ⌝ }
+    ensures { λ _. ⌜ now (lits .exit) ≡ bitsPut (now (bytes .entry)) (now (lits .entry)) d (computation op (n .next) (bitsIn (now (bytes .entry)) (now (lits .entry)) a) (bitsIn (now (bytes .entry)) (now (lits .entry)) b) (width (now (bytes .entry)) d) .bits) ⌝ }
 {
     let w = width_of(bytes, d) as usize;
-    let r = compute(words, starts, n, lits, op, a, b, w);
+    let x = place_of(a);
+    let y = place_of(b);
+    let r = compute(words, starts, n, op, &lits[x..x + w], &lits[y..y + w]);
     let bits = r.bits;
-    store_bits(lits, d, &bits, w);
+    store_bits(lits, place_of(d), &bits[..w]);
     r.net
 }
 
@@ -100,15 +104,16 @@ fn access_made(
     s: Reach,
 ) -> Made
     requires { ⌜ Ready n 8192 ⌝ }
-    requires { ⌜ length (now lits) ≡ 1024 ⌝ }
+    requires { ⌜ length (now lits) ≡ allPlaces ⌝ }
     requires { ⌜ (i < h .variables) × Fine (now bytes) h ⌝ }
     ensures { λ r. ⌜ Makes (now (words .entry)) (now (starts .entry)) n (accessOf (now (bytes .entry)) h t (n .next) array i k (wiresOf (now (lits .entry)) s)) (now (words .exit)) (now (starts .exit)) (now (lits .entry)) r ⌝ }
 {
     let arrival = s.arrival;
-    let w = width_of(bytes, i) as usize;
+    let from = place_of(i);
+    let to = from + width_of(bytes, i) as usize;
     let size = size_of_array(bytes, h, array);
     if accesses_of(k) == wide(t.access) {
-        let r = claim_access(words, starts, n, lits, i, w, size, t.side);
+        let r = claim_access(words, starts, n, &lits[from..to], size, t.side);
         let net = r.net;
         let claim = Claim::Made {
             arrival,
@@ -117,7 +122,7 @@ fn access_made(
         let reach = Reach { arrival, claim };
         return Made { net, reach };
     }
-    let r = pass_access(words, starts, n, lits, i, w, size, arrival);
+    let r = pass_access(words, starts, n, &lits[from..to], size, arrival);
     let net = r.net;
     let reach = with_arrival(s, r.lit);
     Made { net, reach }
@@ -139,7 +144,7 @@ fn read_made(
     s: Reach,
 ) -> Made
     requires { ⌜ Ready n 8192 ⌝ }
-    requires { ⌜ length (now lits) ≡ 1024 ⌝ }
+    requires { ⌜ length (now lits) ≡ allPlaces ⌝ }
     requires { ⌜ Sound (now bytes) h (Simple.Read d array i) × Fine (now bytes) h × (isMade (s .claim) ≡ false) ⌝ }
     ensures { λ r. ⌜ Makes (now (words .entry)) (now (starts .entry)) n (simple (now (bytes .entry)) h t (n .next) (Simple.Read d array i) k (wiresOf (now (lits .entry)) s)) (now (words .exit)) (now (starts .exit)) (now (lits .exit)) r ⌝ }
 {
@@ -152,7 +157,7 @@ fn read_made(
     let bits = input_bits(first.next);
     let w = width_of(bytes, d) as usize;
     let net = take_inputs(first, w);
-    store_bits(lits, d, &bits, w);
+    store_bits(lits, place_of(d), &bits[..w]);
     Made { net, reach }
 }
 
@@ -170,7 +175,7 @@ pub fn simple_made(
     s: Reach,
 ) -> Made
     requires { ⌜ Ready n 8192 ⌝ }
-    requires { ⌜ length (now lits) ≡ 1024 ⌝ }
+    requires { ⌜ length (now lits) ≡ allPlaces ⌝ }
     requires { ⌜ Sound (now bytes) h c × Fine (now bytes) h × (isMade (s .claim) ≡ false) ⌝ }
     ensures { λ r. ⌜ Makes (now (words .entry)) (now (starts .entry)) n (simple (now (bytes .entry)) h t (n .next) c k (wiresOf (now (lits .entry)) s)) (now (words .exit)) (now (starts .exit)) (now (lits .exit)) r ⌝ }
 {

@@ -1,5 +1,6 @@
-// What a command that is no if makes of the wires.
+// What a command that is no if makes of the symbolic state.
 pub mod commands;
+mod operations;
 
 use netlist::Net;
 use wires::Reach;

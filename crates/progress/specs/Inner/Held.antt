@@ -18,7 +18,7 @@ use Rattle.step.specs.Inner.Undo.{Clean}
 use Rattle.step.specs.declared.Phase.{Phase}
 use Rattle.step.specs.declared.Progress.{Progress}
 use Rattle.step.specs.declared.Turn.{Turn}
-use Rattle.clauses.specs.Clause.{flatten}
+use Rattle.cnf.specs.Clause.{flatten}
 
 -- the first `count` clauses lie in the first `used` words, one after another
 pub record Store (words starts : List ℕ) (marks count used : ℕ) : Type 0 where

@@ -4,7 +4,7 @@ use mathlib.Core.Path.{_≡_}
 use mathlib.Core.List.{List}
 use lib.ListN.{length, replicate}
 use lib.Seq.{sets}
-use Rattle.clauses.specs.Clause.{flatten, offsets}
+use Rattle.cnf.specs.Clause.{flatten, offsets}
 use Rattle.propagation.specs.Stored.{clausesOf}
 use Rattle.progress.specs.Inner.Held.{Store}
 use Rattle.step.specs.declared.Verdict.{Verdict}

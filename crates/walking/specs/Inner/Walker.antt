@@ -4,7 +4,6 @@ use mathlib.Core.Path.{_≡_}
 use mathlib.Core.List.{List}
 use mathlib.Core.Bool.{false}
 use lib.ListN.{length}
-use lib.Seq.{sets}
 use Rattle.slices.specs.Bytes.{entry}
 use Rattle.faults.specs.Step.{oneIf}
 use Rattle.routine.specs.Routine.{Arm}
@@ -13,11 +12,12 @@ use Rattle.routine.specs.Inner.Stands.{Stands, SomeArm, SomeIf}
 use Rattle.header.specs.declared.Header.{Header}
 use Rattle.command.specs.declared.Condition.{Condition}
 use Rattle.faults.specs.declared.Counts.{Counts}
-use Rattle.clauses.specs.Clause.{flatten, offsets}
+use Rattle.cnf.specs.Inner.Append.{Fits, Written}
+use Rattle.cnf.specs.declared.Store.{Store}
 use Rattle.netlist.specs.Inner.Emit.{Emitted, Ready}
 use Rattle.netlist.specs.declared.Net.{Net}
 use Rattle.wiring.specs.Command.{Stretch}
-use Rattle.wires.specs.Wires.{Wires, isMade}
+use Rattle.wires.specs.Wires.{Wires, allPlaces, isMade}
 use Rattle.wires.specs.Inner.Reach.{wiresOf, reaching}
 use Rattle.meaning.specs.Walk.{forked, armOf}
 use Rattle.meaning.specs.Translation.{parameterNodes, parameterLits, whole, clausesOfAll, sizeOf}
@@ -64,7 +64,7 @@ pub record ArmMade (bs : List ℕ) (h : Header) (t : Target) (ds : List ℕ) (de
 pub record ArmRoom (bs : List ℕ) (h : Header) (t : Target) (ds : List ℕ) (depth close : ℕ) (l : List ℕ) (p : Walk) : Type 0 where
   pub some : SomeArm bs h depth close (p .next) (p .counts)
   pub room : Roomy (p .net) (armOf bs h t ds (some .arm) (p .net .next) (wiresAt l p))
-  pub places : length l ≡ 1024
+  pub places : length l ≡ allPlaces
 
 -- an if with these arms, from where the walk p is
 abbrev pub ifOf : List ℕ → Header → Target → (ds : List ℕ) → Condition → (l : List ℕ) → Walk → (first second : Arm) → Stretch
@@ -81,14 +81,21 @@ pub record IfMade (bs : List ℕ) (h : Header) (t : Target) (ds : List ℕ) (dep
 pub record IfRoom (bs : List ℕ) (h : Header) (t : Target) (ds : List ℕ) (depth : ℕ) (c : Condition) (l : List ℕ) (p : Walk) : Type 0 where
   pub some : SomeIf bs h depth (p .next) (oneIf (p .counts))
   pub room : Roomy (p .net) (ifOf bs h t ds c l p (some .first) (some .second))
-  pub places : length l ≡ 1024
+  pub places : length l ≡ allPlaces
 
 -- the parameters take no clauses, so that no buffer changes; the literals became l₁
 pub record Begun (bs : List ℕ) (n : Net) (parameters : ℕ) (l₁ : List ℕ) (r : Net) : Type 0 where
   pub emitted : (w u : List ℕ) → Emitted w u n (parameterNodes bs parameters) w u r
   pub lits : l₁ ≡ parameterLits bs parameters
 
--- the whole translation of whatever was decoded: its size, and what it leaves in the buffers
+-- nothing is stored yet
+abbrev pub noStore : Store
+noStore = record { words = 0; clauses = 0 }
+
+-- the whole translation of whatever was decoded: its size, and what it leaves in the buffers where they hold it
 pub record WholeMade (bs : List ℕ) (h : Header) (t : Target) (ds : List ℕ) (w u w₁ u₁ : List ℕ) (r : Size) : Type 0 where
-  pub tells : (a : Arm) (k : Counts) → decode bs ≡ routine h a k
-      → (r ≡ sizeOf (whole bs t ds h a)) × (w₁ ≡ sets w 0 (flatten (clausesOfAll (whole bs t ds h a)))) × (u₁ ≡ sets u 0 (offsets 0 (clausesOfAll (whole bs t ds h a))))
+  pub size : (a : Arm) (k : Counts) → decode bs ≡ routine h a k → r ≡ sizeOf (whole bs t ds h a)
+  pub written : (a : Arm) (k : Counts) → decode bs ≡ routine h a k → Fits (length w) (length u) noStore (clausesOfAll (whole bs t ds h a))
+      → Written w u 0 0 (clausesOfAll (whole bs t ds h a)) w₁ u₁
+  pub words-long : length w₁ ≡ length w
+  pub starts-long : length u₁ ≡ length u

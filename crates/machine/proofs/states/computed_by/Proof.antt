@@ -1,4 +1,3 @@
-use mathlib.Core.Path.{_∙_}
 use borrow.Author.Tests.{ne-eqb}
 use borrow.Author.Needs.{needs}
 use Rattle.machine.specs.State.{computed}
@@ -24,9 +23,13 @@ returns-2 c = rw (c .before .match .keys2) (c .difference .ensures)
 
 returns-3 : tie.Need-returns-3
 unfolding computed
-returns-3 c = c .product .ensures ∙ simp (ne-eqb _ _ (c .before .match .rest .0 .1), ne-eqb _ _ (c .before .match .rest .1))
+returns-3 c = rw (c .before .match .keys3) (c .product .ensures)
+
+returns-4 : tie.Need-returns-4
+unfolding computed
+returns-4 c = simp (ne-eqb _ _ (c .match .rest .0 .0 .1), ne-eqb _ _ (c .match .rest .0 .1), ne-eqb _ _ (c .match .rest .1))
 
 pub computed-by-spec : {M : Type 1} → statement M
 computed-by-spec =
     tie.close
-    (tie.spec sum-requires difference-requires product-requires returns returns-2 returns-3)
+    (tie.spec sum-requires difference-requires product-requires returns returns-2 returns-3 returns-4)

@@ -1,5 +1,5 @@
 use borrow.Author.Needs.{needs}
-use Rattle.clauses.proofs.Appending.{appended-none, appended-then}
+use Rattle.cnf.proofs.Appending.{appended-none, appended-then}
 use Rattle.translation.proofs.wholes.append_claim.Statement.{statement}
 use Rattle.translation.proofs.wholes.append_claim.Tie as tie
 

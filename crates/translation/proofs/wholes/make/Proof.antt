@@ -1,19 +1,19 @@
 use mathlib.Core.Path.{refl}
-use Rattle.translation.proofs.Making.{fine-here, begin-ready, whole-roomy, claim-room, some-variables, whole-made, made-words, made-starts}
+use Rattle.translation.proofs.Making.{fine-here, begin-ready, whole-roomy, claim-room, some-variables, whole-made}
 use Rattle.walking.proofs.Translating.{arm-from}
 use borrow.Author.Needs.{needs}
 use native.Mathlib.Omega.{arith}
 use Rattle.translation.proofs.wholes.make.Statement.{statement}
 use Rattle.translation.proofs.wholes.make.Tie as tie
 
-append1-requires : tie.Need-append1-requires
-append1-requires c κs = search needs
+emit-requires : tie.Need-emit-requires
+emit-requires c κs = search needs
 
 slice-aggregate-begin : tie.Need-slice-aggregate-begin
 slice-aggregate-begin c = search needs
 
 begin-requires : tie.Need-begin-requires
-begin-requires c κs = let i = c .before .before .before .before .before .before .before .before .before .before .before .before .pre in (refl, ((begin-ready i (c .before .before .before .before .before .append1 .ensures), refl), fine-here _ _ i))
+begin-requires c κs = let i = c .before .before .before .before .before .before .before .before .before .before .before .before .pre in (refl, ((begin-ready i (c .before .before .before .before .before .emit .ensures), c .before .before .before .before .before .emit .ensures .next), fine-here _ _ i))
 
 first-command-requires : tie.Need-first-command-requires
 first-command-requires c κs = search needs
@@ -26,34 +26,34 @@ slice-aggregate-arm-made c = search needs
 
 arm-made-requires : tie.Need-arm-made-requires
 arm-made-requires c κs = let i = c .before .before .before .before .before .before .before .before .before .before .before .before .before .before .before .before .before .before .before .pre in
-    rw (c .before .before .before .first-walk .ensures) (whole-roomy i (c .before .before .before .before .before .before .before .before .before .before .before .before .append1 .ensures) (c .before .before .before .before .before .before .begin .ensures) (c .before .before .before .before .first-command .ensures), fine-here _ _ i, refl)
+    rw (c .before .before .before .first-walk .ensures) (whole-roomy i (c .before .before .before .before .before .before .before .before .before .before .before .before .emit .ensures) (c .before .before .before .before .before .before .begin .ensures) (c .before .before .before .before .first-command .ensures), fine-here _ _ i, refl)
 
 append-claim-requires : tie.Need-append-claim-requires
 append-claim-requires c κs = let m = c .before .before .before .before .before .before .before .before .before .before in
     let b = m .before .before .before .before .before .before .before in
-    claim-room (b .before .before .before .before .before .before .before .before .before .before .before .before .before .pre) (b .before .before .before .before .before .before .append1 .ensures) (b .begin .ensures) (m .before .before .before .before .before .first-command .ensures) (arm-from _ _ refl (m .before .before .before .before .first-walk .ensures) (m .arm-made .ensures))
+    claim-room (b .before .before .before .before .before .before .before .before .before .before .before .before .before .pre) (b .before .before .before .before .before .before .emit .ensures) (b .begin .ensures) (m .before .before .before .before .before .first-command .ensures) (arm-from _ _ refl (m .before .before .before .before .first-walk .ensures) (m .arm-made .ensures))
 
-sub-t36 : tie.Need-sub-t36
-sub-t36 c = let m = c .before .before .before .before .before .before .before .before .before .before .before .before .before .before .before .before in
+sub-t37 : tie.Need-sub-t37
+sub-t37 c = let m = c .before .before .before .before .before .before .before .before .before .before .before .before .before .before .before .before in
     let b = m .before .before .before .before .before .before .before in
-    omega (arith, some-variables (b .before .before .before .before .before .before .before .before .before .before .before .before .before .pre) (b .before .before .before .before .before .before .append1 .ensures) (b .begin .ensures) (m .before .before .before .before .before .first-command .ensures) (arm-from _ _ refl (m .before .before .before .before .first-walk .ensures) (m .arm-made .ensures)))
+    omega (arith, some-variables (b .before .before .before .before .before .before .before .before .before .before .before .before .before .pre) (b .before .before .before .before .before .before .emit .ensures) (b .begin .ensures) (m .before .before .before .before .before .first-command .ensures) (arm-from _ _ refl (m .before .before .before .before .first-walk .ensures) (m .arm-made .ensures)))
 
 returns : tie.Need-returns
 returns c = let m = c .before .before .before .before .before .before .before .before .before .before .before .before .before .before .before .before in
     let b = m .before .before .before .before .before .before .before in
-    whole-made (b .before .before .before .before .before .before .before .before .before .before .before .before .before .pre) (b .before .before .before .before .before .before .append1 .ensures) (b .begin .ensures) (m .before .before .before .before .before .first-command .ensures) (arm-from _ _ refl (m .before .before .before .before .first-walk .ensures) (m .arm-made .ensures)) (c .before .before .before .before .before .append-claim .ensures)
+    whole-made (b .before .before .before .before .before .before .before .before .before .before .before .before .before .pre) (b .before .before .before .before .before .before .emit .ensures) (b .begin .ensures) (m .before .before .before .before .before .first-command .ensures) (arm-from _ _ refl (m .before .before .before .before .first-walk .ensures) (m .arm-made .ensures)) (c .before .before .before .before .before .append-claim .ensures)
 
 same-length : tie.Need-same-length
-same-length c = made-words (c .before .before .before .before .before .before .before .before .before .before .before .before .before .before .before .before .before .before .before .before .before .before .before .before .before .before .before .before .before .before .before .before .before .before .before .before .pre) (returns c)
+same-length c = returns c .words-long
 
 same-length-2 : tie.Need-same-length-2
-same-length-2 c = made-starts (c .before .before .before .before .before .before .before .before .before .before .before .before .before .before .before .before .before .before .before .before .before .before .before .before .before .before .before .before .before .before .before .before .before .before .before .before .pre) (returns c)
+same-length-2 c = returns c .starts-long
 
 pub make-spec : {M : Type 1} → statement M
 make-spec =
     tie.close
     (tie.spec
-    append1-requires
+    emit-requires
     slice-aggregate-begin
     begin-requires
     first-command-requires
@@ -61,7 +61,7 @@ make-spec =
     slice-aggregate-arm-made
     arm-made-requires
     append-claim-requires
-    sub-t36
+    sub-t37
     same-length
     same-length-2
     returns)

@@ -1,0 +1,9 @@
+pub mod Bits
+pub mod Circuit
+pub mod Extend
+pub mod Input
+pub mod Adder
+pub mod Product
+pub mod Choose
+pub mod Join
+pub mod Inner

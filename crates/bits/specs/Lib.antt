@@ -1,4 +1,0 @@
-pub mod Bits
-pub mod Extend
-pub mod Input
-pub mod Inner
