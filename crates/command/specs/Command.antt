@@ -24,7 +24,7 @@ sizeOf (Command.Close mark) = 1
 sizeOf (Command.If c) = 4
 sizeOf (Command.Simple c) = sizeOfSimple c
 
--- the command byte `op` at an offset, with its operands a, b, c, one byte each, or a and the constant
+-- the command by its byte `op`, with those of the operands a, b, c (one byte each) and the constant that it has; any other byte is unknown
 unfoldable pub commandBy : (op a b c const : ℕ) → Command
 commandBy op a b c const =
     cond (eqb op 0x01) (Command.Simple (Simple.Set a const))

@@ -8,7 +8,7 @@ ghost use mathlib.Core.Path.{_≡_};
 ghost use Prim.Native.Nat.{_+_, _<_};
 ghost use lib.ListN.{length};
 ghost use Rattle.slices.specs.Bytes.{entry};
-ghost use Rattle.command.specs.Command.{commandBy, commandOf, commandAt, sizeOf, sizeOfSimple};
+ghost use Rattle.command.specs.Command.{commandOf, commandAt, sizeOf, sizeOfSimple};
 
 pub fn simple_size(c: Simple) -> usize
     ensures { λ r. ⌜ r ≡ sizeOfSimple c ⌝ }
@@ -30,39 +30,6 @@ pub fn size_of(command: Command) -> usize
         Command::Close(_) => 1,
         Command::If(_) => 4,
         Command::Simple(c) => simple_size(c),
-    }
-}
-
-// The command with the byte `op`, its operands a, b, c and, of a set, the constant.
-fn command_by(op: u8, a: u8, b: u8, c: u8, constant: u32) -> Command
-    ensures { λ r. ⌜ r ≡ commandBy op a b c constant ⌝ }
-{
-    match op {
-        0x01 => Command::Simple(Simple::Set { d: a, c: constant }),
-        0x02 | 0x06..=0x08 => Command::Simple(Simple::Convert { op, d: a, s: b }),
-        0x03..=0x05 => Command::Simple(Simple::Compute {
-            op,
-            d: a,
-            s: b,
-            t: c,
-        }),
-        0x09 => Command::Simple(Simple::Read {
-            d: a,
-            array: b,
-            i: c,
-        }),
-        0x0A => Command::Simple(Simple::Write {
-            array: a,
-            i: b,
-            s: c,
-        }),
-        0x0B => Command::If(Condition {
-            relation: a,
-            s: b,
-            t: c,
-        }),
-        0x00 | 0x0C..=0x0D => Command::Close(op),
-        _ => Command::Missing,
     }
 }
 
@@ -101,10 +68,37 @@ fn command_of(bytes: &[u8], at: usize) -> Command
     ensures { λ r. ⌜ r ≡ commandOf (now (bytes .entry)) at ⌝ }
 {
     let f = front_at(bytes, at);
-    if f.op == 0x01 {
-        return command_by(f.op, f.a, 0, 0, word_at(bytes, at + 2));
+    let op = f.op;
+    match op {
+        0x01 => Command::Simple(Simple::Set {
+            d: f.a,
+            c: word_at(bytes, at + 2),
+        }),
+        0x02 | 0x06..=0x08 => Command::Simple(Simple::Convert { op, d: f.a, s: f.b }),
+        0x03..=0x05 => Command::Simple(Simple::Compute {
+            op,
+            d: f.a,
+            s: f.b,
+            t: f.c,
+        }),
+        0x09 => Command::Simple(Simple::Read {
+            d: f.a,
+            array: f.b,
+            i: f.c,
+        }),
+        0x0A => Command::Simple(Simple::Write {
+            array: f.a,
+            i: f.b,
+            s: f.c,
+        }),
+        0x0B => Command::If(Condition {
+            relation: f.a,
+            s: f.b,
+            t: f.c,
+        }),
+        0x00 | 0x0C..=0x0D => Command::Close(op),
+        _ => Command::Missing,
     }
-    command_by(f.op, f.a, f.b, f.c, 0)
 }
 
 // The whole command at `at`.

@@ -1,20 +1,59 @@
--- `command::command_of` meets its contract: a set has no operands b and c, and no other command has a constant.
-use mathlib.Core.Path.{_≡_, _∙_, sym}
-use Prim.Native.Nat.{ℕ}
+-- `command::command_of` meets its contract: at each arm the keys, or the bounds of the range, decide the tests of `commandBy`.
+use mathlib.Core.Path.{_≡_}
+use Prim.Native.Nat.{ℕ, _≤_}
+use native.Mathlib.Omega.{arith}
 use borrow.Author.Needs.{needs}
-use borrow.Author.Tests.{ne-eqb}
+use borrow.Author.Tests.{ne-eqb, le-leb, lt-leb}
 use Rattle.command.specs.Command.{commandBy}
+use Rattle.command.specs.declared.Simple.{Simple}
+use Rattle.command.specs.declared.Command.{Command}
 use Rattle.command.proofs.commands.command_of.Statement.{statement}
 use Rattle.command.proofs.commands.command_of.Tie as tie
 
 module _ (op a b c k : ℕ) where
-  set-by : op ≡ 1 → commandBy op a 0 0 k ≡ commandBy op a b c k
+  computes : 3 ≤ op → op ≤ 5 → Command.Simple (Simple.Compute op a b c) ≡ commandBy op a b c k
   unfolding commandBy
-  set-by e = rw e
+  computes l h = simp (ne-eqb op 1 (omega arith), ne-eqb op 2 (omega arith), lt-leb 6 op (omega arith), le-leb 3 op l, le-leb op 5 h)
 
-  other-by : (op ≡ 1 → ⊥) → commandBy op a b c 0 ≡ commandBy op a b c k
+  converts : 6 ≤ op → op ≤ 8 → Command.Simple (Simple.Convert op a b) ≡ commandBy op a b c k
   unfolding commandBy
-  other-by n = rw (ne-eqb op 1 n)
+  converts l h = simp (ne-eqb op 1 (omega arith), ne-eqb op 2 (omega arith), le-leb 6 op l, le-leb op 8 h)
+
+  closes : 12 ≤ op → op ≤ 13 → Command.Close op ≡ commandBy op a b c k
+  unfolding commandBy
+  closes l h =
+      simp (
+        ne-eqb op 1 (omega arith),
+        ne-eqb op 2 (omega arith),
+        le-leb 6 op (omega arith),
+        lt-leb op 8 (omega arith),
+        le-leb 3 op (omega arith),
+        lt-leb op 5 (omega arith),
+        ne-eqb op 9 (omega arith),
+        ne-eqb op 10 (omega arith),
+        ne-eqb op 11 (omega arith),
+        ne-eqb op 0 (omega arith),
+        le-leb 12 op l,
+        le-leb op 13 h,
+      )
+
+  unknown : 14 ≤ op → Command.Missing ≡ commandBy op a b c k
+  unfolding commandBy
+  unknown l =
+      simp (
+        ne-eqb op 1 (omega arith),
+        ne-eqb op 2 (omega arith),
+        le-leb 6 op (omega arith),
+        lt-leb op 8 (omega arith),
+        le-leb 3 op (omega arith),
+        lt-leb op 5 (omega arith),
+        ne-eqb op 9 (omega arith),
+        ne-eqb op 10 (omega arith),
+        ne-eqb op 11 (omega arith),
+        ne-eqb op 0 (omega arith),
+        le-leb 12 op (omega arith),
+        lt-leb op 13 (omega arith),
+      )
 
 front-at-requires : tie.Need-front-at-requires
 front-at-requires c κs = search needs
@@ -25,22 +64,45 @@ add-word-at c = search needs
 word-at-requires : tie.Need-word-at-requires
 word-at-requires c κs = search needs
 
-command-by-requires : tie.Need-command-by-requires
-command-by-requires c κs = search needs
-
 returns : tie.Need-returns
-returns c =
-    let f = c .before .before .before .before .front-at .ensures in
-    c .command-by .ensures
-    ∙ rw (c .before .word-at .ensures, f .0, f .1) (set-by _ _ _ _ _ (sym (f .0) ∙ c .before .before .if1 .taken))
-
-command-by-requires-2 : tie.Need-command-by-requires-2
-command-by-requires-2 c κs = search needs
+unfolding commandBy
+returns c = let f = c .before .before .front-at .ensures in rw (← f .0, ← f .1, c .before .match .keys1, c .word-at .ensures)
 
 returns-2 : tie.Need-returns-2
-returns-2 c =
+unfolding commandBy
+returns-2 c = let f = c .before .front-at .ensures in rw (← f .0, ← f .1, ← f .2, ← f .3, c .match .keys3)
+
+returns-3 : tie.Need-returns-3
+unfolding commandBy
+returns-3 c = let f = c .before .front-at .ensures in rw (← f .0, ← f .1, ← f .2, ← f .3, c .match .keys4)
+
+returns-4 : tie.Need-returns-4
+unfolding commandBy
+returns-4 c = let f = c .before .front-at .ensures in rw (← f .0, ← f .1, ← f .2, ← f .3, c .match .keys5)
+
+returns-5 : tie.Need-returns-5
+returns-5 c =
+    let f = c .before .before .front-at .ensures in
+    rw (← f .0, ← f .1, ← f .2, ← f .3) (computes _ _ _ _ _ (omega arith) (omega arith))
+
+returns-6 : tie.Need-returns-6
+returns-6 c = let f = c .before .before .before .before .front-at .ensures in rw (← f .0) (unknown _ _ _ _ _ (c .if3 .left))
+
+returns-7 : tie.Need-returns-7
+unfolding commandBy
+returns-7 c = let f = c .before .front-at .ensures in rw (← f .0, ← f .1, ← f .2, c .match .keys2)
+
+returns-8 : tie.Need-returns-8
+returns-8 c =
     let f = c .before .before .before .front-at .ensures in
-    c .command-by2 .ensures ∙ rw (f .0, f .1, f .2, f .3) (other-by _ _ _ _ _ (λ e. c .before .if1 .left (f .0 ∙ e)))
+    rw (← f .0, ← f .1, ← f .2) (converts _ _ _ _ _ (c .before .if1 .left) (omega arith))
+
+returns-9 : tie.Need-returns-9
+unfolding commandBy
+returns-9 c = let f = c .before .front-at .ensures in rw (← f .0, c .match .keys6)
+
+returns-10 : tie.Need-returns-10
+returns-10 c = let f = c .before .before .before .before .front-at .ensures in rw (← f .0) (closes _ _ _ _ _ (omega arith) (omega arith))
 
 pub command-of-spec : {M : Type 1} → statement M
 command-of-spec =
@@ -49,7 +111,13 @@ command-of-spec =
     front-at-requires
     add-word-at
     word-at-requires
-    command-by-requires
     returns
-    command-by-requires-2
-    returns-2)
+    returns-2
+    returns-3
+    returns-4
+    returns-5
+    returns-6
+    returns-7
+    returns-8
+    returns-9
+    returns-10)
