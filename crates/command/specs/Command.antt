@@ -7,6 +7,7 @@ use lib.Dec.{leb, eqb}
 use Rattle.slices.specs.Bytes.{entry, word}
 use Rattle.header.specs.Header.{between}
 use Rattle.command.specs.declared.Simple.{Simple}
+use Rattle.command.specs.declared.Touch.{Touch}
 use Rattle.command.specs.declared.Command.{Command}
 
 -- the size of a simple command in bytes
@@ -16,6 +17,21 @@ sizeOfSimple (Simple.Convert op d s) = 3
 sizeOfSimple (Simple.Compute op d s t) = 4
 sizeOfSimple (Simple.Read d array i) = 4
 sizeOfSimple (Simple.Write array i s) = 4
+
+-- what a command does with an array: reads and writes are the accesses, each by the index in a variable
+abbrev pub touches : Simple → Touch
+touches (Simple.Set d c) = Touch.Nothing
+touches (Simple.Convert op d s) = Touch.Nothing
+touches (Simple.Compute op d s t) = Touch.Nothing
+touches (Simple.Read d array i) = Touch.Reads d array i
+touches (Simple.Write array i s) = Touch.Writes array i
+
+-- what the command at an offset does with an array
+unfoldable pub touchesOf : Command → Touch
+touchesOf Command.Missing = Touch.Nothing
+touchesOf (Command.Close mark) = Touch.Nothing
+touchesOf (Command.If c) = Touch.Nothing
+touchesOf (Command.Simple c) = touches c
 
 -- the size of a command in bytes
 abbrev pub sizeOf : Command → ℕ

@@ -2,13 +2,14 @@
 use crate::Command;
 use crate::Condition;
 use crate::Simple;
+use crate::Touch;
 use slices::byte_at;
 use slices::word_at;
 ghost use mathlib.Core.Path.{_≡_};
 ghost use Prim.Native.Nat.{_+_, _<_};
 ghost use lib.ListN.{length};
 ghost use Rattle.slices.specs.Bytes.{entry};
-ghost use Rattle.command.specs.Command.{commandOf, commandAt, sizeOf, sizeOfSimple};
+ghost use Rattle.command.specs.Command.{commandOf, commandAt, sizeOf, sizeOfSimple, touches, touchesOf};
 
 pub fn simple_size(c: Simple) -> usize
     ensures { λ r. ⌜ r ≡ sizeOfSimple c ⌝ }
@@ -19,6 +20,29 @@ pub fn simple_size(c: Simple) -> usize
         Simple::Compute { .. } => 4,
         Simple::Read { .. } => 4,
         Simple::Write { .. } => 4,
+    }
+}
+
+pub fn touched(c: Simple) -> Touch
+    ensures { λ r. ⌜ r ≡ touches c ⌝ }
+{
+    match c {
+        Simple::Set { .. } => Touch::Nothing,
+        Simple::Convert { .. } => Touch::Nothing,
+        Simple::Compute { .. } => Touch::Nothing,
+        Simple::Read { d, array, i } => Touch::Reads { d, array, i },
+        Simple::Write { array, i, s: _ } => Touch::Writes { array, i },
+    }
+}
+
+pub fn touch_of(command: Command) -> Touch
+    ensures { λ r. ⌜ r ≡ touchesOf command ⌝ }
+{
+    match command {
+        Command::Missing => Touch::Nothing,
+        Command::Close(_) => Touch::Nothing,
+        Command::If(_) => Touch::Nothing,
+        Command::Simple(c) => touched(c),
     }
 }
 

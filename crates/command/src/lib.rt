@@ -19,6 +19,13 @@ pub enum Simple {
     Write { array: u8, i: u8, s: u8 },
 }
 
+// What a command does with an array: nothing, or it is an access, by the index in variable i. A read gives its value to variable d.
+pub enum Touch {
+    Nothing,
+    Reads { d: u8, array: u8, i: u8 },
+    Writes { array: u8, i: u8 },
+}
+
 // What stands at an offset.
 pub enum Command {
     // unknown or cut short, or no command there

@@ -4,10 +4,12 @@ use mathlib.Core.List.{List}
 use mathlib.Core.Bool.{Bool, true, false, cond, _&&_}
 use lib.Dec.{ltb, leb, eqb}
 use Rattle.header.specs.Header.{width}
+use Rattle.command.specs.Command.{touches}
 use Rattle.header.specs.declared.Header.{Header}
 use Rattle.command.specs.declared.Condition.{Condition}
 use Rattle.faults.specs.declared.Counts.{Counts}
 use Rattle.command.specs.declared.Simple.{Simple}
+use Rattle.command.specs.declared.Touch.{Touch}
 use Rattle.command.specs.declared.Command.{Command}
 use Rattle.faults.specs.declared.Fault.{Fault}
 use Rattle.faults.specs.declared.Step.{Step}
@@ -37,24 +39,28 @@ abbrev pub accesses : Counts → ℕ
 accesses k = k .reads + k .writes
 
 -- reads and writes are the accesses
+abbrev pub isAccessBy : Touch → Bool
+isAccessBy Touch.Nothing = false
+isAccessBy (Touch.Reads d array i) = true
+isAccessBy (Touch.Writes array i) = true
+
+-- the command is an access
 abbrev pub isAccess : Simple → Bool
-isAccess (Simple.Set d c) = false
-isAccess (Simple.Convert op d s) = false
-isAccess (Simple.Compute op d s t) = false
-isAccess (Simple.Read d array i) = true
-isAccess (Simple.Write array i s) = true
+isAccess c = isAccessBy (touches c)
 
 -- the 65th access
 unfoldable pub tooMany : Simple → Counts → Bool
 tooMany c k = isAccess c && leb 64 (accesses k)
 
+-- the counts after a read or a write
+abbrev pub afterBy : Touch → Counts → Counts
+afterBy Touch.Nothing k = k
+afterBy (Touch.Reads d array i) k = record { ifs = k .ifs; reads = k .reads + 1; writes = k .writes }
+afterBy (Touch.Writes array i) k = record { ifs = k .ifs; reads = k .reads; writes = k .writes + 1 }
+
 -- the counts after a command
 abbrev pub after : Simple → Counts → Counts
-after (Simple.Set d c) k = k
-after (Simple.Convert op d s) k = k
-after (Simple.Compute op d s t) k = k
-after (Simple.Read d array i) k = record { ifs = k .ifs; reads = k .reads + 1; writes = k .writes }
-after (Simple.Write array i s) k = record { ifs = k .ifs; reads = k .reads; writes = k .writes + 1 }
+after c k = afterBy (touches c) k
 
 -- refused with the fault, unless the test holds
 abbrev pub unless : Bool → Fault → Step → Step

@@ -5,6 +5,8 @@ use crate::Step;
 use command::Command;
 use command::Condition;
 use command::Simple;
+use command::Touch;
+use command::commands::touched;
 use header::Header;
 use header::width_of;
 use slices::wide;
@@ -93,12 +95,10 @@ pub fn accesses_of(k: Counts) -> u32
 fn is_access(c: Simple) -> bool
     ensures { λ r. ⌜ r ≡ isAccess c ⌝ }
 {
-    match c {
-        Simple::Set { .. } => false,
-        Simple::Convert { .. } => false,
-        Simple::Compute { .. } => false,
-        Simple::Read { .. } => true,
-        Simple::Write { .. } => true,
+    match touched(c) {
+        Touch::Nothing => false,
+        Touch::Reads { .. } => true,
+        Touch::Writes { .. } => true,
     }
 }
 
@@ -113,16 +113,14 @@ pub fn counts_after(c: Simple, k: Counts) -> Counts
     requires { ⌜ tooMany c k ≡ false ⌝ }
     ensures { λ r. ⌜ r ≡ after c k ⌝ }
 {
-    match c {
-        Simple::Set { .. } => k,
-        Simple::Convert { .. } => k,
-        Simple::Compute { .. } => k,
-        Simple::Read { .. } => Counts {
+    match touched(c) {
+        Touch::Nothing => k,
+        Touch::Reads { .. } => Counts {
             ifs: k.ifs,
             reads: k.reads + 1,
             writes: k.writes,
         },
-        Simple::Write { .. } => Counts {
+        Touch::Writes { .. } => Counts {
             ifs: k.ifs,
             reads: k.reads,
             writes: k.writes + 1,

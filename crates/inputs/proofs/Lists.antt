@@ -9,19 +9,19 @@ use lib.ListN.{length}
 use lib.Dec.{ltb}
 use Rattle.slices.specs.Bytes.{entry}
 use Rattle.header.specs.Header.{width, firstCommand}
-use Rattle.command.specs.Command.{sizeOf, commandAt}
+use Rattle.command.specs.Command.{sizeOf, touchesOf, commandAt}
 use Rattle.routine.specs.Routine.{Arm, textOf}
 use Rattle.routine.specs.Decode.{routine, decode, IsRoutine}
 use Rattle.header.specs.declared.Header.{Header}
 use Rattle.faults.specs.declared.Counts.{Counts}
 use Rattle.command.specs.declared.Simple.{Simple}
+use Rattle.command.specs.declared.Touch.{Touch}
 use Rattle.command.specs.declared.Command.{Command}
 use Rattle.routine.proofs.Accepted.{decoded}
 use Rattle.command.proofs.Sizes.{size-pos}
 use Rattle.routine.proofs.Text.{Text, over, closes, forks, steps, text}
 use Rattle.inputs.specs.Inputs.{variablesFrom, joined, readVariables, firstGreat}
-use Rattle.inputs.specs.Inner.Scan.{readBy, ScansReads}
-use Rattle.inputs.specs.declared.Reads.{Reads}
+use Rattle.inputs.specs.Inner.Scan.{ScansReads}
 use Rattle.inputs.specs.declared.Listed.{Listed}
 
 -- ---- one word
@@ -117,10 +117,10 @@ record Onward (bs : List ℕ) (at : ℕ) (cs : List Simple) : Type 0 where
   pub rest : List Simple
   pub text : Text bs (at + sizeOf (commandAt bs at)) rest
   pub room : at + sizeOf (commandAt bs at) ≤ length bs
-  pub reads : readVariables cs ≡ joined (readBy (commandAt bs at)) (readVariables rest)
+  pub reads : readVariables cs ≡ joined (touchesOf (commandAt bs at)) (readVariables rest)
 
 onward : (bs : List ℕ) (at : ℕ) (cs : List Simple) → at < length bs → Text bs at cs → Onward bs at cs
-unfolding readBy readVariables
+unfolding touchesOf readVariables
 onward bs at cs l (over e) = absurd (omega arith)
 onward bs at cs l (closes mark e r t) = record { rest = cs; text = rw e t; room = rw e r; reads = rw e }
 onward bs at cs l (forks c e r t) = record { rest = cs; text = rw e t; room = rw e r; reads = rw e }
@@ -150,23 +150,24 @@ module _ (bs ins : List ℕ) (at₀ n₀ at n : ℕ) (s : Scanning bs ins at₀ 
       let x = s .goes (textOf (i .commands) ++ []) (rw e (whole-text bs h (i .commands) (i .counts) (i .decodes))) in
       (rw is (onward bs at (x .commands) l (x .text) .room), size-pos r)
 
-  module _ (w : Reads) (by : w ≡ readBy r) where
-    reads-now : (cs : List Simple) (o : Onward bs at cs) (y : Reads) → w ≡ y → readVariables cs ≡ joined y (readVariables (o .rest))
-    reads-now cs o y q = o .reads ∙ ap (λ (x : Reads). joined x (readVariables (o .rest))) (ap readBy (sym is) ∙ sym by ∙ q)
+  module _ (w : Touch) (by : w ≡ touchesOf r) where
+    reads-now : (cs : List Simple) (o : Onward bs at cs) (y : Touch) → w ≡ y → readVariables cs ≡ joined y (readVariables (o .rest))
+    reads-now cs o y q = o .reads ∙ ap (λ (x : Touch). joined x (readVariables (o .rest))) (ap touchesOf (sym is) ∙ sym by ∙ q)
 
-    pub scan-past : w ≡ Reads.Nothing → Scanning bs ins at₀ n₀ (at + sizeOf r) n
-    scan-past q = record {
+    -- past a command that is no read
+    pub scan-past : (y : Touch) → w ≡ y → ((vs : List ℕ) → joined y vs ≡ vs) → Scanning bs ins at₀ n₀ (at + sizeOf r) n
+    scan-past y q f = record {
       goes = λ cs₀ t.
           let x = s .goes cs₀ t in
           let o = onward bs at (x .commands) l (x .text) in
           record {
             commands = o .rest;
             text = rw is (o .text);
-            same = ap (firstGreat bs ins n) (sym (reads-now (x .commands) o Reads.Nothing q)) ∙ x .same;
+            same = ap (firstGreat bs ins n) (sym (reads-now (x .commands) o y q ∙ f (readVariables (o .rest)))) ∙ x .same;
           };
     }
 
-    module _ (v : ℕ) (q : w ≡ Reads.Variable v) where
+    module _ (v array i : ℕ) (q : w ≡ Touch.Reads v array i) where
       pub scan-fits : ltb (entry ins n) (2 ^ width bs v) ≡ true → Scanning bs ins at₀ n₀ (at + sizeOf r) (n + 1)
       scan-fits e = record {
         goes = λ cs₀ t.
@@ -175,7 +176,7 @@ module _ (bs ins : List ℕ) (at₀ n₀ at n : ℕ) (s : Scanning bs ins at₀ 
             record {
               commands = o .rest;
               text = rw is (o .text);
-              same = great-next bs ins n v (readVariables (o .rest)) e ∙ ap (firstGreat bs ins n) (sym (reads-now (x .commands) o (Reads.Variable v) q)) ∙ x .same;
+              same = great-next bs ins n v (readVariables (o .rest)) e ∙ ap (firstGreat bs ins n) (sym (reads-now (x .commands) o (Touch.Reads v array i) q)) ∙ x .same;
             };
       }
 
@@ -183,7 +184,7 @@ module _ (bs ins : List ℕ) (at₀ n₀ at n : ℕ) (s : Scanning bs ins at₀ 
       scan-great e cs₀ t =
           let x = s .goes cs₀ t in
           let o = onward bs at (x .commands) l (x .text) in
-          great-here bs ins n v (readVariables (o .rest)) e ∙ ap (firstGreat bs ins n) (sym (reads-now (x .commands) o (Reads.Variable v) q)) ∙ x .same
+          great-here bs ins n v (readVariables (o .rest)) e ∙ ap (firstGreat bs ins n) (sym (reads-now (x .commands) o (Touch.Reads v array i) q)) ∙ x .same
 
 no-more : (bs : List ℕ) (at : ℕ) (cs : List Simple) → length bs ≤ at → Text bs at cs → cs ≡ []
 no-more bs at cs l (over e) = refl

@@ -6,11 +6,12 @@ use lib.ListN.{length}
 use lib.Dec.{ltb, eqb}
 use Rattle.slices.specs.Bytes.{entry}
 use Rattle.header.specs.Header.{width}
+use Rattle.command.specs.Command.{touches}
 use Rattle.routine.specs.Routine.{Arm, textOf}
 use Rattle.header.specs.declared.Header.{Header}
 use Rattle.faults.specs.declared.Counts.{Counts}
 use Rattle.command.specs.declared.Simple.{Simple}
-use Rattle.inputs.specs.declared.Reads.{Reads}
+use Rattle.command.specs.declared.Touch.{Touch}
 use Rattle.inputs.specs.declared.Listed.{Listed}
 
 -- n variables from v on
@@ -18,18 +19,15 @@ unfoldable pub variablesFrom : (v n : ℕ) → List ℕ
 variablesFrom v zero = []
 variablesFrom v (suc n) = v ∷ variablesFrom (v + 1) n
 
--- the variable that a command reads into
-abbrev pub readBySimple : Simple → Reads
-readBySimple (Simple.Set d c) = Reads.Nothing
-readBySimple (Simple.Convert op d s) = Reads.Nothing
-readBySimple (Simple.Compute op d s t) = Reads.Nothing
-readBySimple (Simple.Read d array i) = Reads.Variable d
-readBySimple (Simple.Write array i s) = Reads.Nothing
+-- what a command does: a read takes a word of the list
+abbrev pub readBySimple : Simple → Touch
+readBySimple c = touches c
 
--- that variable, if any, before the others
-abbrev pub joined : Reads → List ℕ → List ℕ
-joined Reads.Nothing vs = vs
-joined (Reads.Variable v) vs = v ∷ vs
+-- the variable that a read writes, before the others
+abbrev pub joined : Touch → List ℕ → List ℕ
+joined Touch.Nothing vs = vs
+joined (Touch.Reads d array i) vs = d ∷ vs
+joined (Touch.Writes array i) vs = vs
 
 -- the variables that the reads among the commands write
 unfoldable pub readVariables : List Simple → List ℕ

@@ -1,8 +1,8 @@
 // Whether an input list is accepted: 9 and 10.
-use command::Command;
-use command::Simple;
+use command::Touch;
 use command::commands::command_at;
 use command::commands::size_of;
+use command::commands::touch_of;
 use faults::Counts;
 use faults::steps::fits_width;
 use header::Header;
@@ -16,7 +16,7 @@ ghost use Rattle.slices.specs.Bytes.{entry};
 ghost use Rattle.header.specs.Header.{width};
 ghost use Rattle.inputs.specs.Inputs.{variablesFrom, firstGreat};
 ghost use Rattle.routine.specs.Decode.{IsRoutine};
-ghost use Rattle.inputs.specs.Inner.Scan.{readBy, ScansReads, Lists};
+ghost use Rattle.inputs.specs.Inner.Scan.{ScansReads, Lists};
 
 // What is said of an input list.
 pub enum Listed {
@@ -25,12 +25,6 @@ pub enum Listed {
     Miscounted,
     // this word is too great for its variable
     TooGreat(usize),
-}
-
-// The variable that a read writes, or that a command is no read.
-pub enum Reads {
-    Variable(u8),
-    Nothing,
 }
 
 // The word of number n fits variable v.
@@ -55,23 +49,6 @@ fn check_parameters(bytes: &[u8], inputs: &[u32], parameters: u8) -> Listed
     Listed::Accepted
 }
 
-fn read_by(command: Command) -> Reads
-    ensures { λ r. ⌜ r ≡ readBy command ⌝ }
-{
-    match command {
-        Command::Missing => Reads::Nothing,
-        Command::Close(_) => Reads::Nothing,
-        Command::If(_) => Reads::Nothing,
-        Command::Simple(c) => match c {
-            Simple::Set { .. } => Reads::Nothing,
-            Simple::Convert { .. } => Reads::Nothing,
-            Simple::Compute { .. } => Reads::Nothing,
-            Simple::Read { d, array: _, i: _ } => Reads::Variable(d),
-            Simple::Write { .. } => Reads::Nothing,
-        },
-    }
-}
-
 // The first read, in text order, whose word is too great. Its words come after those of the parameters.
 fn check_reads(bytes: &[u8], inputs: &[u32], h: Header) -> Listed
     requires { ⌜ IsRoutine (now bytes) h ⌝ }
@@ -81,16 +58,19 @@ fn check_reads(bytes: &[u8], inputs: &[u32], h: Header) -> Listed
     let mut n = h.parameters as usize;
     while at < bytes.len() {
         let command = command_at(bytes, at);
-        match read_by(command) {
-            Reads::Nothing => {
+        match touch_of(command) {
+            Touch::Nothing => {
                 at += size_of(command);
             }
-            Reads::Variable(v) => {
-                if !fits(bytes, inputs, n, v) {
+            Touch::Reads { d, array: _, i: _ } => {
+                if !fits(bytes, inputs, n, d) {
                     return Listed::TooGreat(n);
                 }
                 at += size_of(command);
                 n += 1;
+            }
+            Touch::Writes { .. } => {
+                at += size_of(command);
             }
         }
     }

@@ -3,9 +3,11 @@ use Prim.Native.Nat.{ℕ, _+_, _^_, _≤_, _<_, max}
 use mathlib.Core.Path.{_≡_}
 use mathlib.Core.Logic.{_⊎_}
 use lib.ListN.{length, getD}
+use Rattle.command.specs.Command.{touches}
 use Rattle.rendering.specs.Syntax.{Text, none, simple, branch, Syntax}
 use Rattle.rendering.specs.Render.{render}
 use Rattle.command.specs.declared.Simple.{Simple}
+use Rattle.command.specs.declared.Touch.{Touch}
 use Rattle.command.specs.declared.Condition.{Condition}
 
 -- from lo to hi
@@ -65,20 +67,24 @@ ifs (simple c rest) = ifs rest
 ifs (branch c first second rest) = 1 + ifs first + ifs second + ifs rest
 
 -- a read counts one
-abbrev pub oneRead : Simple → ℕ
-oneRead (Simple.Set d c) = 0
-oneRead (Simple.Convert op d s) = 0
-oneRead (Simple.Compute op d s t) = 0
-oneRead (Simple.Read d array i) = 1
-oneRead (Simple.Write array i s) = 0
+abbrev pub oneReadBy : Touch → ℕ
+oneReadBy Touch.Nothing = 0
+oneReadBy (Touch.Reads d array i) = 1
+oneReadBy (Touch.Writes array i) = 0
 
 -- a write counts one
+abbrev pub oneWriteBy : Touch → ℕ
+oneWriteBy Touch.Nothing = 0
+oneWriteBy (Touch.Reads d array i) = 0
+oneWriteBy (Touch.Writes array i) = 1
+
+-- how many reads a command is
+abbrev pub oneRead : Simple → ℕ
+oneRead c = oneReadBy (touches c)
+
+-- how many writes a command is
 abbrev pub oneWrite : Simple → ℕ
-oneWrite (Simple.Set d c) = 0
-oneWrite (Simple.Convert op d s) = 0
-oneWrite (Simple.Compute op d s t) = 0
-oneWrite (Simple.Read d array i) = 0
-oneWrite (Simple.Write array i s) = 1
+oneWrite c = oneWriteBy (touches c)
 
 -- how many reads there are
 unfoldable pub reads : Text → ℕ

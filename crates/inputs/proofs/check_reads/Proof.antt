@@ -27,8 +27,8 @@ loop-holds c = (omega arith, scan-start _ _ _ _, omega arith)
 command-at-requires : tie.Need-command-at-requires Inv-loop μ-loop
 command-at-requires c κs = search needs
 
-read-by-requires : tie.Need-read-by-requires Inv-loop μ-loop
-read-by-requires c κs = search needs
+touch-of-requires : tie.Need-touch-of-requires Inv-loop μ-loop
+touch-of-requires c κs = search needs
 
 enum-told : tie.Need-enum-told Inv-loop μ-loop
 enum-told c = search needs
@@ -53,11 +53,11 @@ loop-again c =
     let l = c .before .before .before .before .before .before in
     let is = c .before .before .before .before .command-at .ensures in
     let s = room (c .before .before .before .before) in
-    let g = scan-past _ _ _ _ _ _ (l .loop .inv .1) _ is (omega arith) _ (c .before .before .before .read-by .ensures) (c .before .enum-told .given .1) in
+    let g = scan-past _ _ _ _ _ _ (l .loop .inv .1) _ is (omega arith) _ (c .before .before .before .touch-of .ensures) _ (c .before .enum-told .given .1) (λ vs. refl) in
     (omega arith, rw (c .size-of .ensures) g, omega arith)
 
-enum-known-v : tie.Need-enum-known-v Inv-loop μ-loop
-enum-known-v c = search needs
+enum-known-d : tie.Need-enum-known-d Inv-loop μ-loop
+enum-known-d c = search needs
 
 fits-requires : tie.Need-fits-requires Inv-loop μ-loop
 fits-requires c κs = search needs
@@ -66,7 +66,7 @@ returns : tie.Need-returns Inv-loop μ-loop
 returns c =
     let l = c .before .before .before .before .before .before .before .before in
     scans _ _ _ _ _ _ (l .before .before .first-command .ensures) refl
-    (scan-great _ _ _ _ _ _ (l .loop .inv .1) _ (c .before .before .before .before .before .before .command-at .ensures) (omega arith) _ (c .before .before .before .before .before .read-by .ensures) _ (c .before .before .before .v .given .1)
+    (scan-great _ _ _ _ _ _ (l .loop .inv .1) _ (c .before .before .before .before .before .before .command-at .ensures) (omega arith) _ (c .before .before .before .before .before .touch-of .ensures) _ _ _ (c .before .before .before .d .given .1)
     (sym (c .before .fits2 .ensures) ∙ not-true _ (c .if1 .taken)))
 
 size-of-requires-2 : tie.Need-size-of-requires-2 Inv-loop μ-loop
@@ -87,8 +87,28 @@ loop-again-2 c =
     let is = c .before .before .before .before .before .before .before .command-at .ensures in
     let s = room (c .before .before .before .before .before .before .before) in
     let e = sym (c .before .before .fits2 .ensures) ∙ not-false _ (c .before .if1 .left) in
-    let g = scan-fits _ _ _ _ _ _ (l .loop .inv .1) _ is (omega arith) _ (c .before .before .before .before .before .before .read-by .ensures) _ (c .before .before .before .before .v .given .1) e in
+    let g = scan-fits _ _ _ _ _ _ (l .loop .inv .1) _ is (omega arith) _ (c .before .before .before .before .before .before .touch-of .ensures) _ _ _ (c .before .before .before .before .d .given .1) e in
     (omega arith, rw (c .size-of2 .ensures) g, omega arith)
+
+enum-told-2 : tie.Need-enum-told-2 Inv-loop μ-loop
+enum-told-2 c = search needs
+
+size-of-requires-3 : tie.Need-size-of-requires-3 Inv-loop μ-loop
+size-of-requires-3 c κs = search needs
+
+add-at-3 : tie.Need-add-at-3 Inv-loop μ-loop
+add-at-3 c = omega (arith, room (c .before .before .before .before))
+
+loop-less-3 : tie.Need-loop-less-3 Inv-loop μ-loop
+loop-less-3 c = omega (arith, room (c .before .before .before .before))
+
+loop-again-3 : tie.Need-loop-again-3 Inv-loop μ-loop
+loop-again-3 c =
+    let l = c .before .before .before .before .before .before in
+    let is = c .before .before .before .before .command-at .ensures in
+    let s = room (c .before .before .before .before) in
+    let g = scan-past _ _ _ _ _ _ (l .loop .inv .1) _ is (omega arith) _ (c .before .before .before .touch-of .ensures) _ (c .before .enum-told2 .given .1) (λ vs. refl) in
+    (omega arith, rw (c .size-of3 .ensures) g, omega arith)
 
 returns-2 : tie.Need-returns-2 Inv-loop μ-loop
 returns-2 c =
@@ -105,13 +125,13 @@ check-reads-spec =
     cast-n
     loop-holds
     command-at-requires
-    read-by-requires
+    touch-of-requires
     enum-told
     size-of-requires
     add-at
     loop-less
     loop-again
-    enum-known-v
+    enum-known-d
     fits-requires
     returns
     size-of-requires-2
@@ -119,4 +139,9 @@ check-reads-spec =
     add-n
     loop-less-2
     loop-again-2
+    enum-told-2
+    size-of-requires-3
+    add-at-3
+    loop-less-3
+    loop-again-3
     returns-2)

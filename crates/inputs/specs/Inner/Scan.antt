@@ -3,13 +3,11 @@ use Prim.Native.Nat.{ℕ}
 use mathlib.Core.Path.{_≡_}
 use mathlib.Core.List.{List}
 use Rattle.header.specs.declared.Header.{Header}
-use Rattle.command.specs.declared.Command.{Command}
 use Rattle.faults.specs.declared.Counts.{Counts}
 use Rattle.routine.specs.Routine.{Arm, textOf}
 use Rattle.routine.specs.Decode.{decode, routine}
-use Rattle.inputs.specs.Inputs.{firstGreat, listed, readBySimple, readVariables}
+use Rattle.inputs.specs.Inputs.{firstGreat, listed, readVariables}
 use Rattle.inputs.specs.declared.Listed.{Listed}
-use Rattle.inputs.specs.declared.Reads.{Reads}
 
 -- the words of the reads, numbered from the parameters on
 pub record ScansReads (bs ins : List ℕ) (h : Header) (r : Listed) : Type 0 where
@@ -18,10 +16,3 @@ pub record ScansReads (bs ins : List ℕ) (h : Header) (r : Listed) : Type 0 whe
 -- what is said of the input list of a routine with these counts
 pub record Lists (bs ins : List ℕ) (h : Header) (k : Counts) (r : Listed) : Type 0 where
   pub tells : (a : Arm) → decode bs ≡ routine h a k → r ≡ listed bs ins h a k
-
--- the variable that the command at an offset reads into
-unfoldable pub readBy : Command → Reads
-readBy Command.Missing = Reads.Nothing
-readBy (Command.Close mark) = Reads.Nothing
-readBy (Command.If c) = Reads.Nothing
-readBy (Command.Simple c) = readBySimple c
