@@ -34,6 +34,10 @@ widthsFit bs (Simple.Compute op d s t) = eqb (width bs d) (width bs s) && eqb (w
 widthsFit bs (Simple.Read d array i) = true
 widthsFit bs (Simple.Write array i s) = true
 
+-- before the first command nothing was met
+abbrev pub noCounts : Counts
+noCounts = record { ifs = 0; reads = 0; writes = 0 }
+
 -- the number of accesses, reads and writes
 abbrev pub accesses : Counts → ℕ
 accesses k = k .reads + k .writes

@@ -14,7 +14,7 @@ ghost use mathlib.Core.Path.{_≡_};
 ghost use Prim.Native.Nat.{_^_, _<_};
 ghost use lib.Dec.{ltb, eqb};
 ghost use mathlib.Core.Bool.{false, _&&_};
-ghost use Rattle.faults.specs.Step.{converts, inRange, widthsFit, accesses, isAccess, tooMany, after, simpleStep, oneIf, ifStep, stepOf};
+ghost use Rattle.faults.specs.Step.{converts, inRange, widthsFit, noCounts, accesses, isAccess, tooMany, after, simpleStep, oneIf, ifStep, stepOf};
 
 // c is below 2 to the width w.
 pub fn fits_width(c: u32, w: u8) -> bool
@@ -82,6 +82,17 @@ fn widths_fit(bytes: &[u8], c: Simple) -> bool
         }
         Simple::Read { .. } => true,
         Simple::Write { .. } => true,
+    }
+}
+
+// Before the first command nothing was met.
+pub fn no_counts() -> Counts
+    ensures { λ r. ⌜ r ≡ noCounts ⌝ }
+{
+    Counts {
+        ifs: 0,
+        reads: 0,
+        writes: 0,
     }
 }
 

@@ -11,6 +11,7 @@ use Rattle.routine.specs.Inner.Walk.{walked, walkArm}
 use Rattle.routine.specs.Decode.{Decoded, rejected, routine, noCounts, decodeArm, answer}
 use Rattle.routine.specs.Inner.Known.{checkedCommands}
 use Rattle.header.specs.declared.Header.{Header}
+use Rattle.faults.specs.declared.Counts.{Counts}
 use Rattle.routine.specs.declared.Walked.{Walked}
 use Rattle.routine.specs.declared.Refusal.{Refusal}
 use Rattle.routine.specs.declared.Checked.{Checked}
@@ -29,7 +30,8 @@ answer-arm bs h (refused fault place) = refl
 answer-arm bs h (parsed a end k) = answer-cond (eqb end (length bs)) (routine h a k) (rejected (Refusal.Trailing end))
 
 -- w is what the walk answers, and is v
-pub commands : (bs : List ℕ) (h : Header) (at : ℕ) (w v : Walked) → w ≡ walkArm bs h 0 0 at noCounts → at ≡ firstCommand h → w ≡ v → commandsBy (length bs) h v ≡ checkedCommands bs h
+pub commands : (bs : List ℕ) (h : Header) (at : ℕ) (k : Counts) (w v : Walked) → w ≡ walkArm bs h 0 0 at k → at ≡ firstCommand h → k ≡ noCounts → w ≡ v
+    → commandsBy (length bs) h v ≡ checkedCommands bs h
 unfolding walkArm checkedCommands
-commands bs h at w v e f g =
-    ap (commandsBy (length bs) h) (sym g ∙ e ∙ ap (λ (i : ℕ). walked (arm bs h 0 0 i noCounts)) f) ∙ sym (answer-arm bs h (arm bs h 0 0 (firstCommand h) noCounts))
+commands bs h at k w v e f n g =
+    ap (commandsBy (length bs) h) (sym g ∙ e ∙ (λ i. walked (arm bs h 0 0 (f i) (n i)))) ∙ sym (answer-arm bs h (arm bs h 0 0 (firstCommand h) noCounts))

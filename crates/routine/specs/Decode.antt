@@ -6,6 +6,7 @@ use mathlib.Core.Bool.{cond, _&&_}
 use lib.ListN.{length}
 use lib.Dec.{leb, eqb}
 use Rattle.header.specs.Header.{headerOf, firstCommand}
+pub use Rattle.faults.specs.Step.{noCounts}
 use Rattle.routine.specs.Routine.{Arm, Parsed, refused, parsed, arm}
 use Rattle.header.specs.declared.Header.{Header}
 use Rattle.header.specs.declared.Head.{Head}
@@ -17,10 +18,6 @@ use Rattle.routine.specs.declared.Checked.{Checked}
 pub data Decoded : Type 0 where
   rejected : Refusal → Decoded
   routine : Header → Arm → Counts → Decoded
-
--- before the first command nothing was met
-abbrev pub noCounts : Counts
-noCounts = record { ifs = 0; reads = 0; writes = 0 }
 
 -- the commands are one arm that an end closes, and nothing follows it
 abbrev pub decodeArm : List ℕ → Header → Parsed Arm → Decoded

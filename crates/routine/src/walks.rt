@@ -7,6 +7,7 @@ use command::commands::command_at;
 use command::commands::simple_size;
 use faults::Counts;
 use faults::Step;
+use faults::steps::no_counts;
 use faults::steps::step_of;
 use header::Header;
 use header::first_command;
@@ -65,11 +66,7 @@ fn walk_if(bytes: &[u8], h: Header, depth: u8, at: usize, k: Counts) -> Walked
 pub fn check_commands(bytes: &[u8], h: Header) -> Checked
     ensures { λ r. ⌜ r ≡ checkedCommands (now (bytes .entry)) h ⌝ }
 {
-    let none = Counts {
-        ifs: 0,
-        reads: 0,
-        writes: 0,
-    };
+    let none = no_counts();
     match walk_arm(bytes, h, 0, 0x00, first_command(h), none) {
         Walked::Refused(fault, place) => Checked::Refused(Refusal::Command(fault, place)),
         Walked::Ended(next, counts) => {

@@ -5,6 +5,9 @@ use borrow.Author.Needs.{needs}
 use Rattle.routine.proofs.walks.check_commands.Statement.{statement}
 use Rattle.routine.proofs.walks.check_commands.Tie as tie
 
+no-counts-requires : tie.Need-no-counts-requires
+no-counts-requires c κs = search needs
+
 first-command-requires : tie.Need-first-command-requires
 first-command-requires c κs = search needs
 
@@ -20,24 +23,25 @@ enum-known-next c = search needs
 returns : tie.Need-returns
 returns c =
     let w = c .before .before .before in
-    commands _ _ _ _ (Walked.Refused _ _) (w .walk-arm .ensures) (w .before .first-command .ensures) (c .before .fault .given .1)
+    commands _ _ _ _ _ (Walked.Refused _ _) (w .walk-arm .ensures) (w .before .first-command .ensures) (w .before .before .no-counts .ensures) (c .before .fault .given .1)
 
 returns-2 : tie.Need-returns-2
 returns-2 c =
     let w = c .before .before .before .before in
     rw (eq-eqb _ _ (c .if1 .taken)) at
-    (commands _ _ _ _ (Walked.Ended _ _) (w .walk-arm .ensures) (w .before .first-command .ensures) (c .before .before .next .given .1))
+    (commands _ _ _ _ _ (Walked.Ended _ _) (w .walk-arm .ensures) (w .before .first-command .ensures) (w .before .before .no-counts .ensures) (c .before .before .next .given .1))
 
 returns-3 : tie.Need-returns-3
 returns-3 c =
     let w = c .before .before .before .before in
     rw (ne-eqb _ _ (c .if1 .left)) at
-    (commands _ _ _ _ (Walked.Ended _ _) (w .walk-arm .ensures) (w .before .first-command .ensures) (c .before .before .next .given .1))
+    (commands _ _ _ _ _ (Walked.Ended _ _) (w .walk-arm .ensures) (w .before .first-command .ensures) (w .before .before .no-counts .ensures) (c .before .before .next .given .1))
 
 pub check-commands-spec : {M : Type 1} → statement M
 check-commands-spec =
     tie.close
     (tie.spec
+    no-counts-requires
     first-command-requires
     walk-arm-requires
     enum-known-fault
