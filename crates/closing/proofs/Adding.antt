@@ -10,6 +10,7 @@ use lib.ListN.{length, getD, set, replicate, length-set, length-append, length-r
 use lib.Seq.{slice, getD-set-same, getD-set-other}
 use lib.Dec.{leb, ltb}
 use borrow.Author.Tests.{lt-ltb, le-ltb, le-leb, lt-leb}
+use Rattle.slices.specs.Guard.{unless}
 use Rattle.cnf.specs.Clause.{Clause, flatten}
 use Rattle.cnf.proofs.Appending.{flatten-append}
 use Rattle.propagation.specs.Stored.{startOf, clauseAt, clausesOf}
@@ -18,7 +19,7 @@ use Rattle.propagation.proofs.Cases.{below-or}
 use Rattle.propagation.proofs.Standing.{clauses-length, clauses-same}
 use Rattle.step.specs.Phase.{going, conflicted, phaseAfter}
 use Rattle.step.specs.Inner.Stop.{refusedBy}
-use Rattle.progress.specs.State.{State, Limits, more, unless, size, afterClose}
+use Rattle.progress.specs.State.{State, Limits, more, size, afterClose}
 use Rattle.progress.specs.Check.{onClose}
 use Rattle.progress.specs.Inner.Held.{Store, literalsOf, stateOf, Held, Written, Did, withClose}
 use Rattle.progress.specs.Lent.{limitsOf}

@@ -1,8 +1,9 @@
 -- What a command is where it stands: refusals 3 to 7, in their order.
 use Prim.Native.Nat.{ℕ, _+_, _^_}
 use mathlib.Core.List.{List}
-use mathlib.Core.Bool.{Bool, true, false, cond, _&&_}
+use mathlib.Core.Bool.{Bool, true, false, cond, not, _&&_}
 use lib.Dec.{ltb, leb, eqb}
+use Rattle.slices.specs.Guard.{unless}
 use Rattle.header.specs.Header.{width}
 use Rattle.command.specs.Command.{touches}
 use Rattle.header.specs.declared.Header.{Header}
@@ -66,20 +67,13 @@ afterBy (Touch.Writes array i) k = record { ifs = k .ifs; reads = k .reads; writ
 abbrev pub after : Simple → Counts → Counts
 after c k = afterBy (touches c) k
 
--- refused with the fault, unless the test holds
-abbrev pub unless : Bool → Fault → Step → Step
-unless test fault go = cond test go (Step.Refused fault)
-
--- refused with the fault, if the test holds
-abbrev pub refusing : Bool → Fault → Step → Step
-refusing test fault go = cond test (Step.Refused fault) go
-
 -- a command that is no part of an if, after the counts k
 unfoldable pub simpleStep : List ℕ → Header → Simple → Counts → Step
+unfolding unless
 simpleStep bs h c k =
-    unless (inRange bs h c) Fault.Operand
-    (unless (widthsFit bs c) Fault.Widths
-    (refusing (tooMany c k) Fault.TooMany
+    unless (inRange bs h c) (Step.Refused Fault.Operand)
+    (unless (widthsFit bs c) (Step.Refused Fault.Widths)
+    (unless (not (tooMany c k)) (Step.Refused Fault.TooMany)
     (Step.Plain c (after c k))))
 
 -- the counts after an if was met
@@ -92,16 +86,18 @@ conditionInRange h c = ltb (c .relation) 10 && ltb (c .s) (h .variables) && ltb 
 
 -- an if inside `depth` others, after the counts k: depth 9 and the 33rd if are refused
 unfoldable pub ifStep : List ℕ → Header → (depth : ℕ) → Condition → Counts → Step
+unfolding unless
 ifStep bs h depth c k =
-    unless (conditionInRange h c) Fault.Operand
-    (unless (eqb (width bs (c .s)) (width bs (c .t))) Fault.Widths
-    (unless (ltb depth 8) Fault.Misplaced
-    (unless (ltb (k .ifs) 32) Fault.TooMany
+    unless (conditionInRange h c) (Step.Refused Fault.Operand)
+    (unless (eqb (width bs (c .s)) (width bs (c .t))) (Step.Refused Fault.Widths)
+    (unless (ltb depth 8) (Step.Refused Fault.Misplaced)
+    (unless (ltb (k .ifs) 32) (Step.Refused Fault.TooMany)
     (Step.Fork c (oneIf k)))))
 
 -- the command inside `depth` ifs, in an arm that the command byte `close` ends, after the counts k
 unfoldable pub stepOf : List ℕ → Header → (depth close : ℕ) → Command → Counts → Step
+unfolding unless
 stepOf bs h depth close Command.Missing k = Step.Refused Fault.Unknown
-stepOf bs h depth close (Command.Close mark) k = unless (eqb mark close) Fault.Misplaced Step.Closed
+stepOf bs h depth close (Command.Close mark) k = unless (eqb mark close) (Step.Refused Fault.Misplaced) Step.Closed
 stepOf bs h depth close (Command.If c) k = ifStep bs h depth c k
 stepOf bs h depth close (Command.Simple c) k = simpleStep bs h c k

@@ -7,7 +7,8 @@ use native.Mathlib.Omega.{arith}
 use borrow.Author.Tests.{eqb-true}
 use lib.Dec.{eqb}
 use Rattle.slices.specs.Bytes.{entry}
-use Rattle.header.specs.Header.{within, widthOk, sizeOk, firstBad, need, headerOf}
+use Rattle.slices.specs.Guard.{unless}
+use Rattle.header.specs.Header.{within, widthOk, sizeOk, firstBad, headerOf}
 use Rattle.header.specs.declared.Header.{Header}
 use Rattle.header.specs.declared.Head.{Head}
 
@@ -25,7 +26,8 @@ pub record Held (bs : List ℕ) (h : Header) : Type 0 where
   pub is : headerIn bs ≡ h
 
 -- no wrong place: the test held
-needed : (b : Bool) (place : ℕ) (go : Head) (h : Header) → need b place go ≡ Head.Whole h → (b ≡ true) × (go ≡ Head.Whole h)
+needed : (b : Bool) (place : ℕ) (go : Head) (h : Header) → unless b (Head.Wrong place) go ≡ Head.Whole h → (b ≡ true) × (go ≡ Head.Whole h)
+unfolding unless
 needed true place go h e = (refl, e)
 needed false place go h e = let z : _≡_ {A = ℕ} 0 1 = cc in absurd (omega arith)
 

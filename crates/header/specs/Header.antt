@@ -5,6 +5,7 @@ use mathlib.Core.Bool.{Bool, cond, _&&_}
 use lib.ListN.{length}
 use lib.Dec.{ltb, leb, eqb}
 use Rattle.slices.specs.Bytes.{entry, half}
+use Rattle.slices.specs.Guard.{unless}
 use Rattle.header.specs.declared.Header.{Header}
 use Rattle.header.specs.declared.Head.{Head}
 
@@ -29,23 +30,20 @@ unfoldable pub firstBad : (ok : ℕ → Bool) → (step n at : ℕ) → ℕ
 firstBad ok step zero at = at
 firstBad ok step (suc n) at = cond (ok at) (firstBad ok step n (at + step)) at
 
--- wrong at the place, unless the test holds
-abbrev pub need : Bool → (place : ℕ) → Head → Head
-need test place go = cond test go (Head.Wrong place)
-
 -- 0x01; the number of variables; their widths; the number of parameters; the number of arrays; their sizes
 unfoldable pub headerOf : List ℕ → Head
+unfolding unless
 headerOf bs =
     let v : ℕ = entry bs 1 in
     let n : ℕ = entry bs (v + 3) in
     let w : ℕ = firstBad (widthOk bs) 1 v 2 in
     let z : ℕ = firstBad (sizeOk bs) 2 n (v + 4) in
-    need (within bs 0 1 1) 0
-    (need (within bs 1 1 32) 1
-    (need (eqb w (v + 2)) w
-    (need (within bs (v + 2) 0 v) (v + 2)
-    (need (within bs (v + 3) 0 16) (v + 3)
-    (need (eqb z (v + 4 + 2 * n)) z
+    unless (within bs 0 1 1) (Head.Wrong 0)
+    (unless (within bs 1 1 32) (Head.Wrong 1)
+    (unless (eqb w (v + 2)) (Head.Wrong w)
+    (unless (within bs (v + 2) 0 v) (Head.Wrong (v + 2))
+    (unless (within bs (v + 3) 0 16) (Head.Wrong (v + 3))
+    (unless (eqb z (v + 4 + 2 * n)) (Head.Wrong z)
     (Head.Whole (record { variables = v; parameters = entry bs (v + 2); arrays = n })))))))
 
 -- the offset of the first command

@@ -1,10 +1,10 @@
 -- The input list: one word for each parameter, then one for each read in text order, each below 2 to the width of its variable.
 use Prim.Native.Nat.{ℕ, zero, suc, _+_, _^_}
 use mathlib.Core.List.{List, [], _∷_, _++_}
-use mathlib.Core.Bool.{cond}
 use lib.ListN.{length}
 use lib.Dec.{ltb, eqb}
 use Rattle.slices.specs.Bytes.{entry}
+use Rattle.slices.specs.Guard.{unless}
 use Rattle.header.specs.Header.{width}
 use Rattle.command.specs.Command.{touches}
 use Rattle.routine.specs.Routine.{Arm, textOf}
@@ -40,12 +40,13 @@ inputVariables h a = variablesFrom 0 (h .parameters) ++ readVariables (textOf a)
 
 -- the first word, from number n on, that is too great for its variable
 unfoldable pub firstGreat : (bs ins : List ℕ) (n : ℕ) → List ℕ → Listed
+unfolding unless
 firstGreat bs ins n [] = Listed.Accepted
-firstGreat bs ins n (v ∷ vs) = cond (ltb (entry ins n) (2 ^ width bs v)) (firstGreat bs ins (n + 1) vs) (Listed.TooGreat n)
+firstGreat bs ins n (v ∷ vs) = unless (ltb (entry ins n) (2 ^ width bs v)) (Listed.TooGreat n) (firstGreat bs ins (n + 1) vs)
 
 -- what is said of an input list: 9, then 10. It is accepted when it passes both.
 unfoldable pub listed : (bs ins : List ℕ) → Header → Arm → Counts → Listed
+unfolding unless
 listed bs ins h a k =
-    cond (eqb (length ins) (h .parameters + k .reads))
+    unless (eqb (length ins) (h .parameters + k .reads)) Listed.Miscounted
     (firstGreat bs ins 0 (inputVariables h a))
-    Listed.Miscounted

@@ -8,6 +8,7 @@ use lib.ListN.{length, List·getD-eq-default}
 use lib.Dec.{ltb, leb, eqb, lit<}
 use borrow.Author.Tests.{ltb-true, ltb-false, leb-true, eqb-true}
 use Rattle.slices.specs.Bytes.{entry}
+use Rattle.slices.specs.Guard.{unless}
 use Rattle.header.specs.Header.{firstBad}
 use Rattle.header.specs.declared.Header.{Header}
 use Rattle.faults.specs.Step.{accesses}
@@ -18,7 +19,7 @@ use Rattle.routine.specs.Decode.{Decoded, rejected, routine, decode, checked, I
 use Rattle.routine.specs.declared.Checked.{Checked}
 use Rattle.routine.specs.declared.Refusal as declared
 use Rattle.routine.proofs.Accepted.{accepted, refused-by}
-use Rattle.lead.specs.Lead.{Admission, refused, translates, firstOdd, unless, byLead, byRoutine, admission, withoutTree, admittedLead}
+use Rattle.lead.specs.Lead.{Admission, refused, translates, firstOdd, byLead, byRoutine, admission, withoutTree, admittedLead}
 use Rattle.lead.specs.Inner.Admitted.{admitted}
 use Rattle.lead.specs.declared.Refusal.{Refusal}
 use Rattle.lead.specs.declared.Target.{Target}
@@ -66,8 +67,9 @@ pub record InRange (t : Target) (ds : List ℕ) (k : Counts) : Type 0 where
   pub side : t .side ≤ 1
   pub decisions : (n : ℕ) → entry ds n ≤ 2
 
-passed : (b : Bool) (refusal : Refusal) (x : Admission) (h : Header) → withoutTree (unless b refusal x) ≡ Admitted.Translates h
+passed : (b : Bool) (refusal : Refusal) (x : Admission) (h : Header) → withoutTree (unless b (refused refusal) x) ≡ Admitted.Translates h
     → (b ≡ true) × (withoutTree x ≡ Admitted.Translates h)
+unfolding unless
 passed true refusal x h e = (refl, e)
 passed false refusal x h e = let z : _≡_ {A = ℕ} 0 1 = cc in absurd (omega arith)
 
@@ -94,7 +96,8 @@ in-range t ds h k r is h₁ e = lead-range t ds h done k h₁ (sym is ∙ e)
 
 -- a test that two admissions have in common hides no difference of their trees
 same-unless : (b : Bool) (refusal : Refusal) (x y : Admission) → withoutTree x ≡ withoutTree y
-    → withoutTree (unless b refusal x) ≡ withoutTree (unless b refusal y)
+    → withoutTree (unless b (refused refusal) x) ≡ withoutTree (unless b (refused refusal) y)
+unfolding unless
 same-unless true refusal x y e = e
 same-unless false refusal x y e = refl
 
@@ -129,7 +132,8 @@ module _ (bs : List ℕ) (t : Target) (ds : List ℕ) where
   Of (refused refusal) = Unit {0}
   Of (translates h a k) = decode bs ≡ routine h a k
 
-  of-unless : (b : Bool) (refusal : Refusal) (x : Admission) → Of x → Of (unless b refusal x)
+  of-unless : (b : Bool) (refusal : Refusal) (x : Admission) → Of x → Of (unless b (refused refusal) x)
+  unfolding unless
   of-unless true refusal x o = o
   of-unless false refusal x o = tt
 

@@ -1,10 +1,10 @@
 -- The lead: whether there is a claim to translate, by 1 to 8, then 11 and 12.
 use Prim.Native.Nat.{ℕ, _+_}
 use mathlib.Core.List.{List}
-use mathlib.Core.Bool.{Bool, cond}
 use lib.ListN.{length}
 use lib.Dec.{ltb, leb, eqb}
 use Rattle.slices.specs.Bytes.{entry}
+use Rattle.slices.specs.Guard.{unless}
 use Rattle.header.specs.Header.{firstBad}
 use Rattle.header.specs.declared.Header.{Header}
 use Rattle.faults.specs.Step.{accesses}
@@ -28,17 +28,13 @@ pub data Admission : Type 0 where
 unfoldable pub firstOdd : List ℕ → ℕ
 firstOdd ds = firstBad (λ i. leb (entry ds i) 2) 1 (length ds) 0
 
--- refused, unless the test holds
-abbrev pub unless : Bool → Refusal → Admission → Admission
-unless test refusal go = cond test go (refused refusal)
-
 -- 11, then 12: the access at offset 0, the side at 1, the decision of if n at 2 + n
 abbrev pub byLead : Target → (ds : List ℕ) → Header → Arm → Counts → Admission
 byLead t ds h a k =
-    unless (eqb (length ds) (k .ifs)) (Refusal.DecisionCount (length ds))
-    (unless (ltb (t .access) (accesses k)) (Refusal.OutOfRange 0)
-    (unless (leb (t .side) 1) (Refusal.OutOfRange 1)
-    (unless (eqb (firstOdd ds) (length ds)) (Refusal.OutOfRange (2 + firstOdd ds))
+    unless (eqb (length ds) (k .ifs)) (refused (Refusal.DecisionCount (length ds)))
+    (unless (ltb (t .access) (accesses k)) (refused (Refusal.OutOfRange 0))
+    (unless (leb (t .side) 1) (refused (Refusal.OutOfRange 1))
+    (unless (eqb (firstOdd ds) (length ds)) (refused (Refusal.OutOfRange (2 + firstOdd ds)))
     (translates h a k))))
 
 -- 1 to 8, then 11 and 12
@@ -48,6 +44,7 @@ byRoutine t ds (routine h a k) = byLead t ds h a k
 
 -- whether there is a claim to translate
 unfoldable pub admission : (bs : List ℕ) → Target → (ds : List ℕ) → Admission
+unfolding unless
 admission bs t ds = byRoutine t ds (decode bs)
 
 -- the same without the tree
@@ -57,4 +54,5 @@ withoutTree (translates h a k) = Admitted.Translates h
 
 -- what 11 and 12 say to a routine with these counts
 unfoldable pub admittedLead : Target → (ds : List ℕ) → Header → Counts → Admitted
+unfolding unless
 admittedLead t ds h k = withoutTree (byLead t ds h done k)

@@ -5,8 +5,9 @@ use mathlib.Core.List.{List}
 use mathlib.Core.Bool.{true, false}
 use lib.ListN.{length}
 use borrow.Author.Tests.{le-leb, lt-leb}
+use Rattle.slices.specs.Guard.{unless}
 use Rattle.step.specs.Phase.{going}
-use Rattle.progress.specs.State.{stop, unless}
+use Rattle.progress.specs.State.{stop}
 use Rattle.progress.specs.Check.{onEnd}
 use Rattle.progress.specs.Inner.Held.{stateOf}
 use Rattle.step.specs.declared.Progress.{Progress}

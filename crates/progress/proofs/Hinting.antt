@@ -6,6 +6,7 @@ use mathlib.Core.Bool.{true, false, true≢false}
 use native.Mathlib.Omega.{arith}
 use lib.ListN.{length, getD, set, length-set}
 use borrow.Author.Tests.{lt-ltb, le-ltb}
+use Rattle.slices.specs.Guard.{unless}
 use Rattle.cnf.specs.Clause.{Clause}
 use Rattle.propagation.specs.Marks.{trueMark}
 use Rattle.propagation.specs.Hint.{hintOf}
@@ -14,7 +15,7 @@ use Rattle.propagation.specs.declared.Hint.{Hint}
 use Rattle.propagation.proofs.Standing.{clauses-length, clauses-at}
 use Rattle.step.specs.Phase.{going, inLiterals, conflicted}
 use Rattle.step.specs.Inner.Stop.{refusedBy}
-use Rattle.progress.specs.State.{State, unless}
+use Rattle.progress.specs.State.{State}
 use Rattle.progress.specs.Check.{afterHint, onHint}
 use Rattle.progress.specs.Inner.Held.{stateOf, Held, Written, Did, withHint}
 use Rattle.step.specs.declared.Phase.{Phase}

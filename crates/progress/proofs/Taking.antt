@@ -9,6 +9,7 @@ use lib.ListN.{length, getD, set, length-set}
 use lib.Seq.{slice, getD-set-same, getD-set-other}
 use lib.Dec.{eqb, leb}
 use borrow.Author.Tests.{eqb-true, eqb-false, eq-eqb, ne-eqb, le-leb, lt-leb}
+use Rattle.slices.specs.Guard.{unless}
 use Rattle.cnf.specs.Clause.{Clause}
 use Rattle.propagation.specs.Marks.{falseMark, undecided}
 use Rattle.propagation.specs.Stored.{clausesOf}
@@ -16,7 +17,7 @@ use Rattle.propagation.specs.Inner.Standing.{LiteralsIn}
 use Rattle.propagation.proofs.Cases.{both}
 use Rattle.step.specs.Phase.{going, inLiterals}
 use Rattle.step.specs.Inner.Stop.{refusedBy}
-use Rattle.progress.specs.State.{State, Limits, more, unless, size, afterLiteral}
+use Rattle.progress.specs.State.{State, Limits, more, size, afterLiteral}
 use Rattle.progress.specs.Check.{ofVariable, fresh, onLiteral}
 use Rattle.progress.specs.Lent.{limitsOf}
 use Rattle.progress.specs.Inner.Held.{literalsOf, stateOf, Held, Written, Did, withLiteral}

@@ -4,13 +4,14 @@ use mathlib.Core.List.{List, [], _∷_}
 use mathlib.Core.Bool.{Bool, true, not, _&&_}
 use lib.ListN.{length, getD, set}
 use lib.Dec.{ltb, leb, eqb}
+use Rattle.slices.specs.Guard.{unless}
 use Rattle.cnf.specs.Clause.{Clause}
 use Rattle.propagation.specs.Marks.{variableOf, trueMark}
 use Rattle.propagation.specs.Hint.{hintOf}
 use Rattle.propagation.specs.declared.Hint.{Hint}
 use Rattle.reader.specs.Command.{commandAt}
 use Rattle.step.specs.Phase.{going, inLiterals, conflicted}
-use Rattle.progress.specs.State.{State, Limits, Next, more, stop, unless, size, afterLiteral, hinted, afterClose, begin}
+use Rattle.progress.specs.State.{State, Limits, Next, more, stop, down, size, afterLiteral, hinted, afterClose, begin}
 use Rattle.reader.specs.declared.Command.{Command}
 use Rattle.step.specs.declared.Phase.{Phase}
 use Rattle.step.specs.declared.Refusal.{Refusal}
@@ -29,42 +30,42 @@ fresh (k ∷ ks) l = not (eqb (variableOf k) (variableOf l)) && fresh ks l
 unfoldable pub onLiteral : Limits → State → ℕ → Next
 unfolding fresh
 onLiteral L s l =
-    unless (going (s .phase)) (Refusal.OutOfPlace (s .place))
-    (unless (inLiterals (s .phase)) (Refusal.Literal (s .place))
-    (unless (ofVariable (L .variables) l) (Refusal.Literal (s .place))
-    (unless (fresh (s .literals) l) (Refusal.Literal (s .place))
-    (unless (leb (size s + 1 + length (s .literals) + 1) (L .words)) (Refusal.Full (s .place))
+    unless (going (s .phase)) (down (Refusal.OutOfPlace (s .place)))
+    (unless (inLiterals (s .phase)) (down (Refusal.Literal (s .place)))
+    (unless (ofVariable (L .variables) l) (down (Refusal.Literal (s .place)))
+    (unless (fresh (s .literals) l) (down (Refusal.Literal (s .place)))
+    (unless (leb (size s + 1 + length (s .literals) + 1) (L .words)) (down (Refusal.Full (s .place)))
     (more (afterLiteral s l))))))
 
 -- what a hint's clause says: a conflict, a literal that becomes true, or 20
 unfoldable pub afterHint : State → Hint → Next
 afterHint s Hint.Conflict = more (hinted s (s .marks) Phase.Conflict)
 afterHint s (Hint.Unit l) = more (hinted s (set (s .marks) (variableOf l) (trueMark l)) Phase.Hints)
-afterHint s Hint.Neither = stop (Verdict.Refused (Refusal.Neither (s .place)))
+afterHint s Hint.Neither = down (Refusal.Neither (s .place))
 
 -- a hint: 23, 19, 22, 20
 unfoldable pub onHint : State → ℕ → Next
 unfolding afterHint
 onHint s h =
-    unless (going (s .phase)) (Refusal.OutOfPlace (s .place))
-    (unless (ltb h (length (s .clauses))) (Refusal.NoClause (s .place))
-    (unless (not (conflicted (s .phase))) (Refusal.AfterConflict (s .place))
+    unless (going (s .phase)) (down (Refusal.OutOfPlace (s .place)))
+    (unless (ltb h (length (s .clauses))) (down (Refusal.NoClause (s .place)))
+    (unless (not (conflicted (s .phase))) (down (Refusal.AfterConflict (s .place)))
     (afterHint s (hintOf (s .marks) (getD (s .clauses) h [])))))
 
 -- a close: 23, 21, and 25 where there is no word for the count, or no entry in the starts
 unfoldable pub onClose : Limits → State → Next
 onClose L s =
-    unless (going (s .phase)) (Refusal.OutOfPlace (s .place))
-    (unless (conflicted (s .phase)) (Refusal.NoConflict (s .place))
-    (unless (leb (size s + 1 + length (s .literals)) (L .words)) (Refusal.Full (s .place))
-    (unless (ltb (length (s .clauses)) (L .starts)) (Refusal.Full (s .place))
+    unless (going (s .phase)) (down (Refusal.OutOfPlace (s .place)))
+    (unless (conflicted (s .phase)) (down (Refusal.NoConflict (s .place)))
+    (unless (leb (size s + 1 + length (s .literals)) (L .words)) (down (Refusal.Full (s .place)))
+    (unless (ltb (length (s .clauses)) (L .starts)) (down (Refusal.Full (s .place)))
     (more (afterClose L s)))))
 
 -- the end: 23 without the empty clause, 24 where bytes follow
 unfoldable pub onEnd : List ℕ → State → Next
 onEnd r s =
-    unless (not (going (s .phase))) (Refusal.OutOfPlace (s .place))
-    (unless (leb (length r) (s .place + 1)) (Refusal.Trailing (s .place + 1))
+    unless (not (going (s .phase))) (down (Refusal.OutOfPlace (s .place)))
+    (unless (leb (length r) (s .place + 1)) (down (Refusal.Trailing (s .place + 1)))
     (stop (Verdict.Accepted (s .steps) (s .hints))))
 
 -- one command: 17, then by its kind
@@ -74,7 +75,7 @@ obey L r s (Command.Literal l) = onLiteral L s l
 obey L r s (Command.Hint h) = onHint s h
 obey L r s Command.Close = onClose L s
 obey L r s Command.End = onEnd r s
-obey L r s Command.Unreadable = stop (Verdict.Refused (Refusal.Unreadable (s .place)))
+obey L r s Command.Unreadable = down (Refusal.Unreadable (s .place))
 
 -- the command where the state stands
 unfoldable pub step : Limits → List ℕ → State → Next

@@ -2,11 +2,12 @@
 use Prim.Native.Nat.{ℕ}
 use mathlib.Core.Path.{_≡_, refl}
 use mathlib.Core.List.{List, [], _∷_}
+use Rattle.slices.specs.Guard.{unless}
 use Rattle.slices.specs.Bytes.{word}
 use Rattle.cnf.specs.Clause.{Clause}
 use Rattle.propagation.specs.Hint.{notFalse, allSame, ofLeft, hintOf}
 use Rattle.reader.specs.Command.{commandAt}
-use Rattle.progress.specs.State.{Limits, unless}
+use Rattle.progress.specs.State.{Limits}
 use Rattle.progress.specs.Check.{fresh, onLiteral, afterHint, onHint, onClose, onEnd, obey, step, run, checkProof}
 use Rattle.step.specs.declared.Refusal.{Refusal}
 use Rattle.step.specs.declared.Verdict.{Verdict}

@@ -1,8 +1,8 @@
 -- The claim of a report, proved: 16, then the proof.
 use Prim.Native.Nat.{ℕ, _+_}
 use mathlib.Core.List.{List}
-use mathlib.Core.Bool.{cond}
 use lib.Dec.{leb}
+use Rattle.slices.specs.Guard.{unless}
 use Rattle.header.specs.declared.Header.{Header}
 use Rattle.faults.specs.declared.Counts.{Counts}
 use Rattle.wiring.specs.Command.{Stretch}
@@ -33,15 +33,11 @@ limitsIn m x = record { variables = sizeOf x .variables; words = m .words; start
 
 -- 16, then the proof from an offset of the report on, over the clauses of the translation x
 unfoldable pub provedBy : (r : List ℕ) → (from : ℕ) → Room → Header → Counts → Stretch → Proved
+unfolding unless
 provedBy r from m h k x =
-    cond (leb (sizeOf x .words) (m .words))
-    (cond (leb (sizeOf x .clauses) (m .starts))
-    (cond (leb (sizeOf x .variables + 1) (m .marks))
-    (cond (leb (h .variables) (m .values))
-    (cond (leb (k .ifs) (m .trail))
-    (byVerdict (checkProof (clausesOfAll x) (limitsIn m x) r from .verdict))
-    (Proved.Refused (Refusal.TooSmall Buffer.Trail)))
-    (Proved.Refused (Refusal.TooSmall Buffer.Values)))
-    (Proved.Refused (Refusal.TooSmall Buffer.Marks)))
-    (Proved.Refused (Refusal.TooSmall Buffer.Starts)))
-    (Proved.Refused (Refusal.TooSmall Buffer.Words))
+    unless (leb (sizeOf x .words) (m .words)) (Proved.Refused (Refusal.TooSmall Buffer.Words))
+    (unless (leb (sizeOf x .clauses) (m .starts)) (Proved.Refused (Refusal.TooSmall Buffer.Starts))
+    (unless (leb (sizeOf x .variables + 1) (m .marks)) (Proved.Refused (Refusal.TooSmall Buffer.Marks))
+    (unless (leb (h .variables) (m .values)) (Proved.Refused (Refusal.TooSmall Buffer.Values))
+    (unless (leb (k .ifs) (m .trail)) (Proved.Refused (Refusal.TooSmall Buffer.Trail))
+    (byVerdict (checkProof (clausesOfAll x) (limitsIn m x) r from .verdict))))))

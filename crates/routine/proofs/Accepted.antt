@@ -1,12 +1,13 @@
 -- What `check` accepted was decoded, and its commands stand after the header and take all the bytes. Assumes nothing.
 use mathlib.Core.Path.{_≡_, refl, sym, ap, subst, _∙_}
 use mathlib.Core.List.{List}
-use mathlib.Core.Bool.{Bool, true, false, cond, _&&_}
+use mathlib.Core.Bool.{Bool, true, false, _&&_}
 use Prim.Native.Nat.{ℕ, _≤_}
 use native.Mathlib.Omega.{arith}
 use lib.ListN.{length}
 use lib.Dec.{leb, eqb}
 use borrow.Author.Tests.{eqb-true, leb-true}
+use Rattle.slices.specs.Guard.{unless}
 use Rattle.header.specs.Header.{headerOf, firstCommand}
 use Rattle.routine.specs.Routine.{Arm, Parsed, refused, parsed, arm}
 use Rattle.routine.specs.Decode.{Decoded, rejected, routine, noCounts, decodeArm, decodeHead, decode, answer, checked}
@@ -28,7 +29,8 @@ module _ (bs : List ℕ) where
   Of-decoded (routine h a k) = Whole bs h a k
 
   of-end : (h : Header) (a : Arm) (end : ℕ) (k : Counts) → length bs ≤ 4096 → headerOf bs ≡ Head.Whole h → Stands bs h 0 0 (firstCommand h) noCounts a end k
-      → (b : Bool) → eqb end (length bs) ≡ b → Of-decoded (cond b (routine h a k) (rejected (Refusal.Trailing end)))
+      → (b : Bool) → eqb end (length bs) ≡ b → Of-decoded (unless b (rejected (Refusal.Trailing end)) (routine h a k))
+  unfolding unless
   of-end h a end k l w s true e = record { short = l; header = w; stands = subst (λ (n : ℕ). Stands bs h 0 0 (firstCommand h) noCounts a n k) (eqb-true _ _ e) s }
   of-end h a end k l w s false e = tt
 
@@ -40,7 +42,8 @@ module _ (bs : List ℕ) where
   of-head l (Head.Wrong place) e = tt
   of-head l (Head.Whole h) e = of-arm h l e (arm bs h 0 0 (firstCommand h) noCounts) refl
 
-  of-decode : (b c : Bool) → leb 1 (length bs) ≡ b → leb (length bs) 4096 ≡ c → Of-decoded (cond (b && c) (decodeHead bs (headerOf bs)) (rejected Refusal.Length))
+  of-decode : (b c : Bool) → leb 1 (length bs) ≡ b → leb (length bs) 4096 ≡ c → Of-decoded (unless (b && c) (rejected Refusal.Length) (decodeHead bs (headerOf bs)))
+  unfolding unless
   of-decode true true e f = of-head (leb-true _ _ f) (headerOf bs) refl
   of-decode true false e f = tt
   of-decode false c e f = tt

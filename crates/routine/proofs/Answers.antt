@@ -1,10 +1,11 @@
 -- Laws of what `check` answers. Assumes nothing.
 use mathlib.Core.Path.{_≡_, refl, sym, ap, _∙_}
-use mathlib.Core.Bool.{Bool, true, false, cond}
+use mathlib.Core.Bool.{Bool, true, false}
 use mathlib.Core.List.{List}
 use Prim.Native.Nat.{ℕ}
 use lib.ListN.{length}
 use lib.Dec.{eqb}
+use Rattle.slices.specs.Guard.{unless}
 use Rattle.header.specs.Header.{firstCommand}
 use Rattle.routine.specs.Routine.{Arm, Parsed, refused, parsed, arm}
 use Rattle.routine.specs.Inner.Walk.{walked, walkArm}
@@ -19,15 +20,16 @@ use Rattle.routine.specs.declared.Checked.{Checked}
 -- what follows a walk over the commands of n bytes
 abbrev pub commandsBy : ℕ → Header → Walked → Checked
 commandsBy n h (Walked.Refused fault place) = Checked.Refused (Refusal.Command fault place)
-commandsBy n h (Walked.Ended end k) = cond (eqb end n) (Checked.Accepted h k) (Checked.Refused (Refusal.Trailing end))
+commandsBy n h (Walked.Ended end k) = unless (eqb end n) (Checked.Refused (Refusal.Trailing end)) (Checked.Accepted h k)
 
-answer-cond : (b : Bool) (x y : Decoded) → answer (cond b x y) ≡ cond b (answer x) (answer y)
-answer-cond true x y = refl
-answer-cond false x y = refl
+answer-unless : (b : Bool) (x y : Decoded) → answer (unless b x y) ≡ unless b (answer x) (answer y)
+unfolding unless
+answer-unless true x y = refl
+answer-unless false x y = refl
 
 answer-arm : (bs : List ℕ) (h : Header) (p : Parsed Arm) → answer (decodeArm bs h p) ≡ commandsBy (length bs) h (walked p)
 answer-arm bs h (refused fault place) = refl
-answer-arm bs h (parsed a end k) = answer-cond (eqb end (length bs)) (routine h a k) (rejected (Refusal.Trailing end))
+answer-arm bs h (parsed a end k) = answer-unless (eqb end (length bs)) (rejected (Refusal.Trailing end)) (routine h a k)
 
 -- w is what the walk answers, and is v
 pub commands : (bs : List ℕ) (h : Header) (at : ℕ) (k : Counts) (w v : Walked) → w ≡ walkArm bs h 0 0 at k → at ≡ firstCommand h → k ≡ noCounts → w ≡ v

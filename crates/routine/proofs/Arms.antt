@@ -1,15 +1,16 @@
 -- Laws of reading an arm: it goes forward, the bound on the steps does not matter, and so an arm is its first command and what follows. Assumes nothing.
 use mathlib.Core.Path.{_≡_, refl, sym, ap, _∙_}
 use mathlib.Core.List.{List}
-use mathlib.Core.Bool.{Bool, true, false, cond}
+use mathlib.Core.Bool.{Bool, true, false, cond, not}
 use Prim.Native.Nat.{ℕ, zero, suc, _+_, _-_, _≤_, _<_}
 use native.Mathlib.Omega.{arith}
 use lib.ListN.{length}
 use lib.Dec.{leb, ltb, eqb}
-use borrow.Author.Tests.{leb-true, ltb-true}
+use borrow.Author.Tests.{leb-true, ltb-true, not-true}
+use Rattle.slices.specs.Guard.{unless}
 use Rattle.command.specs.Command.{sizeOf, sizeOfSimple, commandOf, commandAt}
 use Rattle.header.specs.Header.{width}
-use Rattle.faults.specs.Step.{inRange, widthsFit, tooMany, after, unless, refusing, simpleStep, oneIf, conditionInRange, ifStep, stepOf}
+use Rattle.faults.specs.Step.{inRange, widthsFit, tooMany, after, simpleStep, oneIf, conditionInRange, ifStep, stepOf}
 use Rattle.routine.specs.Routine.{Parsed, refused, parsed, plain, fork, andThen, Reader, ifArms, armStep, stepAt, armBy, arm}
 use Rattle.routine.specs.Inner.Walk.{walked, walkArm, walkIf}
 use Rattle.faults.specs.Inner.Sound.{Sound, SoundIf}
@@ -58,13 +59,10 @@ module _ (bs : List ℕ) (h : Header) (depth : ℕ) (k : Counts) where
   Of c (Step.Plain d k₁) = PlainOf bs h k c d k₁
   Of c (Step.Fork d k₁) = ForkOf bs h depth k c d k₁
 
-  of-unless : (c : Command) (b : Bool) (fault : Fault) (s : Step) → (b ≡ true → Of c s) → Of c (unless b fault s)
+  of-unless : (c : Command) (b : Bool) (fault : Fault) (s : Step) → (b ≡ true → Of c s) → Of c (unless b (Step.Refused fault) s)
+  unfolding unless
   of-unless c true fault s p = p refl
   of-unless c false fault s p = tt
-
-  of-refusing : (c : Command) (b : Bool) (fault : Fault) (s : Step) → (b ≡ false → Of c s) → Of c (refusing b fault s)
-  of-refusing c true fault s p = tt
-  of-refusing c false fault s p = p refl
 
   of-if : (d : Condition) → Of (Command.If d) (ifStep bs h depth d k)
   unfolding ifStep
@@ -80,8 +78,8 @@ module _ (bs : List ℕ) (h : Header) (depth : ℕ) (k : Counts) where
   of-simple d =
       of-unless (Command.Simple d) (inRange bs h d) Fault.Operand _ (λ r.
       of-unless (Command.Simple d) (widthsFit bs d) Fault.Widths _ (λ w.
-      of-refusing (Command.Simple d) (tooMany d k) Fault.TooMany (Step.Plain d (after d k)) (λ f.
-      record { command = refl; sound = record { ranges = r; widths = w }; few = f; counts = refl })))
+      of-unless (Command.Simple d) (not (tooMany d k)) Fault.TooMany (Step.Plain d (after d k)) (λ f.
+      record { command = refl; sound = record { ranges = r; widths = w }; few = not-true _ f; counts = refl })))
 
   pub of-step : (close : ℕ) (c : Command) → Of c (stepOf bs h depth close c k)
   unfolding stepOf

@@ -2,9 +2,10 @@
 use Prim.Native.Nat.{ℕ}
 use mathlib.Core.List.{List}
 use mathlib.Core.Path.{_≡_}
-use mathlib.Core.Bool.{cond, _&&_}
+use mathlib.Core.Bool.{_&&_}
 use lib.ListN.{length}
 use lib.Dec.{leb, eqb}
+use Rattle.slices.specs.Guard.{unless}
 use Rattle.header.specs.Header.{headerOf, firstCommand}
 pub use Rattle.faults.specs.Step.{noCounts}
 use Rattle.routine.specs.Routine.{Arm, Parsed, refused, parsed, arm}
@@ -22,7 +23,7 @@ pub data Decoded : Type 0 where
 -- the commands are one arm that an end closes, and nothing follows it
 abbrev pub decodeArm : List ℕ → Header → Parsed Arm → Decoded
 decodeArm bs h (refused fault place) = rejected (Refusal.Command fault place)
-decodeArm bs h (parsed a end k) = cond (eqb end (length bs)) (routine h a k) (rejected (Refusal.Trailing end))
+decodeArm bs h (parsed a end k) = unless (eqb end (length bs)) (rejected (Refusal.Trailing end)) (routine h a k)
 
 -- what the header is, and then the commands after it
 abbrev pub decodeHead : List ℕ → Head → Decoded
@@ -31,7 +32,8 @@ decodeHead bs (Head.Whole h) = decodeArm bs h (arm bs h 0 0x00 (firstCommand h) 
 
 -- 1 to 4,096 bytes, and in them a header and commands
 unfoldable pub decode : List ℕ → Decoded
-decode bs = cond (leb 1 (length bs) && leb (length bs) 4096) (decodeHead bs (headerOf bs)) (rejected Refusal.Length)
+unfolding unless
+decode bs = unless (leb 1 (length bs) && leb (length bs) 4096) (rejected Refusal.Length) (decodeHead bs (headerOf bs))
 
 -- the answer: a routine is accepted with its header and its counts
 abbrev pub answer : Decoded → Checked

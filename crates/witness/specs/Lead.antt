@@ -1,10 +1,10 @@
 -- The lead of a report: access, side, a decision for each if, the witness's inputs of four bytes each. The proof begins after it.
 use Prim.Native.Nat.{ℕ, zero, suc, _+_, _*_}
 use mathlib.Core.List.{List, [], _∷_}
-use mathlib.Core.Bool.{cond}
 use lib.ListN.{length, take, drop}
 use lib.Dec.{leb}
 use Rattle.slices.specs.Bytes.{entry, word}
+use Rattle.slices.specs.Guard.{unless}
 use Rattle.header.specs.declared.Header.{Header}
 use Rattle.faults.specs.declared.Counts.{Counts}
 use Rattle.lead.specs.Lead.{targetOf, admittedLead}
@@ -45,9 +45,8 @@ byAdmitted t (Admitted.Translates h) = Opened.Opens t
 
 -- 11: the report is over 16,777,216, or the lead is cut short; then 12
 unfoldable pub leadOf : List ℕ → Header → Counts → Opened
+unfolding unless
 leadOf r h k =
-    cond (leb (length r) 16777216)
-    (cond (leb (proofAt h k) (length r))
-    (byAdmitted (targetIn r) (admittedLead (targetIn r) (decisionsIn r k) h k))
-    (Opened.Refused (Refusal.Cut (length r))))
-    (Opened.Refused (Refusal.Cut (length r)))
+    unless (leb (length r) 16777216) (Opened.Refused (Refusal.Cut (length r)))
+    (unless (leb (proofAt h k) (length r)) (Opened.Refused (Refusal.Cut (length r)))
+    (byAdmitted (targetIn r) (admittedLead (targetIn r) (decisionsIn r k) h k)))

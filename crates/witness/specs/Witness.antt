@@ -1,9 +1,10 @@
 -- The witness: its input list is accepted, and its run goes the report's way, comes to the named access, and has its index there on the side.
 use Prim.Native.Nat.{ℕ}
 use mathlib.Core.List.{List}
-use mathlib.Core.Bool.{Bool, false, cond}
+use mathlib.Core.Bool.{Bool, false}
 use lib.ListN.{length}
 use lib.Dec.{eqb}
+use Rattle.slices.specs.Guard.{unless}
 use Rattle.header.specs.Header.{arraySize}
 use Rattle.header.specs.declared.Header.{Header}
 use Rattle.faults.specs.declared.Counts.{Counts}
@@ -29,10 +30,11 @@ isOn side (Lies.Outside s) = eqb side (sideNumber s)
 
 -- 13 or 14, then 15
 unfoldable pub byCourse : List ℕ → Header → Target → Course → Witness
+unfolding unless
 byCourse bs h t (Course.Astray number) = Witness.Refused (Refusal.Astray number)
 byCourse bs h t Course.Passing = Witness.Refused (Refusal.Missed (t .access))
 byCourse bs h t (Course.Arrived array index) =
-    cond (isOn (t .side) (lies (arraySize bs h array) index)) (Witness.Stands t array index) (Witness.Refused (Refusal.OffSide (t .access)))
+    unless (isOn (t .side) (lies (arraySize bs h array) index)) (Witness.Refused (Refusal.OffSide (t .access))) (Witness.Stands t array index)
 
 -- 10, then the course; the inputs in a lead that is not cut short are never too few
 abbrev pub byListed : (bs r : List ℕ) → Header → Target → Course → Listed → Witness
