@@ -11,10 +11,10 @@ use Rattle.header.specs.Header.{firstCommand}
 use Rattle.faults.specs.Inner.Sound.{Fine}
 use Rattle.routine.specs.Routine.{Arm}
 use Rattle.routine.specs.Decode.{noCounts, routine, decode, answer, checked}
-use Rattle.rendering.specs.Syntax.{Syntax}
-use Rattle.rendering.specs.Render.{textBytes, render}
+use Rattle.rendering.specs.Syntax.{Text, none, simple, branch, Syntax}
+use Rattle.rendering.specs.Render.{simpleBytes, textBytes, render}
 use Rattle.rendering.specs.WellFormed.{depth, ifs, reads, writes, accesses, WellFormed}
-use Rattle.rendering.specs.Exactly.{AreBytes, Accepted, Rendered, headOf, countsOf, text, Decodes, Exactly}
+use Rattle.rendering.specs.Exactly.{AreBytes, Accepted, Rendered, headOf, countsOf, plus, armOf, commandsOf, Exactly}
 use Rattle.header.specs.declared.Header.{Header}
 use Rattle.faults.specs.declared.Counts.{Counts}
 use Rattle.routine.specs.declared.Checked.{Checked}
@@ -24,12 +24,12 @@ use Rattle.routine.proofs.Accepted.{Whole, decoded}
 use Rattle.routine.proofs.Counting.{few-ifs, few-accesses}
 use Rattle.rendering.proofs.Bytes.{bytes-left}
 use Rattle.rendering.proofs.Heads.{length-sizes, size-from, syntaxOf, many-widths, same-told, header-bytes, from-commands, header-read, same-read, read-back}
-use Rattle.rendering.proofs.Written.{Written, written}
-use Rattle.rendering.proofs.Readings.{all-read}
+use Rattle.rendering.proofs.Written.{text, Written, written}
+use Rattle.rendering.proofs.Readings.{past, all-read}
 
 -- ---- the bytes of a well-formed routine decode to it
 
-pub rendered-decodes : (p : Syntax) → WellFormed p → Decodes p
+pub rendered-decodes : (p : Syntax) → WellFormed p → decode (render p) ≡ routine (headOf p) (commandsOf p) (countsOf p)
 unfolding render decode
 rendered-decodes p w =
     let bs = render p in
@@ -39,30 +39,25 @@ rendered-decodes p w =
     let d : 0 + depth t ≤ 8 = omega (arith, w .deep) in
     let i : 0 + ifs t ≤ 32 = omega (arith, w .few-ifs) in
     let a : 0 + 0 + accesses t ≤ 64 = omega (arith, w .few-accesses) in
-    let r = all-read bs h p (same-read bs p (textBytes t ++ (0 ∷ [])) refl) (λ v l. w .widths v l .high) t 0 0 (firstCommand h) noCounts []
-    (inl refl) (from-commands bs p (textBytes t ++ (0 ∷ [])) refl) (w .commands) d i a in
+    let b = from-commands bs p (textBytes t ++ (0 ∷ [])) refl in
+    let s = all-read bs h p (same-read bs p (textBytes t ++ (0 ∷ [])) refl) (λ v l. w .widths v l .high) t 0 0 (firstCommand h) noCounts []
+    (inl refl) b (w .commands) d i a in
     let l = w .short in
-    let o = onward bs h 0 0 (firstCommand h) noCounts (r .arm) (r .end) (r .after) (r .stands) in
-    let q : r .end ≡ length bs = omega (arith, bytes-left bs (r .end) [] (r .follows)) in
-    let i₁ : r .after .ifs ≡ ifs t = omega (arith, r .some-ifs) in
-    let r₁ : r .after .reads ≡ reads t = omega (arith, r .some-reads) in
-    let w₁ : r .after .writes ≡ writes t = omega (arith, r .some-writes) in
-    record {
-      arm = r .arm;
-      decodes =
-          simp (le-leb 1 (length bs) (omega arith), le-leb (length bs) 4096 l, e, r .stands .reads, eq-eqb (r .end) (length bs) q)
-          (λ j. routine h (r .arm) (record { ifs = i₁ j; reads = r₁ j; writes = w₁ j }));
-      commands = r .commands;
-    }
+    let end = firstCommand h + length (textBytes t) + 1 in
+    let o = onward bs h 0 0 (firstCommand h) noCounts (commandsOf p) end (plus noCounts t) s in
+    let q : end ≡ length bs = omega (arith, bytes-left bs end [] (past bs (firstCommand h) (textBytes t) 0 [] b)) in
+    let i₁ : 0 + ifs t ≡ ifs t = omega arith in
+    let r₁ : 0 + reads t ≡ reads t = omega arith in
+    let w₁ : 0 + writes t ≡ writes t = omega arith in
+    simp (le-leb 1 (length bs) (omega arith), le-leb (length bs) 4096 l, e, s .reads, eq-eqb end (length bs) q)
+    (λ j. routine h (commandsOf p) (record { ifs = i₁ j; reads = r₁ j; writes = w₁ j }))
 
 pub rendered-accepted : (p : Syntax) → WellFormed p → Accepted (render p)
-rendered-accepted p w =
-    let d = rendered-decodes p w in
-    record { header = headOf p; routine = record { commands = d .arm; counts = countsOf p; decodes = d .decodes } }
+rendered-accepted p w = record { header = headOf p; routine = record { commands = commandsOf p; counts = countsOf p; decodes = rendered-decodes p w } }
 
 rendered-answered : (p : Syntax) → WellFormed p → checked (render p) ≡ Checked.Accepted (headOf p) (countsOf p)
 unfolding checked
-rendered-answered p w = ap answer (rendered-decodes p w .decodes)
+rendered-answered p w = ap answer (rendered-decodes p w)
 
 -- ---- what decodes is the bytes of a well-formed routine
 
@@ -109,18 +104,29 @@ accepted-rendered bs f h a k e = record { syntax = told bs f h a k e; formed = t
 
 -- ---- both, and no two well-formed routines have the same bytes
 
+-- the commands of a text are its own
+text-of : (t : Text) (at : ℕ) (k : Counts) → text (armOf at k t) ≡ t
+unfolding text armOf
+text-of none at k = refl
+text-of (simple c rest) at k = ap (simple c) (text-of rest (at + length (simpleBytes c)) (plus k (simple c none)))
+text-of (branch c first second rest) at k =
+    let k₁ = plus k (branch c none none none) in
+    let x = text-of first (at + 4) k₁ in
+    let y = text-of second (at + 4 + length (textBytes first) + 1) (plus k₁ first) in
+    let z = text-of rest (at + length (textBytes (branch c first second none))) (plus k (branch c first second none)) in
+    λ i. branch c (x i) (y i) (z i)
+
 back : (p : Syntax) → WellFormed p → syntaxOf (render p) (headOf p) (p .commands) ≡ p
 unfolding render
 back p w = read-back (render p) p (textBytes (p .commands) ++ (0 ∷ [])) refl (w .sizes)
 
 render-once : (p q : Syntax) → WellFormed p → WellFormed q → render p ≡ render q → p ≡ q
 render-once p q v w e =
-    let x = rendered-decodes p v in
-    let y = rendered-decodes q w in
-    let d : routine (headOf p) (x .arm) (countsOf p) ≡ routine (headOf q) (y .arm) (countsOf q) = sym (x .decodes) ∙ ap decode e ∙ y .decodes in
+    let d : routine (headOf p) (commandsOf p) (countsOf p) ≡ routine (headOf q) (commandsOf q) (countsOf q) =
+    sym (rendered-decodes p v) ∙ ap decode e ∙ rendered-decodes q w in
     let h : headOf p ≡ headOf q = cc in
-    let a : x .arm ≡ y .arm = cc in
-    let t : p .commands ≡ q .commands = sym (x .commands) ∙ ap text a ∙ y .commands in
+    let a : commandsOf p ≡ commandsOf q = cc in
+    let t : p .commands ≡ q .commands = sym (text-of (p .commands) _ _) ∙ ap text a ∙ text-of (q .commands) _ _ in
     sym (back p v) ∙ (λ i. syntaxOf (e i) (h i) (t i)) ∙ back q w
 
 pub exactly : Exactly

@@ -1,11 +1,12 @@
--- The bytes of good commands are read as an arm with just these commands. Assumes nothing.
-use mathlib.Core.Path.{_≡_, refl, ap, _∙_}
+-- The bytes of good commands are read as the arm of just these commands. Assumes nothing.
+use mathlib.Core.Path.{_≡_, refl, sym, ap, subst, _∙_}
 use mathlib.Core.List.{List, _∷_, _++_, append-assoc}
 use mathlib.Core.Bool.{false}
 use mathlib.Core.Logic.{inr}
 use Prim.Native.Nat.{ℕ, _+_, _≤_, _<_, max}
 use native.Mathlib.Omega.{arith}
-use lib.ListN.{drop}
+use lib.ListN.{length, drop, length-append}
+use lib.Seq.{drop-append-add}
 use lib.Dec.{lit≤}
 use borrow.Author.Tests.{eq-eqb, lt-ltb, lt-leb}
 use Rattle.command.specs.Command.{sizeOfSimple, commandAt}
@@ -17,7 +18,7 @@ use Rattle.routine.specs.Inner.Stands.{Stands}
 use Rattle.rendering.specs.Syntax.{Text, none, simple, branch, Syntax}
 use Rattle.rendering.specs.Render.{four, simpleBytes, textBytes}
 use Rattle.rendering.specs.WellFormed.{Variable, widthOf, AllGood, depth, ifs, oneRead, oneWrite, reads, writes, accesses}
-use Rattle.rendering.specs.Exactly.{text}
+use Rattle.rendering.specs.Exactly.{plus, armOf}
 use Rattle.header.specs.declared.Header.{Header}
 use Rattle.faults.specs.declared.Counts.{Counts}
 use Rattle.command.specs.declared.Simple.{Simple}
@@ -87,102 +88,111 @@ module _ (bs : List ℕ) (h : Header) (n close at : ℕ) (k : Counts) where
     reads = unroll bs h n close at k ∙ ap (armStep (arm bs h) n close at k) (step-if c e s l m) ∙ rw (x .reads, y .reads, z .reads);
   }
 
--- ---- what an if leaves to its arms and to what follows
-
+-- what an if leaves to its arms and to what follows
 inside : (n x y z : ℕ) → n + max (1 + max x y) z ≤ 8 → (n < 8) × (n + 1 + x ≤ 8) × (n + 1 + y ≤ 8) × (n + z ≤ 8)
 inside n x y z l = (omega arith, omega arith, omega arith, omega arith)
 
-module _ (m k x y z : ℕ) (l : k + x + y + z ≤ m) where
-  first-fits : k + x ≤ m
-  first-fits = omega arith
+-- ---- where a text ends, and the counts there
 
-  second-fits : (k₂ : ℕ) → k₂ ≡ k + x → k₂ + y ≤ m
-  second-fits k₂ e = omega arith
+module _ (bs : List ℕ) (h : Header) (n close : ℕ) (a : Arm) where
+  -- the same arm from the same offset and counts
+  from : {at at₁ : ℕ} {k k₁ : Counts} {end : ℕ} {k₂ : Counts} → at ≡ at₁ → k ≡ k₁ → Stands bs h n close at k a end k₂ → Stands bs h n close at₁ k₁ a end k₂
+  from {end = end} {k₂ = k₂} e f s = subst (λ (x : ℕ × Counts). Stands bs h n close (x .0) (x .1) a end k₂) (λ i. (e i, f i)) s
 
-  rest-fits : (k₂ k₃ : ℕ) → k₂ ≡ k + x → k₃ ≡ k₂ + y → k₃ + z ≤ m
-  rest-fits k₂ k₃ e f = omega arith
+  -- and up to the same
+  up-to : {at : ℕ} {k : Counts} {end end₁ : ℕ} {k₂ k₃ : Counts} → end ≡ end₁ → k₂ ≡ k₃ → Stands bs h n close at k a end k₂ → Stands bs h n close at k a end₁ k₃
+  up-to {at = at} {k = k} e f s = subst (λ (x : ℕ × Counts). Stands bs h n close at k a (x .0) (x .1)) (λ i. (e i, f i)) s
 
-total : (k x y z k₁ k₂ k₃ : ℕ) → k₂ ≡ k + x → k₃ ≡ k₂ + y → k₁ ≡ k₃ + z → k₁ ≡ k + x + y + z
-total k x y z k₁ k₂ k₃ e f g = omega arith
+-- what follows a text and a mark
+pub past : (bs : List ℕ) (at : ℕ) (xs : List ℕ) (mark : ℕ) (tail : List ℕ) → drop at bs ≡ xs ++ (mark ∷ tail) → drop (at + length xs + 1) bs ≡ tail
+past bs at xs mark tail e =
+    let z : at + length xs + 1 ≡ at + (length xs + 1) = omega arith in
+    rw z (further bs at _ e (length xs + 1) ∙ drop-append-add xs (mark ∷ tail) 1)
 
--- the counts of an if and of what is in it and after it, one after the other
-ifs-grouped : (k x y z : ℕ) → k + (1 + x + y + z) ≡ k + 1 + x + y + z
-ifs-grouped k x y z = omega arith
+same-counts : {k k₁ : Counts} → k .ifs ≡ k₁ .ifs → k .reads ≡ k₁ .reads → k .writes ≡ k₁ .writes → k ≡ k₁
+same-counts a b c = λ i. record { ifs = a i; reads = b i; writes = c i }
 
-reads-grouped : (k x y z : ℕ) → k + (x + y + z) ≡ k + x + y + z
-reads-grouped k x y z = omega arith
+simple-length : (c : Simple) → length (simpleBytes c) ≡ sizeOfSimple c
+unfolding simpleBytes four
+simple-length (Simple.Set d x) = refl
+simple-length (Simple.Convert op d s) = refl
+simple-length (Simple.Compute op d s t) = refl
+simple-length (Simple.Read d a i) = refl
+simple-length (Simple.Write a i s) = refl
 
-accesses-grouped : (k x y z u v w : ℕ) → k + (x + y + z + (u + v + w)) ≡ k + (x + u) + (y + v) + (z + w)
-accesses-grouped k x y z u v w = omega arith
+module _ (k : Counts) where
+  plus-none : k ≡ plus k none
+  unfolding ifs reads writes
+  plus-none = same-counts (omega arith) (omega arith) (omega arith)
 
-positive : (k x m : ℕ) → k + 1 + x ≤ m → k < m
-positive k x m l = omega arith
+  plus-one : (c : Simple) → plus k (simple c none) ≡ after c k
+  unfolding ifs reads writes
+  plus-one c = let e = counts-after c k in let s = same-ifs c k in same-counts (omega arith) (omega arith) (omega arith)
+
+  plus-simple : (c : Simple) (rest : Text) → plus (plus k (simple c none)) rest ≡ plus k (simple c rest)
+  unfolding ifs reads writes
+  plus-simple c rest = same-counts (omega arith) (omega arith) (omega arith)
+
+  module _ (c : Condition) where
+    -- an if itself
+    abbrev itself : Counts
+    itself = plus k (branch c none none none)
+
+    plus-if : itself ≡ oneIf k
+    unfolding ifs reads writes
+    plus-if = same-counts (omega arith) (omega arith) (omega arith)
+
+    plus-arms : (first second : Text) → plus (plus itself first) second ≡ plus k (branch c first second none)
+    unfolding ifs reads writes
+    plus-arms first second = same-counts (omega arith) (omega arith) (omega arith)
+
+    plus-rest : (first second rest : Text) → plus (plus k (branch c first second none)) rest ≡ plus k (branch c first second rest)
+    unfolding ifs reads writes
+    plus-rest first second rest = same-counts (omega arith) (omega arith) (omega arith)
+
+-- how many bytes an if and its arms take, and the text after it
+module _ (c : Condition) (first second : Text) where
+  if-length : (rest : Text) → length (textBytes (branch c first second rest)) ≡ 4 + length (textBytes first) + 1 + length (textBytes second) + 1 + length (textBytes rest)
+  unfolding textBytes
+  if-length rest =
+      let x = length-append (textBytes first) (12 ∷ textBytes second ++ (13 ∷ textBytes rest)) in
+      let y = length-append (textBytes second) (13 ∷ textBytes rest) in
+      omega arith
+
+  none-length : length (textBytes (branch c first second none)) ≡ 4 + length (textBytes first) + 1 + length (textBytes second) + 1
+  unfolding textBytes
+  none-length = let e = if-length none in omega arith
 
 -- ---- reading
-
--- the commands t are read inside n ifs from `at` on, up to a tail
-pub record Read (bs : List ℕ) (h : Header) (n close at : ℕ) (k : Counts) (t : Text) (tail : List ℕ) : Type 0 where
-  pub arm : Arm
-  pub end : ℕ
-  pub after : Counts
-  pub stands : Stands bs h n close at k arm end after
-  pub follows : drop end bs ≡ tail
-  pub commands : text arm ≡ t
-  pub some-ifs : after .ifs ≡ k .ifs + ifs t
-  pub some-reads : after .reads ≡ k .reads + reads t
-  pub some-writes : after .writes ≡ k .writes + writes t
-
-both-counts : (k w x y k₁ w₁ : ℕ) → k₁ ≡ k + x → w₁ ≡ w + y → k₁ + w₁ ≡ k + w + (x + y)
-both-counts k w x y k₁ w₁ e f = omega arith
-
-accessed : {bs : List ℕ} {h : Header} {n close at : ℕ} {k : Counts} {t : Text} {tail : List ℕ} (r : Read bs h n close at k t tail)
-    → step.accesses (r .after) ≡ step.accesses k + accesses t
-accessed r = both-counts _ _ _ _ _ _ (r .some-reads) (r .some-writes)
 
 module _ (bs : List ℕ) (h : Header) (p : Syntax) (same : Same bs h p) (narrow : (v : ℕ) → Variable p v → widthOf p v ≤ 32) where
   -- wherever the bytes of t stand before a mark, within the limits, they are read
   abbrev Reads : Text → Type 0
   Reads t = (n close at : ℕ) (k : Counts) (tail : List ℕ) → Mark close → drop at bs ≡ textBytes t ++ (close ∷ tail)
-      → AllGood p t → n + depth t ≤ 8 → k .ifs + ifs t ≤ 32 → step.accesses k + accesses t ≤ 64 → Read bs h n close at k t tail
+      → AllGood p t → n + depth t ≤ 8 → k .ifs + ifs t ≤ 32 → step.accesses k + accesses t ≤ 64
+      → Stands bs h n close at k (armOf at k t) (at + length (textBytes t) + 1) (plus k t)
 
   reads-none : Reads none
-  unfolding text textBytes ifs reads writes
-  reads-none n close at k tail m e g d i a = record {
-    arm = done;
-    end = at + 1;
-    after = k;
-    stands = stands-done bs h n close at k (close-here bs at tail close m e);
-    follows = further bs at (close ∷ tail) e 1;
-    commands = refl;
-    some-ifs = omega arith;
-    some-reads = omega arith;
-    some-writes = omega arith;
-  }
+  unfolding armOf textBytes
+  reads-none n close at k tail m e g d i a =
+      up-to bs h n close done (omega arith) (plus-none k) (stands-done bs h n close at k (close-here bs at tail close m e))
 
   reads-simple : (c : Simple) (rest : Text) → Reads rest → Reads (simple c rest)
-  unfolding text textBytes depth ifs reads writes
+  unfolding armOf textBytes depth ifs reads writes
   reads-simple c rest go n close at k tail m e g d i a =
       let b : drop at bs ≡ simpleBytes c ++ (textBytes rest ++ (close ∷ tail)) = rw append-assoc at e in
-      let u = counts-after c k in
-      let s = same-ifs c k in
-      let r = go n close (at + sizeOfSimple c) (after c k) tail m (further bs at _ b (sizeOfSimple c) ∙ after-simple c _) (g .1) d (omega arith) (omega arith) in
-      record {
-        arm = plain at c k (r .arm);
-        end = r .end;
-        after = r .after;
-        stands =
-            stands-plain bs h n close at k c (simple-here bs at _ c (good-kind p narrow c (g .0)) b) (sound bs h p same c (g .0)) (not-many c k (omega arith))
-            (r .arm) (r .end) (r .after) (r .stands);
-        follows = r .follows;
-        commands = ap (simple c) (r .commands);
-        some-ifs = omega (arith, r .some-ifs);
-        some-reads = omega (arith, r .some-reads);
-        some-writes = omega (arith, r .some-writes);
-      }
+      let z = simple-length c in
+      let at₁ = at + length (simpleBytes c) in
+      let k₁ = plus k (simple c none) in
+      let f : drop at₁ bs ≡ textBytes rest ++ (close ∷ tail) = rw z (further bs at _ b (sizeOfSimple c) ∙ after-simple c _) in
+      let s = go n close at₁ k₁ tail m f (g .1) d (omega arith) (omega arith) in
+      let x : at + length (simpleBytes c) ≡ at + sizeOfSimple c = omega arith in
+      let y = length-append (simpleBytes c) (textBytes rest) in
+      up-to bs h n close _ (omega arith) (plus-simple k c rest)
+      (stands-plain bs h n close at k c (simple-here bs at _ c (good-kind p narrow c (g .0)) b) (sound bs h p same c (g .0)) (not-many c k (omega arith))
+      (armOf at₁ k₁ rest) _ _ (from bs h n close (armOf at₁ k₁ rest) x (plus-one k c) s))
 
-  module _ (c : Condition) (first second rest : Text) (n close at : ℕ) (k : Counts) (tail : List ℕ) (m : Mark close)
-      (g : AllGood p (branch c first second rest)) (d : n + max (1 + max (depth first) (depth second)) (depth rest) ≤ 8)
-      (i : k .ifs + 1 + ifs first + ifs second + ifs rest ≤ 32) (a : step.accesses k + accesses first + accesses second + accesses rest ≤ 64) where
+  module _ (c : Condition) (first second rest : Text) (n close at : ℕ) (k : Counts) (tail : List ℕ) (m : Mark close) where
     -- the bytes from the rest on, and from the second arm on
     abbrev Rest : List ℕ
     Rest = textBytes rest ++ (close ∷ tail)
@@ -190,48 +200,44 @@ module _ (bs : List ℕ) (h : Header) (p : Syntax) (same : Same bs h p) (narrow 
     abbrev Second : List ℕ
     Second = textBytes second ++ (13 ∷ Rest)
 
-    abbrev First : Type 0
-    First = Read bs h (n + 1) 12 (at + 4) (oneIf k) first Second
+    -- the offsets of the second arm and of the rest, and the counts before them
+    abbrev else : ℕ
+    else = at + 4 + length (textBytes first) + 1
 
-    join : commandAt bs at ≡ Command.If c → (r₁ : First) (r₂ : Read bs h (n + 1) 13 (r₁ .end) (r₁ .after) second Rest)
-        → Read bs h n close (r₂ .end) (r₂ .after) rest tail → Read bs h n close at k (branch c first second rest) tail
-    unfolding text ifs reads writes
-    join e r₁ r₂ r₃ = record {
-      arm = fork at c k (r₁ .arm) (r₂ .arm) (r₃ .arm);
-      end = r₃ .end;
-      after = r₃ .after;
-      stands =
-          stands-fork bs h n close at k c e (sound-if bs h p same c (g .0)) (inside n _ _ _ d .0)
-          (positive _ _ 32 (first-fits 32 (k .ifs + 1) (ifs first) (ifs second) (ifs rest) i))
-          (r₁ .arm) (r₁ .end) (r₁ .after) (r₁ .stands) (r₂ .arm) (r₂ .end) (r₂ .after) (r₂ .stands) (r₃ .arm) (r₃ .end) (r₃ .after) (r₃ .stands);
-      follows = r₃ .follows;
-      commands = λ j. branch c (r₁ .commands j) (r₂ .commands j) (r₃ .commands j);
-      some-ifs = rw ifs-grouped (total _ _ _ _ _ _ _ (r₁ .some-ifs) (r₂ .some-ifs) (r₃ .some-ifs));
-      some-reads = rw reads-grouped (total _ _ _ _ _ _ _ (r₁ .some-reads) (r₂ .some-reads) (r₃ .some-reads));
-      some-writes = rw reads-grouped (total _ _ _ _ _ _ _ (r₁ .some-writes) (r₂ .some-writes) (r₃ .some-writes));
-    }
+    abbrev next : ℕ
+    next = at + length (textBytes (branch c first second none))
 
-    after-second : Reads rest → commandAt bs at ≡ Command.If c → (r₁ : First) → Read bs h (n + 1) 13 (r₁ .end) (r₁ .after) second Rest
-        → Read bs h n close at k (branch c first second rest) tail
-    after-second go e r₁ r₂ =
-        join e r₁ r₂ (go n close (r₂ .end) (r₂ .after) tail m (r₂ .follows) (g .3) (inside n _ _ _ d .3)
-        (rest-fits 32 _ _ _ _ i _ _ (r₁ .some-ifs) (r₂ .some-ifs)) (rest-fits 64 _ _ _ _ a _ _ (accessed r₁) (accessed r₂)))
+    abbrev k₁ : Counts
+    k₁ = itself k c
 
-    after-first : Reads second → Reads rest → commandAt bs at ≡ Command.If c → First → Read bs h n close at k (branch c first second rest) tail
-    after-first go₂ go₃ e r₁ =
-        after-second go₃ e r₁ (go₂ (n + 1) 13 (r₁ .end) (r₁ .after) Rest end-mark (r₁ .follows) (g .2) (inside n _ _ _ d .2)
-        (second-fits 32 _ _ _ _ i _ (r₁ .some-ifs)) (second-fits 64 _ _ _ _ a _ (accessed r₁)))
+    abbrev k₃ : Counts
+    k₃ = plus k (branch c first second none)
 
     whole-if : Reads first → Reads second → Reads rest → drop at bs ≡ 11 ∷ c .relation ∷ c .s ∷ c .t ∷ textBytes first ++ (12 ∷ Second)
-        → Read bs h n close at k (branch c first second rest) tail
-    whole-if go₁ go₂ go₃ e =
-        after-first go₂ go₃ (if-here bs at _ c e) (go₁ (n + 1) 12 (at + 4) (oneIf k) Second else-mark (further bs at _ e 4) (g .1) (inside n _ _ _ d .1)
-        (first-fits 32 (k .ifs + 1) (ifs first) (ifs second) (ifs rest) i) (first-fits 64 (step.accesses k) (accesses first) (accesses second) (accesses rest) a))
+        → AllGood p (branch c first second rest) → n + depth (branch c first second rest) ≤ 8 → k .ifs + ifs (branch c first second rest) ≤ 32
+        → step.accesses k + accesses (branch c first second rest) ≤ 64
+        → Stands bs h n close at k (armOf at k (branch c first second rest)) (at + length (textBytes (branch c first second rest)) + 1) (plus k (branch c first second rest))
+    unfolding armOf depth ifs reads writes
+    whole-if go₁ go₂ go₃ e g d i a =
+        let q = inside n _ _ _ d in
+        let e₁ : drop (at + 4) bs ≡ textBytes first ++ (12 ∷ Second) = further bs at _ e 4 in
+        let e₂ : drop else bs ≡ Second = past bs (at + 4) (textBytes first) 12 Second e₁ in
+        let z : next ≡ else + length (textBytes second) + 1 = omega (arith, none-length c first second) in
+        let e₃ : drop next bs ≡ Rest = rw z (past bs else (textBytes second) 13 Rest e₂) in
+        let s₁ = go₁ (n + 1) 12 (at + 4) k₁ Second else-mark e₁ (g .1) (q .1) (omega arith) (omega arith) in
+        let s₂ = go₂ (n + 1) 13 else (plus k₁ first) Rest end-mark e₂ (g .2) (q .2) (omega arith) (omega arith) in
+        let s₃ = go₃ n close next k₃ tail m e₃ (g .3) (q .3) (omega arith) (omega arith) in
+        let w = if-length c first second rest in
+        up-to bs h n close _ (omega (arith, none-length c first second)) (plus-rest k c first second rest)
+        (stands-fork bs h n close at k c (if-here bs at _ c e) (sound-if bs h p same c (g .0)) (q .0) (omega arith)
+        (armOf (at + 4) k₁ first) else (plus k₁ first) (from bs h (n + 1) 12 _ refl (plus-if k c) s₁)
+        (armOf else (plus k₁ first) second) next k₃ (up-to bs h (n + 1) 13 _ (sym z) (plus-arms k c first second) s₂)
+        (armOf next k₃ rest) _ _ s₃)
 
   reads-branch : (c : Condition) (first second rest : Text) → Reads first → Reads second → Reads rest → Reads (branch c first second rest)
-  unfolding textBytes depth ifs reads writes
+  unfolding textBytes
   reads-branch c first second rest go₁ go₂ go₃ n close at k tail m e g d i a =
-      whole-if c first second rest n close at k tail m g d (rw ifs-grouped at i) (rw accesses-grouped at a) go₁ go₂ go₃ (simp append-assoc at e)
+      whole-if c first second rest n close at k tail m go₁ go₂ go₃ (simp append-assoc at e) g d i a
 
   pub all-read : (t : Text) → Reads t
   all-read none = reads-none

@@ -12,10 +12,10 @@ use Rattle.faults.specs.Step.{after, stepOf}
 use Rattle.faults.specs.Step as step
 use Rattle.routine.specs.Routine.{Arm, done, plain, fork, refused, parsed, armStep, arm}
 use Rattle.routine.specs.Inner.Stands.{Stands}
-use Rattle.rendering.specs.Syntax.{Syntax}
+use Rattle.rendering.specs.Syntax.{Text, none, simple, branch, Syntax}
 use Rattle.rendering.specs.Render.{simpleBytes, textBytes}
 use Rattle.rendering.specs.WellFormed.{AllGood, depth, ifs, oneRead, oneWrite, reads, writes, accesses}
-use Rattle.rendering.specs.Exactly.{AreBytes, text}
+use Rattle.rendering.specs.Exactly.{AreBytes}
 use Rattle.header.specs.declared.Header.{Header}
 use Rattle.faults.specs.declared.Counts.{Counts}
 use Rattle.command.specs.declared.Simple.{Simple}
@@ -27,6 +27,12 @@ use Rattle.routine.proofs.Views.{PlainAt, ForkAt, induction}
 use Rattle.routine.proofs.Counting.{same-ifs}
 use Rattle.rendering.proofs.Commands.{simple-there, if-there, close-there}
 use Rattle.rendering.proofs.Operands.{Same, good, good-if}
+
+-- the commands of an arm without their offsets and counts
+unfoldable pub text : Arm → Text
+text done = none
+text (plain at c k rest) = simple c (text rest)
+text (fork at c k first second rest) = branch c (text first) (text second) (text rest)
 
 -- a command adds to the counts
 pub counts-after : (c : Simple) (k : Counts) → (after c k .reads ≡ k .reads + oneRead c) × (after c k .writes ≡ k .writes + oneWrite c)

@@ -1,14 +1,15 @@
 -- What is accepted: just the bytes of a well-formed routine.
-use Prim.Native.Nat.{ℕ, _<_}
+use Prim.Native.Nat.{ℕ, _+_, _<_}
 use mathlib.Core.Path.{_≡_}
 use mathlib.Core.Logic.{_↔_}
 use mathlib.Core.List.{List}
 use lib.ListN.{length}
 use Rattle.slices.specs.Bytes.{entry}
+use Rattle.header.specs.Header.{firstCommand}
 use Rattle.routine.specs.Routine.{Arm, done, plain, fork}
-use Rattle.routine.specs.Decode.{IsRoutine, routine, decode, checked}
+use Rattle.routine.specs.Decode.{noCounts, IsRoutine, routine, decode, checked}
 use Rattle.rendering.specs.Syntax.{Text, none, simple, branch, Syntax}
-use Rattle.rendering.specs.Render.{render}
+use Rattle.rendering.specs.Render.{simpleBytes, textBytes, render}
 use Rattle.rendering.specs.WellFormed.{ifs, reads, writes, WellFormed}
 use Rattle.header.specs.declared.Header.{Header}
 use Rattle.faults.specs.declared.Counts.{Counts}
@@ -37,22 +38,30 @@ headOf p = record { variables = length (p .widths); parameters = p .parameters; 
 abbrev pub countsOf : Syntax → Counts
 countsOf p = record { ifs = ifs (p .commands); reads = reads (p .commands); writes = writes (p .commands) }
 
--- the commands of an arm without their offsets and counts
-unfoldable pub text : Arm → Text
-text done = none
-text (plain at c k rest) = simple c (text rest)
-text (fork at c k first second rest) = branch c (text first) (text second) (text rest)
+-- the counts k, and then a text
+abbrev pub plus : Counts → Text → Counts
+plus k t = record { ifs = k .ifs + ifs t; reads = k .reads + reads t; writes = k .writes + writes t }
 
--- the bytes of p decode to p: to its header, its commands and its counts
-pub record Decodes (p : Syntax) : Type 0 where
-  pub arm : Arm
-  pub decodes : decode (render p) ≡ routine (headOf p) arm (countsOf p)
-  pub commands : text arm ≡ p .commands
+-- The commands of an arm from the offset `at` on, after the counts k: each with its own offset, and with the counts of all the text before it, so
+-- that ifs, reads and accesses are numbered in text order.
+unfoldable pub armOf : (at : ℕ) → Counts → Text → Arm
+armOf at k none = done
+armOf at k (simple c rest) = plain at c k (armOf (at + length (simpleBytes c)) (plus k (simple c none)) rest)
+armOf at k (branch c first second rest) =
+    let k₁ : Counts = plus k (branch c none none none) in
+    fork at c k
+    (armOf (at + 4) k₁ first)
+    (armOf (at + 4 + length (textBytes first) + 1) (plus k₁ first) second)
+    (armOf (at + length (textBytes (branch c first second none))) (plus k (branch c first second none)) rest)
 
--- Bytes are accepted exactly when they are those of a well-formed routine. They decode to it, `check` answers with its header and its counts, and they
--- are the bytes of no other.
+-- all commands of a routine
+abbrev pub commandsOf : Syntax → Arm
+commandsOf p = armOf (firstCommand (headOf p)) noCounts (p .commands)
+
+-- Bytes are accepted exactly when they are those of a well-formed routine. They decode to it: to its header, its commands, each at its offset and with
+-- its numbers, and its counts. `check` answers with its header and its counts, and they are the bytes of no other.
 pub record Exactly : Type 0 where
   pub accepted : (bs : List ℕ) → AreBytes bs → Accepted bs ↔ Rendered bs
-  pub decoded : (p : Syntax) → WellFormed p → Decodes p
+  pub decoded : (p : Syntax) → WellFormed p → decode (render p) ≡ routine (headOf p) (commandsOf p) (countsOf p)
   pub answered : (p : Syntax) → WellFormed p → checked (render p) ≡ Checked.Accepted (headOf p) (countsOf p)
   pub once : (p q : Syntax) → WellFormed p → WellFormed q → render p ≡ render q → p ≡ q
