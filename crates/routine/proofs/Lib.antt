@@ -8,4 +8,6 @@ pub mod Standing
 mod Passing
 pub mod Text
 pub mod Counting
+pub mod Flat
+pub mod Numbering
 mod Bench

@@ -2,4 +2,5 @@
 pub mod Walk
 pub mod Known
 pub mod Passes
+pub mod Seeks
 pub mod Stands

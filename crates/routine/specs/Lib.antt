@@ -1,3 +1,4 @@
 pub mod Routine
 pub mod Decode
+pub mod Access
 pub mod Inner

@@ -1,4 +1,5 @@
 // The routine: its header and commands, read from bytes, and the check that refuses what is no routine.
+pub mod seeking;
 pub mod walks;
 
 use faults::Counts;
@@ -36,6 +37,12 @@ pub enum Walked {
 pub struct Passed {
     pub next: usize,
     pub counts: Counts,
+}
+
+// The access of a number: the counts before it, its array, and the variable that holds its index.
+pub enum Access {
+    Nowhere,
+    Here { counts: Counts, array: u8, i: u8 },
 }
 
 // Checks a routine: the whole of what is refused with numbers 1 to 8.

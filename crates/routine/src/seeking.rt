@@ -1,0 +1,71 @@
+// Finding an access by its number: one flat walk over the commands in text order, whatever arms they stand in.
+use crate::Access;
+use command::Command;
+use command::Simple;
+use command::Touch;
+use command::commands::command_at;
+use command::commands::simple_size;
+use command::commands::touched;
+use faults::Counts;
+use faults::steps::accesses_of;
+use faults::steps::counts_after;
+use faults::steps::counts_after_if;
+use faults::steps::no_counts;
+use header::Header;
+use header::first_command;
+use slices::wide;
+ghost use mathlib.Core.Path.{_≡_};
+ghost use Rattle.routine.specs.Decode.{IsRoutine};
+ghost use Rattle.routine.specs.Access.{accessHere};
+ghost use Rattle.routine.specs.Inner.Seeks.{Seeks};
+
+// The command after the counts k, if it is the access of this number.
+fn access_here(c: Simple, k: Counts, access: u8) -> Access
+    ensures { λ r. ⌜ r ≡ accessHere c k access ⌝ }
+{
+    if accesses_of(k) != wide(access) {
+        return Access::Nowhere;
+    }
+    match touched(c) {
+        Touch::Nothing => Access::Nowhere,
+        Touch::Reads { d: _, array, i } => Access::Here {
+            counts: k,
+            array,
+            i,
+        },
+        Touch::Writes { array, i } => Access::Here {
+            counts: k,
+            array,
+            i,
+        },
+    }
+}
+
+// The access of this number in an accepted routine.
+pub fn access_at(bytes: &[u8], h: Header, access: u8) -> Access
+    requires { ⌜ IsRoutine (now bytes) h ⌝ }
+    ensures { λ r. ⌜ Seeks (now (bytes .entry)) h access r ⌝ }
+{
+    let mut at = first_command(h);
+    let mut k = no_counts();
+    while at < bytes.len() {
+        match command_at(bytes, at) {
+            Command::Missing => return Access::Nowhere,
+            Command::Close(_) => {
+                at += 1;
+            }
+            Command::If(_) => {
+                at += 4;
+                k = counts_after_if(k);
+            }
+            Command::Simple(c) => match access_here(c, k, access) {
+                Access::Here { counts, array, i } => return Access::Here { counts, array, i },
+                Access::Nowhere => {
+                    at += simple_size(c);
+                    k = counts_after(c, k);
+                }
+            },
+        }
+    }
+    Access::Nowhere
+}
