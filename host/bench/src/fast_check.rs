@@ -1,10 +1,12 @@
-//! The check of a routine, in one pass over its bytes. It notes what a run
-//! wants to know: where the arms end and which variables the reads set.
+//! The check of a routine's commands, in one pass over the bytes. Somebody may
+//! follow it: each command is handed on as soon as it is found good, so that a
+//! run needs no second pass.
 
+use crate::fast_follow::{Access, Alone, Follow};
 use crate::fast_header::{read, Header};
 use crate::fast_refusal::Refusal;
+use crate::fast_word::{copied, cut, sign_extended};
 
-const LENGTH: u8 = 1;
 const COMMAND: u8 = 3;
 const RANGE: u8 = 4;
 const WIDTHS: u8 = 5;
@@ -12,175 +14,173 @@ const NESTING: u8 = 6;
 const TOO_MANY: u8 = 7;
 const TRAILING: u8 = 8;
 
-/// How many bytes a command takes, by its first.
-pub const SIZES: [u8; 14] = [1, 6, 3, 4, 4, 4, 3, 3, 3, 4, 4, 4, 1, 1];
-
-/// An offset, and how many ifs, accesses and reads stand before it.
-#[derive(Clone, Copy, Default)]
-pub struct Place {
-    pub at: usize,
-    pub ifs: u8,
-    pub accesses: u8,
-    pub reads: u8,
-}
-
-/// Where an if's else begins, and what follows the if.
-#[derive(Clone, Copy, Default)]
-pub struct Fork {
-    pub other: Place,
-    pub after: Place,
-}
-
 /// A routine that passed 1 to 8.
 pub struct Routine {
     pub header: Header,
-    /// Where the end is, so that the counts are those of the whole routine.
-    pub end: Place,
-    pub forks: [Fork; 32],
-    /// The variable that each read sets.
+    pub counts: Counts,
+}
+
+/// How many ifs, accesses and reads there are, and the variable of each read.
+pub struct Counts {
+    pub ifs: u8,
+    pub accesses: u8,
+    pub reads: u8,
     pub read_by: [u8; 64],
 }
 
+/// 1 to 8.
 pub fn check(bytes: &[u8]) -> Result<Routine, Refusal> {
-    if bytes.is_empty() || bytes.len() > 4096 {
-        return Err(Refusal(LENGTH, 0));
-    }
     let header = read(bytes)?;
-    let at = header.first_command;
-    let routine = Routine {
-        header,
-        end: Place {
-            at,
-            ..Place::default()
-        },
-        forks: [Fork::default(); 32],
-        read_by: [0; 64],
-    };
-    let walk = Walk {
-        routine,
-        depth: 0,
-        closes: [0; 9],
-        open: [0; 9],
-    };
-    walk.through(bytes)
+    let counts = walk(bytes, &header, &mut Alone)?;
+    Ok(Routine { header, counts })
 }
 
-struct Walk {
-    routine: Routine,
+/// 3 to 8.
+#[inline]
+pub fn walk(bytes: &[u8], header: &Header, follower: &mut impl Follow) -> Result<Counts, Refusal> {
+    let mut walk = Walk {
+        header,
+        follower,
+        counts: Counts {
+            ifs: 0,
+            accesses: 0,
+            reads: 0,
+            read_by: [0; 64],
+        },
+        depth: 0,
+        closes: [0; 9],
+    };
+    let mut rest = &bytes[header.first_command..];
+    loop {
+        let place = bytes.len() - rest.len();
+        match walk.command(rest) {
+            Ok(Some(next)) => rest = next,
+            Ok(None) if rest.len() > 1 => return Err(Refusal(TRAILING, place + 1)),
+            Ok(None) => return Ok(walk.counts),
+            Err(number) => return Err(Refusal(number, place)),
+        }
+    }
+}
+
+struct Walk<'a, F> {
+    header: &'a Header,
+    follower: &'a mut F,
+    counts: Counts,
     depth: usize,
     /// For each depth the byte that closes the arm there.
     closes: [u8; 9],
-    /// For each depth the number of the if there.
-    open: [u8; 9],
 }
 
-impl Walk {
-    fn through(mut self, bytes: &[u8]) -> Result<Routine, Refusal> {
-        loop {
-            let place = self.routine.end.at;
-            let refused = |number| Refusal(number, place);
-            let code = *bytes.get(place).ok_or_else(|| refused(COMMAND))?;
-            let size = *SIZES.get(code as usize).ok_or_else(|| refused(COMMAND))? as usize;
-            let command = bytes.get(place..place + size);
-            let command = command.ok_or_else(|| refused(COMMAND))?;
-            self.routine.end.at = place + size;
-            match code {
-                0x00 | 0x0C | 0x0D => {
-                    self.close(code).map_err(refused)?;
-                    if code == 0x00 {
-                        break;
-                    }
-                }
-                0x09 | 0x0A => self.access(command).map_err(refused)?,
-                0x0B => self.branch(command).map_err(refused)?,
-                _ => self.simple(command).map_err(refused)?,
-            }
-        }
-        let after = self.routine.end.at;
-        if after < bytes.len() {
-            return Err(Refusal(TRAILING, after));
-        }
-        Ok(self.routine)
-    }
+/// What follows a command, or the number of its refusal.
+type Next<'b> = Result<&'b [u8], u8>;
 
-    #[inline]
-    fn close(&mut self, code: u8) -> Result<(), u8> {
-        if code != self.closes[self.depth] {
-            return Err(NESTING);
-        }
-        let fork = &mut self.routine.forks[(self.open[self.depth] & 31) as usize];
-        if code == 0x0C {
-            fork.other = self.routine.end;
-            self.closes[self.depth] = 0x0D;
-        } else if code == 0x0D {
-            fork.after = self.routine.end;
-            self.depth -= 1;
-        }
-        Ok(())
-    }
-
-    #[inline]
-    fn simple(&mut self, command: &[u8]) -> Result<(), u8> {
-        let width = |variable: u8| self.routine.header.widths[variable as usize];
-        let (in_range, fits) = match *command {
-            [_, d, c0, c1, c2, c3] => {
-                let c = u32::from_le_bytes([c0, c1, c2, c3]);
-                let w = width(d);
-                (w != 0 && u64::from(c) >> w == 0, true)
-            }
-            [op, d, s] => {
-                let (v, w) = (width(d), width(s));
-                let fits = match op {
-                    0x02 => v == w,
-                    0x06 => v < w,
-                    _ => v > w,
-                };
-                (v != 0 && w != 0, fits)
-            }
-            [_, d, s, t] => {
-                let (u, v, w) = (width(d), width(s), width(t));
-                (u != 0 && v != 0 && w != 0, u == v && u == w)
-            }
-            _ => (false, false),
+impl<F: Follow> Walk<'_, F> {
+    /// What follows the command, if it is not the end.
+    #[inline(always)]
+    fn command<'b>(&mut self, rest: &'b [u8]) -> Result<Option<&'b [u8]>, u8> {
+        let next = match *rest.first().ok_or(COMMAND)? {
+            0x00 if self.depth > 0 => return Err(NESTING),
+            0x00 => return Ok(None),
+            0x01 => self.set(rest),
+            0x02 => self.convert(rest, |to, from| to == from, copied),
+            0x03 => self.compute(rest, u32::wrapping_add),
+            0x04 => self.compute(rest, u32::wrapping_sub),
+            0x05 => self.compute(rest, u32::wrapping_mul),
+            0x06 => self.convert(rest, |to, from| to < from, cut),
+            0x07 => self.convert(rest, |to, from| to > from, copied),
+            0x08 => self.convert(rest, |to, from| to > from, sign_extended),
+            0x09 => self.read(rest),
+            0x0A => self.write(rest),
+            0x0B => self.branch(rest),
+            0x0C => self.enter_else(rest),
+            0x0D => self.leave(rest),
+            _ => Err(COMMAND),
         };
-        if !in_range {
+        next.map(Some)
+    }
+
+    #[inline(always)]
+    fn set<'b>(&mut self, rest: &'b [u8]) -> Next<'b> {
+        let ([_, d, c0, c1, c2, c3], rest) = split(rest)?;
+        let value = u32::from_le_bytes([c0, c1, c2, c3]);
+        let width = self.header.width(d);
+        if width == 0 || u64::from(value) >> width != 0 {
             return Err(RANGE);
         }
-        if !fits {
-            return Err(WIDTHS);
-        }
-        Ok(())
+        self.follower.set(d, value);
+        Ok(rest)
     }
 
-    #[inline]
-    fn access(&mut self, command: &[u8]) -> Result<(), u8> {
-        let header = &self.routine.header;
-        let is_variable = |operand: u8| header.widths[operand as usize] != 0;
-        let (array, one, other) = match *command {
-            [0x09, d, array, i] => (array, d, i),
-            [_, array, i, s] => (array, i, s),
-            _ => return Err(COMMAND),
-        };
-        if header.sizes[array as usize] == 0 || !is_variable(one) || !is_variable(other) {
+    #[inline(always)]
+    fn compute<'b>(&mut self, rest: &'b [u8], op: impl Fn(u32, u32) -> u32) -> Next<'b> {
+        let ([_, d, s, t], rest) = split(rest)?;
+        let [u, v, w] = [d, s, t].map(|variable| self.header.width(variable));
+        if u != v || u != w || u == 0 {
+            return Err(range_or_widths(u.min(v).min(w)));
+        }
+        self.follower.compute(op, [d, s, t], u);
+        Ok(rest)
+    }
+
+    #[inline(always)]
+    fn convert<'b>(
+        &mut self,
+        rest: &'b [u8],
+        fits: impl Fn(u8, u8) -> bool,
+        op: impl Fn(u32, u8, u8) -> u32,
+    ) -> Next<'b> {
+        let ([_, d, s], rest) = split(rest)?;
+        let (to, from) = (self.header.width(d), self.header.width(s));
+        if to == 0 || from == 0 || !fits(to, from) {
+            return Err(range_or_widths(to.min(from)));
+        }
+        self.follower.convert(op, [d, s], [to, from]);
+        Ok(rest)
+    }
+
+    #[inline(always)]
+    fn read<'b>(&mut self, rest: &'b [u8]) -> Next<'b> {
+        let ([_, d, array, index], rest) = split(rest)?;
+        self.access(array, index, d)?;
+        let number = self.counts.reads;
+        self.counts.reads += 1;
+        self.counts.read_by[(number & 63) as usize] = d;
+        self.follower.read(number, d);
+        Ok(rest)
+    }
+
+    #[inline(always)]
+    fn write<'b>(&mut self, rest: &'b [u8]) -> Next<'b> {
+        let ([_, array, index, s], rest) = split(rest)?;
+        self.access(array, index, s)?;
+        Ok(rest)
+    }
+
+    #[inline(always)]
+    fn access(&mut self, array: u8, index: u8, other: u8) -> Result<(), u8> {
+        let is_variable = |operand: u8| self.header.width(operand) != 0;
+        if self.header.size(array) == 0 || !is_variable(index) || !is_variable(other) {
             return Err(RANGE);
         }
-        let counts = &mut self.routine.end;
-        if counts.accesses == 64 {
+        let number = self.counts.accesses;
+        if number == 64 {
             return Err(TOO_MANY);
         }
-        counts.accesses += 1;
-        if command[0] == 0x09 {
-            self.routine.read_by[(counts.reads & 63) as usize] = one;
-            counts.reads += 1;
-        }
+        self.counts.accesses += 1;
+        let access = Access {
+            number,
+            array,
+            index,
+        };
+        self.follower.access(self.header, access);
         Ok(())
     }
 
-    #[inline]
-    fn branch(&mut self, command: &[u8]) -> Result<(), u8> {
-        let width = |variable: u8| self.routine.header.widths[variable as usize];
-        let (v, w) = (width(command[2]), width(command[3]));
-        if command[1] > 9 || v == 0 || w == 0 {
+    #[inline(always)]
+    fn branch<'b>(&mut self, rest: &'b [u8]) -> Next<'b> {
+        let ([_, relation, s, t], rest) = split(rest)?;
+        let (v, w) = (self.header.width(s), self.header.width(t));
+        if relation > 9 || v == 0 || w == 0 {
             return Err(RANGE);
         }
         if v != w {
@@ -189,14 +189,54 @@ impl Walk {
         if self.depth == 8 {
             return Err(NESTING);
         }
-        let counts = &mut self.routine.end;
-        if counts.ifs == 32 {
+        if self.counts.ifs == 32 {
             return Err(TOO_MANY);
         }
+        self.follower.branch(&self.counts, relation, [s, t], v);
+        self.counts.ifs += 1;
         self.depth += 1;
         self.closes[self.depth] = 0x0C;
-        self.open[self.depth] = counts.ifs;
-        counts.ifs += 1;
-        Ok(())
+        Ok(rest)
+    }
+
+    #[inline(always)]
+    fn enter_else<'b>(&mut self, rest: &'b [u8]) -> Next<'b> {
+        if self.closes[self.depth] != 0x0C {
+            return Err(NESTING);
+        }
+        self.closes[self.depth] = 0x0D;
+        self.follower.enter_else();
+        Ok(&rest[1..])
+    }
+
+    #[inline(always)]
+    fn leave<'b>(&mut self, rest: &'b [u8]) -> Next<'b> {
+        if self.closes[self.depth] != 0x0D {
+            return Err(NESTING);
+        }
+        self.depth -= 1;
+        self.follower.leave();
+        Ok(&rest[1..])
+    }
+}
+
+/// The bytes of a command, and what follows.
+#[inline(always)]
+fn split<const SIZE: usize>(rest: &[u8]) -> Result<([u8; SIZE], &[u8]), u8> {
+    if rest.len() < SIZE {
+        return Err(COMMAND);
+    }
+    let (command, rest) = rest.split_at(SIZE);
+    let command = command.try_into().expect("a slice of just that length");
+    Ok((command, rest))
+}
+
+/// An operand that is no variable has the width 0, and goes before the widths.
+#[cold]
+fn range_or_widths(least: u8) -> u8 {
+    if least == 0 {
+        RANGE
+    } else {
+        WIDTHS
     }
 }

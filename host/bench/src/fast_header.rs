@@ -2,19 +2,38 @@
 
 use crate::fast_refusal::Refusal;
 
+const LENGTH: u8 = 1;
 const WRONG: u8 = 2;
 
-/// What the header says. Both tables have an entry for every byte, 0 where
-/// there is no such variable or array, so that one look-up is the test too.
+/// What the header says. The widths have an entry for every byte, 0 where there
+/// is no such variable, so that one look-up is the test too.
 pub struct Header {
     pub variables: usize,
     pub parameters: usize,
     pub first_command: usize,
     pub widths: [u8; 256],
-    pub sizes: [u16; 256],
+    sizes: [u16; 16],
 }
 
+impl Header {
+    #[inline]
+    pub fn width(&self, variable: u8) -> u8 {
+        self.widths[variable as usize]
+    }
+
+    /// 0 where there is no such array.
+    #[inline]
+    pub fn size(&self, array: u8) -> u16 {
+        self.sizes.get(array as usize).copied().unwrap_or(0)
+    }
+}
+
+/// 1 and 2.
+#[inline]
 pub fn read(bytes: &[u8]) -> Result<Header, Refusal> {
+    if bytes.is_empty() || bytes.len() > 4096 {
+        return Err(Refusal(LENGTH, 0));
+    }
     field(bytes, 0, 1, 1)?;
     let variables = field(bytes, 1, 1, 32)? as usize;
     let mut widths = [0; 256];
@@ -24,7 +43,7 @@ pub fn read(bytes: &[u8]) -> Result<Header, Refusal> {
     let parameters = field(bytes, 2 + variables, 0, variables as u8)? as usize;
     let arrays = field(bytes, 3 + variables, 0, 16)? as usize;
     let mut at = 4 + variables;
-    let mut sizes = [0; 256];
+    let mut sizes = [0; 16];
     for entry in &mut sizes[..arrays] {
         *entry = size(bytes, at)?;
         at += 2;
@@ -32,13 +51,13 @@ pub fn read(bytes: &[u8]) -> Result<Header, Refusal> {
     Ok(Header {
         variables,
         parameters,
-
         first_command: at,
         widths,
         sizes,
     })
 }
 
+#[inline]
 fn field(bytes: &[u8], at: usize, least: u8, most: u8) -> Result<u8, Refusal> {
     match bytes.get(at) {
         Some(&byte) if least <= byte && byte <= most => Ok(byte),
@@ -46,6 +65,7 @@ fn field(bytes: &[u8], at: usize, least: u8, most: u8) -> Result<u8, Refusal> {
     }
 }
 
+#[inline]
 fn size(bytes: &[u8], at: usize) -> Result<u16, Refusal> {
     match bytes.get(at..at + 2) {
         Some(&[low, high]) => match u16::from_le_bytes([low, high]) {

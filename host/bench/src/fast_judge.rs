@@ -1,10 +1,11 @@
 //! The judging of a whole report: the lead, the witness, the translation and
 //! the proof; then everything lent is zeroed.
 
-use crate::fast_check::{check, Place, Routine};
+use crate::fast_check::{check, Counts, Routine};
+use crate::fast_machine::{End, Watch};
 use crate::fast_proof::{self, Stored};
 use crate::fast_refusal::Refusal;
-use crate::fast_run::{check_inputs, End, Machine, Watch};
+use crate::fast_run::{check_inputs, watched};
 use crate::fast_translate::{admit, fit, Claim};
 use crate::lent::Buffers;
 use pellet::MAX_ENTRIES;
@@ -46,8 +47,8 @@ pub fn zero(lent: &mut Buffers) {
 
 fn decide(bytes: &[u8], report: &[u8], lent: &mut Buffers) -> Result<[u64; 8], Refusal> {
     let routine = check(bytes)?;
-    let ifs = routine.end.ifs as usize;
-    let inputs = routine.header.parameters + routine.end.reads as usize;
+    let ifs = routine.counts.ifs as usize;
+    let inputs = routine.header.parameters + routine.counts.reads as usize;
     let lead = 2 + ifs + 4 * inputs;
     if report.len() > MAX_ENTRIES || report.len() < lead {
         return Err(Refusal(CUT, report.len()));
@@ -64,7 +65,7 @@ fn decide(bytes: &[u8], report: &[u8], lent: &mut Buffers) -> Result<[u64; 8], R
         u64::from(claim.access),
         u64::from(claim.side),
         u64::from(array),
-        u64::from(routine.header.sizes[array as usize]),
+        u64::from(routine.header.size(array)),
         u64::from(index < 0),
         u64::from(index.unsigned_abs()),
         steps,
@@ -73,7 +74,7 @@ fn decide(bytes: &[u8], report: &[u8], lent: &mut Buffers) -> Result<[u64; 8], R
 }
 
 impl Watch for Claim<'_> {
-    fn allows(&self, before: &Place, arm: u8) -> bool {
+    fn allows(&self, before: &Counts, arm: u8) -> bool {
         let decision = self.decisions[before.ifs as usize];
         before.accesses > self.access || decision == 2 || decision == arm
     }
@@ -96,16 +97,16 @@ fn witnessed(
         *input = u32::from_le_bytes([word[0], word[1], word[2], word[3]]);
     }
     let inputs = &inputs[..count];
-    check_inputs(routine, inputs)?;
+    check_inputs(&routine.header, &routine.counts, inputs)?;
     let access = claim.access as usize;
-    let (array, index) = match Machine::new(bytes, routine, inputs).carry_out(&claim) {
+    let (array, index) = match watched(bytes, routine, inputs, claim) {
         End::Arrived { array, index } => (array, index),
         End::Astray(number) => return Err(Refusal(OTHER_WAY, number as usize)),
         End::Ended | End::Stopped { .. } => return Err(Refusal(NOT_COME_TO, access)),
     };
     let is_on_side = match claim.side {
         0 => index < 0,
-        _ => index >= i32::from(routine.header.sizes[array as usize]),
+        _ => index >= i32::from(routine.header.size(array)),
     };
     if !is_on_side {
         return Err(Refusal(NOT_ON_SIDE, access));
@@ -133,7 +134,7 @@ fn prove(
     if lent.values.len() < routine.header.variables {
         return Err(Refusal(BUFFER, 3));
     }
-    if lent.trail.len() < routine.end.ifs as usize {
+    if lent.trail.len() < routine.counts.ifs as usize {
         return Err(Refusal(BUFFER, 4));
     }
     let marks = &mut lent.marks[..=size.variables];

@@ -1,6 +1,6 @@
 //! The translation of a claim: counted first, and written where it fits.
 
-use crate::fast_check::{check, Routine, SIZES};
+use crate::fast_check::{check, Routine};
 use crate::fast_circuits::{constant, Bits, Net};
 use crate::fast_refusal::Refusal;
 use crate::fast_sink::{Counter, Sink, Writer};
@@ -9,6 +9,9 @@ use pellet::MAX_ENTRIES;
 const LEAD_LENGTH: u8 = 11;
 const LEAD_RANGE: u8 = 12;
 const BUFFER: u8 = 16;
+
+/// How many bytes a command takes, by its first.
+const SIZES: [u8; 14] = [1, 6, 3, 4, 4, 4, 3, 3, 3, 4, 4, 4, 1, 1];
 
 /// What is claimed: the access and the side, and the decisions.
 #[derive(Clone, Copy)]
@@ -53,10 +56,10 @@ pub fn translate(
 
 /// 11, then 12.
 pub fn admit(routine: &Routine, claim: Claim) -> Result<(), Refusal> {
-    if claim.decisions.len() != routine.end.ifs as usize {
+    if claim.decisions.len() != routine.counts.ifs as usize {
         return Err(Refusal(LEAD_LENGTH, claim.decisions.len()));
     }
-    if claim.access >= routine.end.accesses {
+    if claim.access >= routine.counts.accesses {
         return Err(Refusal(LEAD_RANGE, 0));
     }
     if claim.side > 1 {
@@ -244,7 +247,7 @@ impl<S: Sink> Walk<'_, S> {
 
     /// The side's literal at the named access; another one leaves arrival.
     fn access(&mut self, array: u8, i: u8) -> Option<u32> {
-        let size = u32::from(self.routine.header.sizes[array as usize]);
+        let size = u32::from(self.routine.header.size(array));
         let bits = self.bits(i);
         let top = bits[bits.len() - 1];
         let is_named = self.accesses == self.claim.access;

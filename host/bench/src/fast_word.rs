@@ -1,9 +1,22 @@
 //! Words of a width from 1 to 32.
 
+/// For each width the word of all ones.
+static ONES: [u32; 256] = ones();
+
+const fn ones() -> [u32; 256] {
+    let mut ones = [0; 256];
+    let mut width = 1;
+    while width <= 32 {
+        ones[width] = u32::MAX >> (32 - width);
+        width += 1;
+    }
+    ones
+}
+
 /// The word modulo 2 to the width.
 #[inline]
 pub fn reduce(x: u32, width: u8) -> u32 {
-    x & (u32::MAX >> (32 - width))
+    x & ONES[width as usize]
 }
 
 /// As a two's complement number.
@@ -18,24 +31,20 @@ fn aligned(x: u32, width: u8) -> i32 {
     (x << (32 - width)) as i32
 }
 
-/// Copy, cut and the extensions, from one width to another.
+/// Copied, or extended by zeros.
 #[inline]
-pub fn convert(op: u8, x: u32, from: u8, to: u8) -> u32 {
-    match op {
-        0x06 => reduce(x, to),
-        0x08 => reduce(signed(x, from) as u32, to),
-        _ => x,
-    }
+pub fn copied(x: u32, _: u8, _: u8) -> u32 {
+    x
 }
 
 #[inline]
-pub fn compute(op: u8, a: u32, b: u32, width: u8) -> u32 {
-    let exact = match op {
-        0x03 => a.wrapping_add(b),
-        0x04 => a.wrapping_sub(b),
-        _ => a.wrapping_mul(b),
-    };
-    reduce(exact, width)
+pub fn cut(x: u32, to: u8, _: u8) -> u32 {
+    reduce(x, to)
+}
+
+#[inline]
+pub fn sign_extended(x: u32, to: u8, from: u8) -> u32 {
+    reduce(signed(x, from) as u32, to)
 }
 
 #[inline]

@@ -6,8 +6,10 @@
 mod agreement;
 mod fast_check;
 mod fast_circuits;
+mod fast_follow;
 mod fast_header;
 mod fast_judge;
+mod fast_machine;
 mod fast_proof;
 mod fast_prove;
 mod fast_refusal;
