@@ -1,20 +1,24 @@
-//! The circuits. A number is a slice of its bits' literals, lowest first.
+//! The circuits. A number is a slice of its bits' literals, lowest first. Which
+//! literals a circuit's results are is known before its gates are made.
 
 use crate::fast_sink::Sink;
 
+/// As many bits as the width says; those beyond are never looked at.
 pub type Bits = [u32; 32];
 
-const FALSE: u32 = 3;
-const TRUE: u32 = 2;
+pub const FALSE: u32 = 3;
+pub const TRUE: u32 = 2;
 
 /// The bits of a constant.
 #[inline]
 pub fn constant(value: u32) -> Bits {
-    let mut bits = [FALSE; 32];
-    for (j, bit) in bits.iter_mut().enumerate() {
-        *bit -= value >> j & 1;
-    }
-    bits
+    std::array::from_fn(|j| FALSE - u32::from(value & 1 << j != 0))
+}
+
+/// Literals at the same distance from one another.
+#[inline]
+fn spaced(first: u32, distance: u32) -> Bits {
+    std::array::from_fn(|j| first.wrapping_add(distance * j as u32))
 }
 
 /// The literals that the gates make go up by two from `next` on.
@@ -24,73 +28,61 @@ pub struct Net<S> {
 }
 
 impl<S: Sink> Net<S> {
+    /// The first literal of so many new variables.
     #[inline]
-    fn take(&mut self) -> u32 {
-        let literal = self.next;
-        self.next = literal.wrapping_add(2);
-        literal
+    fn take(&mut self, variables: usize) -> u32 {
+        let first = self.next;
+        self.next = first.wrapping_add(2 * variables as u32);
+        first
     }
 
     #[inline]
     pub fn and(&mut self, a: u32, b: u32) -> u32 {
-        let g = self.take();
+        let g = self.take(1);
         self.sink.and(g, a, b);
         g
     }
 
     #[inline]
-    fn xor(&mut self, a: u32, b: u32) -> u32 {
-        let g = self.take();
-        self.sink.xor(g, a, b);
-        g
-    }
-
-    #[inline]
     pub fn mux(&mut self, c: u32, a: u32, b: u32) -> u32 {
-        let g = self.take();
+        let g = self.take(1);
         self.sink.mux(g, c, a, b);
         g
     }
 
     /// Bits without gates.
-    pub fn inputs(&mut self, width: usize) -> Bits {
-        let mut bits = [FALSE; 32];
-        for bit in &mut bits[..width] {
-            *bit = self.take();
-        }
-        bits
-    }
-
-    /// The sum and the last carry.
     #[inline]
-    pub fn add(&mut self, a: &[u32], b: &[u32], mut carry: u32) -> (Bits, u32) {
-        let mut sum = [FALSE; 32];
-        for ((&a, &b), bit) in a.iter().zip(b).zip(&mut sum) {
-            let half = self.xor(a, b);
-            *bit = self.xor(half, carry);
-            let next = self.take();
-            self.sink.majority(next, a, b, carry);
-            carry = next;
-        }
-        (sum, carry)
+    pub fn inputs(&mut self, width: usize) -> Bits {
+        spaced(self.take(width), 2)
     }
 
-    pub fn subtract(&mut self, a: &[u32], b: &[u32]) -> (Bits, u32) {
-        let mut opposite = [FALSE; 32];
-        for (to, &bit) in opposite.iter_mut().zip(b) {
-            *to = bit ^ 1;
-        }
-        self.add(a, &opposite[..b.len()], TRUE)
+    pub fn add(&mut self, a: &[u32], b: &[u32]) -> Bits {
+        self.sum(a, b, 0, FALSE)
+    }
+
+    pub fn subtract(&mut self, a: &[u32], b: &[u32]) -> Bits {
+        self.sum(a, b, 1, TRUE)
+    }
+
+    /// A place has three gates, of which the second is the sum's.
+    #[inline(always)]
+    fn sum(&mut self, a: &[u32], b: &[u32], turned: u32, carry: u32) -> Bits {
+        let g = self.take(3 * a.len());
+        self.sink.adder(g, a, b, turned, carry);
+        spaced(g.wrapping_add(2), 6)
     }
 
     pub fn multiply(&mut self, s: &[u32], t: &[u32]) -> Bits {
+        let width = s.len();
         let mut sum = [FALSE; 32];
         for (k, &bit) in t.iter().enumerate() {
+            let g = self.take(width - k);
+            self.sink.row(g, &s[..width - k], bit);
             let mut row = [FALSE; 32];
-            for (to, &a) in row[k..t.len()].iter_mut().zip(s) {
-                *to = self.and(a, bit);
+            for (to, j) in row[k..width].iter_mut().zip(0u32..) {
+                *to = g.wrapping_add(2 * j);
             }
-            sum = self.add(&sum[..s.len()], &row[..s.len()], FALSE).0;
+            sum = self.sum(&sum[..width], &row[..width], 0, FALSE);
         }
         sum
     }
@@ -99,40 +91,38 @@ impl<S: Sink> Net<S> {
         match number {
             0 => self.equal(a, b),
             1 => self.equal(a, b) ^ 1,
-            2 => self.less(a, b),
-            3 => self.less(b, a) ^ 1,
-            4 => self.less(b, a),
-            5 => self.less(a, b) ^ 1,
-            6 => self.less_signed(a, b),
-            7 => self.less_signed(b, a) ^ 1,
-            8 => self.less_signed(b, a),
-            _ => self.less_signed(a, b) ^ 1,
+            2 => self.less(a, b, 0),
+            3 => self.less(b, a, 0) ^ 1,
+            4 => self.less(b, a, 0),
+            5 => self.less(a, b, 0) ^ 1,
+            6 => self.less(a, b, 1),
+            7 => self.less(b, a, 1) ^ 1,
+            8 => self.less(b, a, 1),
+            _ => self.less(a, b, 1) ^ 1,
         }
     }
 
+    /// The last of its gates.
     fn equal(&mut self, a: &[u32], b: &[u32]) -> u32 {
-        let mut equal = TRUE;
-        for (&a, &b) in a.iter().zip(b) {
-            let differ = self.xor(a, b);
-            equal = self.and(equal, differ ^ 1);
-        }
-        equal
-    }
-
-    fn less(&mut self, a: &[u32], b: &[u32]) -> u32 {
-        self.subtract(a, b).1 ^ 1
+        let g = self.take(2 * a.len());
+        self.sink.equality(g, a, b);
+        self.next.wrapping_sub(2)
     }
 
     pub fn less_signed(&mut self, a: &[u32], b: &[u32]) -> u32 {
-        let (x, y) = (turned(a), turned(b));
-        self.less(&x[..a.len()], &y[..b.len()])
+        self.less(a, b, 1)
     }
-}
 
-/// With the opposite of the top bit.
-fn turned(bits: &[u32]) -> Bits {
-    let mut turned = [FALSE; 32];
-    turned[..bits.len()].copy_from_slice(bits);
-    turned[bits.len() - 1] ^= 1;
-    turned
+    /// The opposite of the last carry, which is the last of the gates. Where
+    /// `signed` is 1, the opposites of the top bits are taken.
+    fn less(&mut self, a: &[u32], b: &[u32], signed: u32) -> u32 {
+        let last = a.len() - 1;
+        let mut carry = TRUE;
+        if last > 0 {
+            self.sum(&a[..last], &b[..last], 1, carry);
+            carry = self.next.wrapping_sub(2);
+        }
+        self.sum(&[a[last] ^ signed], &[b[last] ^ signed], 1, carry);
+        self.next.wrapping_sub(2) ^ 1
+    }
 }

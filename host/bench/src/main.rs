@@ -6,6 +6,7 @@
 mod agreement;
 mod fast_check;
 mod fast_circuits;
+mod fast_clauses;
 mod fast_follow;
 mod fast_header;
 mod fast_judge;
@@ -16,7 +17,9 @@ mod fast_refusal;
 mod fast_run;
 mod fast_sink;
 mod fast_translate;
+mod fast_walk;
 mod fast_word;
+mod fast_writer;
 mod generator;
 mod lent;
 mod linear;

@@ -1,0 +1,129 @@
+//! The clauses of the circuits, written into buffers that suffice. A circuit
+//! takes its part of both buffers at once, so that the room is tested once.
+
+use crate::fast_clauses::{and, majority, mux, write, xor};
+use crate::fast_sink::Sink;
+use std::mem::take;
+
+/// How the clauses of a gate lie, from its first word on.
+const AND_STARTS: [u32; 3] = [0, 3, 6];
+const EQUALITY_STARTS: [u32; 7] = [0, 4, 8, 12, 16, 19, 22];
+
+/// What is left of the buffers, and how much was written.
+pub struct Writer<'a> {
+    words: &'a mut [u32],
+    starts: &'a mut [u32],
+    clauses: usize,
+    at: usize,
+}
+
+impl<'a> Writer<'a> {
+    pub fn new(words: &'a mut [u32], starts: &'a mut [u32]) -> Self {
+        Writer {
+            words,
+            starts,
+            clauses: 0,
+            at: 0,
+        }
+    }
+
+    /// The next words and starts, and where the words begin.
+    #[inline(always)]
+    fn next(&mut self, words: usize, clauses: usize) -> (&'a mut [u32], &'a mut [u32], u32) {
+        let (next_words, rest) = take(&mut self.words).split_at_mut(words);
+        self.words = rest;
+        let (next_starts, rest) = take(&mut self.starts).split_at_mut(clauses);
+        self.starts = rest;
+        let at = self.at as u32;
+        self.at = self.at.wrapping_add(words);
+        self.clauses = self.clauses.wrapping_add(clauses);
+        (next_words, next_starts, at)
+    }
+}
+
+/// Starts of clauses of three literals, one after another.
+#[inline(always)]
+fn start_threes(starts: &mut [u32], at: u32) {
+    for (start, k) in starts.iter_mut().zip(0u32..) {
+        *start = at.wrapping_add(4 * k);
+    }
+}
+
+/// Starts of gates of a kind, one after another.
+#[inline(always)]
+fn start_gates<const CLAUSES: usize>(
+    starts: &mut [u32],
+    mut at: u32,
+    offsets: [u32; CLAUSES],
+    words: u32,
+) {
+    for gate in starts.chunks_exact_mut(CLAUSES) {
+        for (start, offset) in gate.iter_mut().zip(offsets) {
+            *start = at.wrapping_add(offset);
+        }
+        at = at.wrapping_add(words);
+    }
+}
+
+impl Sink for Writer<'_> {
+    #[inline(always)]
+    fn unit(&mut self, a: u32) {
+        let (words, starts, at) = self.next(2, 1);
+        words.copy_from_slice(&[1, a]);
+        starts[0] = at;
+    }
+
+    #[inline(always)]
+    fn and(&mut self, g: u32, a: u32, b: u32) {
+        self.row(g, &[a], b);
+    }
+
+    #[inline(always)]
+    fn mux(&mut self, g: u32, c: u32, a: u32, b: u32) {
+        let (words, starts, at) = self.next(16, 4);
+        write(words, mux(g, c, a, b));
+        start_threes(starts, at);
+    }
+
+    #[inline(always)]
+    fn row(&mut self, mut g: u32, bits: &[u32], b: u32) {
+        let (words, starts, at) = self.next(10 * bits.len(), 3 * bits.len());
+        for (gate, &bit) in words.chunks_exact_mut(10).zip(bits) {
+            write(gate, and(g, bit, b));
+            g = g.wrapping_add(2);
+        }
+        start_gates(starts, at, AND_STARTS, 10);
+    }
+
+    #[inline(always)]
+    fn adder(&mut self, mut g: u32, a: &[u32], b: &[u32], turned: u32, mut carry: u32) {
+        let (words, starts, at) = self.next(56 * a.len(), 14 * a.len());
+        for ((place, &a), &b) in words.chunks_exact_mut(56).zip(a).zip(b) {
+            let (b, sum, next) = (b ^ turned, g.wrapping_add(2), g.wrapping_add(4));
+            write(&mut place[..16], xor(g, a, b));
+            write(&mut place[16..32], xor(sum, g, carry));
+            write(&mut place[32..], majority(next, a, b, carry));
+            carry = next;
+            g = g.wrapping_add(6);
+        }
+        start_threes(starts, at);
+    }
+
+    #[inline(always)]
+    fn equality(&mut self, mut g: u32, a: &[u32], b: &[u32]) {
+        let (words, starts, at) = self.next(26 * a.len(), 7 * a.len());
+        let mut equal = 2;
+        for ((place, &a), &b) in words.chunks_exact_mut(26).zip(a).zip(b) {
+            let next = g.wrapping_add(2);
+            write(&mut place[..16], xor(g, a, b));
+            write(&mut place[16..], and(next, equal, g ^ 1));
+            equal = next;
+            g = g.wrapping_add(4);
+        }
+        start_gates(starts, at, EQUALITY_STARTS, 26);
+    }
+
+    fn taken(&self) -> (usize, usize) {
+        (self.clauses, self.at)
+    }
+}
