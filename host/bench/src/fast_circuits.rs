@@ -9,16 +9,25 @@ pub type Bits = [u32; 32];
 pub const FALSE: u32 = 3;
 pub const TRUE: u32 = 2;
 
+/// How far apart the literals of neighbouring bits are: of inputs and of a row
+/// of gates, and of a sum.
+pub const ROW: u32 = 2;
+pub const SUM: u32 = 6;
+
 /// The bits of a constant.
 #[inline]
-pub fn constant(value: u32) -> Bits {
-    std::array::from_fn(|j| FALSE - u32::from(value & 1 << j != 0))
+pub fn constant(bits: &mut Bits, value: u32) {
+    for (bit, j) in bits.iter_mut().zip(0..) {
+        *bit = FALSE - u32::from(value & 1 << j != 0);
+    }
 }
 
 /// Literals at the same distance from one another.
 #[inline]
-fn spaced(first: u32, distance: u32) -> Bits {
-    std::array::from_fn(|j| first.wrapping_add(distance * j as u32))
+pub fn spaced(bits: &mut [u32], first: u32, distance: u32) {
+    for (bit, j) in bits.iter_mut().zip(0u32..) {
+        *bit = first.wrapping_add(distance * j);
+    }
 }
 
 /// The literals that the gates make go up by two from `next` on.
@@ -43,48 +52,57 @@ impl<S: Sink> Net<S> {
         g
     }
 
+    /// The other bits become MUX(c, a, b) where they differ from the first.
     #[inline]
-    pub fn mux(&mut self, c: u32, a: u32, b: u32) -> u32 {
-        let g = self.take(1);
-        self.sink.mux(g, c, a, b);
-        g
+    pub fn join(&mut self, c: u32, first: &[u32], other: &mut [u32]) {
+        let differing = first.iter().zip(&*other).filter(|(a, b)| a != b).count();
+        let mut g = self.take(differing);
+        self.sink.join(g, c, first, other, differing);
+        for (&a, b) in first.iter().zip(other) {
+            if a != *b {
+                *b = g;
+                g = g.wrapping_add(2);
+            }
+        }
     }
 
-    /// Bits without gates.
+    /// The first of so many bits without gates.
     #[inline]
-    pub fn inputs(&mut self, width: usize) -> Bits {
-        spaced(self.take(width), 2)
+    pub fn inputs(&mut self, width: usize) -> u32 {
+        self.take(width)
     }
 
-    pub fn add(&mut self, a: &[u32], b: &[u32]) -> Bits {
+    /// The first bit of the sum.
+    pub fn add(&mut self, a: &[u32], b: &[u32]) -> u32 {
         self.sum(a, b, 0, FALSE)
     }
 
-    pub fn subtract(&mut self, a: &[u32], b: &[u32]) -> Bits {
+    pub fn subtract(&mut self, a: &[u32], b: &[u32]) -> u32 {
         self.sum(a, b, 1, TRUE)
     }
 
     /// A place has three gates, of which the second is the sum's.
     #[inline(always)]
-    fn sum(&mut self, a: &[u32], b: &[u32], turned: u32, carry: u32) -> Bits {
+    fn sum(&mut self, a: &[u32], b: &[u32], turned: u32, carry: u32) -> u32 {
         let g = self.take(3 * a.len());
         self.sink.adder(g, a, b, turned, carry);
-        spaced(g.wrapping_add(2), 6)
+        g.wrapping_add(2)
     }
 
-    pub fn multiply(&mut self, s: &[u32], t: &[u32]) -> Bits {
+    /// The first bit of the last sum.
+    pub fn multiply(&mut self, s: &[u32], t: &[u32]) -> u32 {
         let width = s.len();
-        let mut sum = [FALSE; 32];
+        let (mut sum, mut row) = ([FALSE; 32], [FALSE; 32]);
+        let mut first = FALSE;
         for (k, &bit) in t.iter().enumerate() {
             let g = self.take(width - k);
             self.sink.row(g, &s[..width - k], bit);
-            let mut row = [FALSE; 32];
-            for (to, j) in row[k..width].iter_mut().zip(0u32..) {
-                *to = g.wrapping_add(2 * j);
-            }
-            sum = self.sum(&sum[..width], &row[..width], 0, FALSE);
+            spaced(&mut row[k..width], g, ROW);
+            first = self.sum(&sum[..width], &row[..width], 0, FALSE);
+            spaced(&mut sum, first, SUM);
+            row[k] = FALSE;
         }
-        sum
+        first
     }
 
     pub fn relation(&mut self, number: u8, a: &[u32], b: &[u32]) -> u32 {

@@ -6,7 +6,8 @@
 pub trait Sink {
     fn unit(&mut self, a: u32);
     fn and(&mut self, g: u32, a: u32, b: u32);
-    fn mux(&mut self, g: u32, c: u32, a: u32, b: u32);
+    /// MUX(c, a, b) for the places where the two differ, which are so many.
+    fn join(&mut self, g: u32, c: u32, a: &[u32], b: &[u32], differing: usize);
     /// AND(bit, b) for each of the bits.
     fn row(&mut self, g: u32, bits: &[u32], b: u32);
     /// Three gates for each place; where `turned` is 1, it takes the opposites
@@ -45,8 +46,8 @@ impl Sink for Counter {
     }
 
     #[inline]
-    fn mux(&mut self, _: u32, _: u32, _: u32, _: u32) {
-        self.add(1, 4, 16);
+    fn join(&mut self, _: u32, _: u32, _: &[u32], _: &[u32], differing: usize) {
+        self.add(differing, 4, 16);
     }
 
     #[inline]

@@ -1,6 +1,6 @@
 //! The walk of a translation over the bytes of a checked routine.
 
-use crate::fast_circuits::{constant, Bits, Net, FALSE, TRUE};
+use crate::fast_circuits::{constant, spaced, Bits, Net, FALSE, ROW, SUM, TRUE};
 use crate::fast_header::Header;
 use crate::fast_sink::Sink;
 use crate::fast_translate::{Claim, Size};
@@ -66,7 +66,8 @@ impl<S: Sink, const V: usize> Walk<'_, S, V> {
         loop {
             rest = match *rest {
                 [0x01, d, c0, c1, c2, c3, ref rest @ ..] => {
-                    self.bits[place::<V>(d)] = constant(u32::from_le_bytes([c0, c1, c2, c3]));
+                    let value = u32::from_le_bytes([c0, c1, c2, c3]);
+                    constant(&mut self.bits[place::<V>(d)], value);
                     rest
                 }
                 [op @ 0x03..=0x05, d, s, t, ref rest @ ..] => {
@@ -94,7 +95,8 @@ impl<S: Sink, const V: usize> Walk<'_, S, V> {
 
     #[inline(always)]
     fn input(&mut self, d: u8) {
-        self.bits[place::<V>(d)] = self.net.inputs(self.width(d));
+        let first = self.net.inputs(self.width(d));
+        spaced(&mut self.bits[place::<V>(d)], first, ROW);
     }
 
     #[inline(always)]
@@ -102,11 +104,12 @@ impl<S: Sink, const V: usize> Walk<'_, S, V> {
         let width = self.width(s);
         let a = &self.bits[place::<V>(s)][..width];
         let b = &self.bits[place::<V>(t)][..width];
-        self.bits[place::<V>(d)] = match op {
+        let first = match op {
             0x03 => self.net.add(a, b),
             0x04 => self.net.subtract(a, b),
             _ => self.net.multiply(a, b),
         };
+        spaced(&mut self.bits[place::<V>(d)], first, SUM);
     }
 
     #[inline(always)]
@@ -152,11 +155,8 @@ impl<S: Sink, const V: usize> Walk<'_, S, V> {
         let variables = self.header.variables;
         let pairs = first.iter().zip(&mut self.bits).take(variables);
         for ((first, other), &width) in pairs.zip(&self.header.widths) {
-            for (&a, b) in first.iter().zip(other).take(width as usize) {
-                if a != *b {
-                    *b = self.net.mux(c, a, *b);
-                }
-            }
+            let width = width as usize;
+            self.net.join(c, &first[..width], &mut other[..width]);
         }
     }
 
@@ -185,6 +185,8 @@ impl<S: Sink, const V: usize> Walk<'_, S, V> {
             return FALSE;
         }
         let index = &self.bits[place::<V>(i)][..width];
-        self.net.less_signed(index, &constant(size)[..width]) ^ 1
+        let mut bound = [FALSE; 32];
+        constant(&mut bound, size);
+        self.net.less_signed(index, &bound[..width]) ^ 1
     }
 }

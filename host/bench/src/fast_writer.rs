@@ -79,9 +79,13 @@ impl Sink for Writer<'_> {
     }
 
     #[inline(always)]
-    fn mux(&mut self, g: u32, c: u32, a: u32, b: u32) {
-        let (words, starts, at) = self.next(16, 4);
-        write(words, mux(g, c, a, b));
+    fn join(&mut self, mut g: u32, c: u32, a: &[u32], b: &[u32], differing: usize) {
+        let (words, starts, at) = self.next(16 * differing, 4 * differing);
+        let places = a.iter().zip(b).filter(|(a, b)| a != b);
+        for (gate, (&a, &b)) in words.chunks_exact_mut(16).zip(places) {
+            write(gate, mux(g, c, a, b));
+            g = g.wrapping_add(2);
+        }
         start_threes(starts, at);
     }
 
