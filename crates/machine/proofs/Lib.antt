@@ -1,3 +1,3 @@
 -- What the proofs of several functions use, and the laws for the layers above.
 pub mod Laid
-mod Operands
+pub mod Operands

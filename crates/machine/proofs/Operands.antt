@@ -30,14 +30,14 @@ module _ (bs : List ℕ) (h : Header) (f : Fine bs h) where
         let p = compute-fine bs h op d s t (rw q at e) in
         (variable-below d (p .0), variable-below s (p .1), variable-below t (p .2), f .widths d (p .0) .1)
 
-    pub read-target : (d array i : ℕ) → x ≡ Simple.Read d array i → d < 32
-    read-target d array i q = variable-below d (read-fine bs h d array i (rw q at e) .0)
-
     index-of : (i : ℕ) → i < h .variables → (i < 32) × (1 ≤ width bs i) × (width bs i ≤ 32)
     index-of i l = let w = f .widths i l in (variable-below i l, w .0, w .1)
 
     pub read-index : (d array i : ℕ) → x ≡ Simple.Read d array i → (i < 32) × (1 ≤ width bs i) × (width bs i ≤ 32)
     read-index d array i q = index-of i (read-fine bs h d array i (rw q at e) .2)
+
+    pub read-operands : (d array i : ℕ) → x ≡ Simple.Read d array i → (d < 32) × (i < 32) × (1 ≤ width bs i) × (width bs i ≤ 32)
+    read-operands d array i q = let o = read-index d array i q in (variable-below d (read-fine bs h d array i (rw q at e) .0), o .0, o .1, o .2)
 
     pub write-index : (array i s : ℕ) → x ≡ Simple.Write array i s → (i < 32) × (1 ≤ width bs i) × (width bs i ≤ 32)
     write-index array i s q = index-of i (write-fine bs h array i s (rw q at e) .1)

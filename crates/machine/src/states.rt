@@ -19,7 +19,7 @@ ghost use mathlib.Core.Path.{_≡_};
 ghost use Prim.Native.Nat.{_<_, _≤_};
 ghost use Rattle.header.specs.Header.{width};
 ghost use Rattle.faults.specs.Inner.Sound.{Sound, SoundIf, Fine};
-ghost use Rattle.machine.specs.State.{start, value, put, take, stop, converted, computed, holds, indexOf, lies, accessed, carry};
+ghost use Rattle.machine.specs.State.{start, take, stop, converted, computed, holds, indexOf, lies, accessed, carry};
 
 // The word a of w bits as one of v bits: cut, extended by zeros or by its sign, or copied.
 fn converted_by(op: u8, v: u8, w: u8, a: u32) -> u32
@@ -84,24 +84,6 @@ impl State {
         }
     }
 
-    pub fn value(self, v: u8) -> u32
-        requires { ⌜ v < 32 ⌝ }
-        ensures { λ r. ⌜ r ≡ value self v ⌝ }
-    {
-        let i = v as usize;
-        self.values[i]
-    }
-
-    // The state with another value for a variable.
-    pub fn with(mut self, v: u8, x: u32) -> State
-        requires { ⌜ v < 32 ⌝ }
-        ensures { λ r. ⌜ r ≡ put self v x ⌝ }
-    {
-        let i = v as usize;
-        self.values[i] = x;
-        self
-    }
-
     // The state after an arm was taken at an if.
     pub fn took(mut self, number: u8, arm: u8) -> State
         requires { ⌜ number < 32 ⌝ }
@@ -134,11 +116,13 @@ impl State {
         requires { ⌜ SoundIf (now bytes) h c × Fine (now bytes) h ⌝ }
         ensures { λ r. ⌜ r ≡ holds (now (bytes .entry)) c self ⌝ }
     {
+        let a = c.s as usize;
+        let b = c.t as usize;
         relation::holds(
             c.relation,
             width_of(bytes, c.s),
-            self.value(c.s),
-            self.value(c.t),
+            self.values[a],
+            self.values[b],
         )
     }
 
@@ -147,54 +131,76 @@ impl State {
         requires { ⌜ (i < 32) × (1 ≤ width (now bytes) i) × (width (now bytes) i ≤ 32) ⌝ }
         ensures { λ r. ⌜ r ≡ indexOf (now (bytes .entry)) self i ⌝ }
     {
-        signed::reading(width_of(bytes, i), self.value(i))
+        let v = i as usize;
+        signed::reading(width_of(bytes, i), self.values[v])
     }
 
-    // The state after a copy, a cut or an extension.
-    fn converting(self, bytes: &[u8], op: u8, d: u8, s: u8) -> State
-        requires { ⌜ (d < 32) × (s < 32) × (width (now bytes) d ≤ 32) × (1 ≤ width (now bytes) s) × (width (now bytes) s ≤ 32) ⌝ }
-        ensures { λ r. ⌜ r ≡ put self d (converted op (width (now (bytes .entry)) d) (width (now (bytes .entry)) s) (value self s)) ⌝ }
-    {
-        let x = converted_by(op, width_of(bytes, d), width_of(bytes, s), self.value(s));
-        self.with(d, x)
-    }
-
-    // The state after an addition, a subtraction or a multiplication.
-    fn computing(self, bytes: &[u8], op: u8, d: u8, s: u8, t: u8) -> State
-        requires { ⌜ (d < 32) × (s < 32) × (t < 32) × (width (now bytes) d ≤ 32) ⌝ }
-        ensures { λ r. ⌜ r ≡ put self d (computed op (width (now (bytes .entry)) d) (value self s) (value self t)) ⌝ }
-    {
-        let x = computed_by(op, width_of(bytes, d), self.value(s), self.value(t));
-        self.with(d, x)
-    }
-
-    // The state after an access with the index in variable i: stopped, or `next`.
-    fn accessing(self, bytes: &[u8], h: Header, array: u8, i: u8, k: Counts, next: State) -> State
-        requires { ⌜ (i < 32) × (1 ≤ width (now bytes) i) × (width (now bytes) i ≤ 32) ⌝ }
-        ensures { λ r. ⌜ r ≡ accessed (now (bytes .entry)) h array i k self next ⌝ }
+    // The state after a read with the index in variable i: stopped, or with the input word of its number in variable d.
+    fn reading(
+        mut self,
+        bytes: &[u8],
+        h: Header,
+        inputs: &[u32],
+        d: u8,
+        array: u8,
+        i: u8,
+        k: Counts,
+    ) -> State
+        requires { ⌜ (d < 32) × (i < 32) × (1 ≤ width (now bytes) i) × (width (now bytes) i ≤ 32) ⌝ }
+        ensures { λ r. ⌜ r ≡ carry (now (bytes .entry)) (now (inputs .entry)) h (Simple.Read d array i) k self ⌝ }
     {
         let index = self.index(bytes, i);
         match lies_at(size_of_array(bytes, h, array), index) {
-            Lies::Inside => next,
+            Lies::Inside => {
+                let to = d as usize;
+                let number = h.parameters as usize + k.reads as usize;
+                self.values[to] = entry_at(inputs, number);
+                self
+            }
             Lies::Outside(side) => self.stopped(accesses_of(k), index, side),
         }
     }
 
-    // The state after a command that is no if.
-    pub fn carried(self, bytes: &[u8], h: Header, inputs: &[u32], c: Simple, k: Counts) -> State
+    // The state after a write with the index in variable i: stopped, or as it was.
+    fn writing(self, bytes: &[u8], h: Header, array: u8, i: u8, k: Counts) -> State
+        requires { ⌜ (i < 32) × (1 ≤ width (now bytes) i) × (width (now bytes) i ≤ 32) ⌝ }
+        ensures { λ r. ⌜ r ≡ accessed (now (bytes .entry)) h array i k self self ⌝ }
+    {
+        let index = self.index(bytes, i);
+        match lies_at(size_of_array(bytes, h, array), index) {
+            Lies::Inside => self,
+            Lies::Outside(side) => self.stopped(accesses_of(k), index, side),
+        }
+    }
+
+    // The state after a command that is no if. What is only a sum or a copy is stored in place and handed back at one place: a state that is handed on to
+    // another method, or back from several places, is copied each time.
+    pub fn carried(mut self, bytes: &[u8], h: Header, inputs: &[u32], c: Simple, k: Counts) -> State
         requires { ⌜ Sound (now bytes) h c × Fine (now bytes) h ⌝ }
         ensures { λ r. ⌜ r ≡ carry (now (bytes .entry)) (now (inputs .entry)) h c k self ⌝ }
     {
         match c {
-            Simple::Set { d, c } => self.with(d, c),
-            Simple::Convert { op, d, s } => self.converting(bytes, op, d, s),
-            Simple::Compute { op, d, s, t } => self.computing(bytes, op, d, s, t),
-            Simple::Read { d, array, i } => {
-                let number = h.parameters as usize + k.reads as usize;
-                let next = self.with(d, entry_at(inputs, number));
-                self.accessing(bytes, h, array, i, k, next)
+            Simple::Set { d, c } => {
+                let to = d as usize;
+                self.values[to] = c;
             }
-            Simple::Write { array, i, s: _ } => self.accessing(bytes, h, array, i, k, self),
+            Simple::Convert { op, d, s } => {
+                let to = d as usize;
+                let a = s as usize;
+                let v = width_of(bytes, d);
+                let w = width_of(bytes, s);
+                self.values[to] = converted_by(op, v, w, self.values[a]);
+            }
+            Simple::Compute { op, d, s, t } => {
+                let to = d as usize;
+                let a = s as usize;
+                let b = t as usize;
+                let w = width_of(bytes, d);
+                self.values[to] = computed_by(op, w, self.values[a], self.values[b]);
+            }
+            Simple::Read { d, array, i } => return self.reading(bytes, h, inputs, d, array, i, k),
+            Simple::Write { array, i, s: _ } => return self.writing(bytes, h, array, i, k),
         }
+        self
     }
 }

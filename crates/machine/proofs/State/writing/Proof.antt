@@ -1,7 +1,7 @@
 use mathlib.Core.Path.{_∙_}
 use borrow.Author.Needs.{needs}
-use Rattle.machine.proofs.State.accessing.Statement.{statement}
-use Rattle.machine.proofs.State.accessing.Tie as tie
+use Rattle.machine.proofs.State.writing.Statement.{statement}
+use Rattle.machine.proofs.State.writing.Tie as tie
 
 index-requires : tie.Need-index-requires
 index-requires c κs = search needs
@@ -36,8 +36,8 @@ returns-2 c =
     c .stopped .ensures
     ∙ rw (c .before .accesses-of .ensures, ← l .before .before .index .ensures, ← l .before .size-of-array .ensures, ← l .lies-at .ensures, s .side .given .1)
 
-pub accessing-spec : {M : Type 1} → statement M
-accessing-spec =
+pub writing-spec : {M : Type 1} → statement M
+writing-spec =
     tie.close
     (tie.spec
     index-requires
