@@ -52,6 +52,10 @@ commandBy op a b c const =
     (cond (eqb op 0x00 || between 0x0C 0x0D op) (Command.Close op)
     Command.Missing))))))
 
+-- the size of a command by its byte alone: the operands do not matter
+abbrev pub sizeBy : (op : ℕ) → ℕ
+sizeBy op = sizeOf (commandBy op 0 0 0 0)
+
 -- the command whose byte stands at `at`; operands past the end count as 0
 abbrev pub commandOf : List ℕ → ℕ → Command
 commandOf bs at = commandBy (entry bs at) (entry bs (at + 1)) (entry bs (at + 2)) (entry bs (at + 3)) (word bs (at + 2))

@@ -9,7 +9,7 @@ ghost use mathlib.Core.Path.{_≡_};
 ghost use Prim.Native.Nat.{_+_, _<_};
 ghost use lib.ListN.{length};
 ghost use Rattle.slices.specs.Bytes.{entry};
-ghost use Rattle.command.specs.Command.{commandOf, commandAt, sizeOf, sizeOfSimple, touches, touchesOf};
+ghost use Rattle.command.specs.Command.{commandOf, commandAt, sizeBy, sizeOf, sizeOfSimple, touches, touchesOf};
 
 pub fn simple_size(c: Simple) -> usize
     ensures { λ r. ⌜ r ≡ sizeOfSimple c ⌝ }
@@ -54,6 +54,20 @@ pub fn size_of(command: Command) -> usize
         Command::Close(_) => 1,
         Command::If(_) => 4,
         Command::Simple(c) => simple_size(c),
+    }
+}
+
+// How many bytes a command takes, by its own byte alone.
+pub fn size_by(op: u8) -> usize
+    ensures { λ r. ⌜ r ≡ sizeBy op ⌝ }
+{
+    match op {
+        0x01 => 6,
+        0x02 => 3,
+        0x03..=0x05 => 4,
+        0x06..=0x08 => 3,
+        0x09..=0x0B => 4,
+        _ => 1,
     }
 }
 

@@ -3,11 +3,14 @@ mod ways;
 
 use bitvec::Whole;
 use faults::Counts;
+use faults::words::given_of;
 use header::Header;
 use header::first_command;
 use machine::State;
-ghost use Rattle.routine.specs.Decode.{IsRoutine};
-ghost use Rattle.course.specs.Inner.Walker.{FollowsRoutine};
+ghost use mathlib.Core.Path.{_≡_};
+ghost use Rattle.routine.specs.Decode.{IsRoutine, commandsIn};
+ghost use Rattle.run.specs.Run.{runOf};
+ghost use Rattle.course.specs.Course.{course};
 
 // What a run did as far as the access.
 pub enum Course {
@@ -31,7 +34,7 @@ pub struct Way {
 // Follows the run of a routine on an input list, as far as the access of this number.
 pub fn follow(routine: &[u8], inputs: &[u32], decisions: &[u8], access: u8, h: Header) -> Course
     requires { ⌜ IsRoutine (now routine) h ⌝ }
-    ensures { λ r. ⌜ FollowsRoutine (now (routine .entry)) (now (inputs .entry)) (now (decisions .entry)) access h r ⌝ }
+    ensures { λ r. ⌜ r ≡ course (now (decisions .entry)) access (runOf (now (routine .entry)) (now (inputs .entry)) h (commandsIn (now (routine .entry))) .events) ⌝ }
 {
     let counts = Counts {
         ifs: 0,
@@ -41,7 +44,7 @@ pub fn follow(routine: &[u8], inputs: &[u32], decisions: &[u8], access: u8, h: H
     let start = ways::way(
         first_command(h),
         counts,
-        State::begin(inputs, h.parameters),
+        State::begin(inputs, given_of(h)),
         Course::Passing,
     );
     let r = ways::follow_arm(routine, inputs, decisions, access, h, 0, 0x00, start);

@@ -1,5 +1,6 @@
 // A command where it stands: what is refused of it, and the counts after it.
 pub mod steps;
+pub mod words;
 
 use command::Condition;
 use command::Simple;

@@ -1,23 +1,21 @@
 -- What is said of an input list, by how many words it has. Assumes nothing.
 use mathlib.Core.Path.{_≡_}
 use mathlib.Core.List.{List}
-use Prim.Native.Nat.{ℕ, _+_}
+use Prim.Native.Nat.{ℕ}
 use lib.ListN.{length}
 use borrow.Author.Tests.{eq-eqb, ne-eqb}
+use Rattle.faults.specs.Inputs.{inputCount}
 use Rattle.routine.specs.Routine.{Arm}
-use Rattle.routine.specs.Decode.{routine, decode}
 use Rattle.header.specs.declared.Header.{Header}
 use Rattle.faults.specs.declared.Counts.{Counts}
 use Rattle.inputs.specs.Inputs.{inputVariables, firstGreat, listed}
-use Rattle.inputs.specs.Inner.Scan.{Lists}
 use Rattle.inputs.specs.declared.Listed.{Listed}
 
-module _ (bs ins : List ℕ) (h : Header) (k : Counts) where
-  pub miscounted : (length ins ≡ h .parameters + k .reads → ⊥) → Lists bs ins h k Listed.Miscounted
+module _ (bs ins : List ℕ) (h : Header) (a : Arm) (k : Counts) (n : ℕ) (is : n ≡ inputCount h k) where
+  pub miscounted : (length ins ≡ n → ⊥) → Listed.Miscounted ≡ listed bs ins h a k
   unfolding listed
-  miscounted f = record { tells = λ a d. rw (ne-eqb _ _ f) }
+  miscounted f = rw (← is, ne-eqb _ _ f)
 
-  pub counted : length ins ≡ h .parameters + k .reads → (r : Listed)
-      → ((a : Arm) → decode bs ≡ routine h a k → r ≡ firstGreat bs ins 0 (inputVariables h a)) → Lists bs ins h k r
+  pub counted : length ins ≡ n → (r : Listed) → r ≡ firstGreat bs ins 0 (inputVariables h a) → r ≡ listed bs ins h a k
   unfolding listed
-  counted e r f = record { tells = λ a d. rw (eq-eqb _ _ e) (f a d) }
+  counted e r q = rw (← is, eq-eqb _ _ e) q

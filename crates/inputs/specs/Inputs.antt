@@ -1,4 +1,4 @@
--- The input list: one word for each parameter, then one for each read in text order, each below 2 to the width of its variable.
+-- The input list: one word for each variable that begins with one, then one for each read in text order, each below 2 to the width of its variable.
 use Prim.Native.Nat.{ℕ, zero, suc, _+_, _^_}
 use mathlib.Core.List.{List, [], _∷_, _++_}
 use lib.ListN.{length}
@@ -6,10 +6,11 @@ use lib.Dec.{ltb, eqb}
 use Rattle.slices.specs.Bytes.{entry}
 use Rattle.slices.specs.Guard.{unless}
 use Rattle.header.specs.Header.{width}
-use Rattle.command.specs.Command.{touches}
 use Rattle.routine.specs.Routine.{Arm, textOf}
 use Rattle.header.specs.declared.Header.{Header}
 use Rattle.faults.specs.declared.Counts.{Counts}
+use Rattle.faults.specs.Inputs.{given, inputCount}
+use Rattle.command.specs.Command.{touches}
 use Rattle.command.specs.declared.Simple.{Simple}
 use Rattle.command.specs.declared.Touch.{Touch}
 use Rattle.inputs.specs.declared.Listed.{Listed}
@@ -19,24 +20,20 @@ unfoldable pub variablesFrom : (v n : ℕ) → List ℕ
 variablesFrom v zero = []
 variablesFrom v (suc n) = v ∷ variablesFrom (v + 1) n
 
--- what a command does: a read takes a word of the list
-abbrev pub readBySimple : Simple → Touch
-readBySimple c = touches c
-
 -- the variable that a read writes, before the others
-abbrev pub joined : Touch → List ℕ → List ℕ
-joined Touch.Nothing vs = vs
-joined (Touch.Reads d array i) vs = d ∷ vs
-joined (Touch.Writes array i) vs = vs
+abbrev pub readFirst : Touch → List ℕ → List ℕ
+readFirst Touch.Nothing vs = vs
+readFirst (Touch.Reads d array i) vs = d ∷ vs
+readFirst (Touch.Writes array i) vs = vs
 
 -- the variables that the reads among the commands write
 unfoldable pub readVariables : List Simple → List ℕ
 readVariables [] = []
-readVariables (c ∷ cs) = joined (readBySimple c) (readVariables cs)
+readVariables (c ∷ cs) = readFirst (touches c) (readVariables cs)
 
--- the variables of the input words: the parameters, then the one that each read writes, in text order
+-- the variables of the input words: those that begin with one, then the one that each read writes, in text order
 abbrev pub inputVariables : Header → Arm → List ℕ
-inputVariables h a = variablesFrom 0 (h .parameters) ++ readVariables (textOf a)
+inputVariables h a = variablesFrom 0 (given h) ++ readVariables (textOf a)
 
 -- the first word, from number n on, that is too great for its variable
 unfoldable pub firstGreat : (bs ins : List ℕ) (n : ℕ) → List ℕ → Listed
@@ -48,5 +45,5 @@ firstGreat bs ins n (v ∷ vs) = unless (ltb (entry ins n) (2 ^ width bs v)) (Li
 unfoldable pub listed : (bs ins : List ℕ) → Header → Arm → Counts → Listed
 unfolding unless
 listed bs ins h a k =
-    unless (eqb (length ins) (h .parameters + k .reads)) Listed.Miscounted
+    unless (eqb (length ins) (inputCount h k)) Listed.Miscounted
     (firstGreat bs ins 0 (inputVariables h a))

@@ -1,22 +1,24 @@
 // Whether an input list is accepted: 9 and 10.
-use command::Touch;
-use command::commands::command_at;
-use command::commands::size_of;
-use command::commands::touch_of;
+use command::commands::size_by;
 use faults::Counts;
 use faults::steps::fits_width;
+use faults::words::given_of;
+use faults::words::input_count;
 use header::Header;
 use header::first_command;
 use header::width_of;
+use slices::byte_at;
 use slices::entry_at;
 ghost use mathlib.Core.Path.{_≡_};
 ghost use Prim.Native.Nat.{_^_};
 ghost use lib.Dec.{ltb};
 ghost use Rattle.slices.specs.Bytes.{entry};
 ghost use Rattle.header.specs.Header.{width};
-ghost use Rattle.inputs.specs.Inputs.{variablesFrom, firstGreat};
-ghost use Rattle.routine.specs.Decode.{IsRoutine};
-ghost use Rattle.inputs.specs.Inner.Scan.{ScansReads, Lists};
+ghost use Rattle.faults.specs.Inputs.{given};
+ghost use Rattle.routine.specs.Routine.{textOf};
+ghost use Rattle.routine.specs.Decode.{commandsIn};
+ghost use Rattle.routine.specs.Inner.Known.{Counted};
+ghost use Rattle.inputs.specs.Inputs.{variablesFrom, readVariables, firstGreat, listed};
 
 // What is said of an input list.
 pub enum Listed {
@@ -34,12 +36,12 @@ fn fits(bytes: &[u8], inputs: &[u32], n: usize, v: u8) -> bool
     fits_width(entry_at(inputs, n), width_of(bytes, v))
 }
 
-// The first parameter whose word is too great.
-fn check_parameters(bytes: &[u8], inputs: &[u32], parameters: u8) -> Listed
-    ensures { λ r. ⌜ r ≡ firstGreat (now (bytes .entry)) (now (inputs .entry)) 0 (variablesFrom 0 parameters) ⌝ }
+// The first of the variables that begin with an input word whose word is too great.
+fn check_given(bytes: &[u8], inputs: &[u32], count: u8) -> Listed
+    ensures { λ r. ⌜ r ≡ firstGreat (now (bytes .entry)) (now (inputs .entry)) 0 (variablesFrom 0 count) ⌝ }
 {
     let mut v: u8 = 0;
-    while v < parameters {
+    while v < count {
         let n = v as usize;
         if !fits(bytes, inputs, n, v) {
             return Listed::TooGreat(n);
@@ -49,29 +51,24 @@ fn check_parameters(bytes: &[u8], inputs: &[u32], parameters: u8) -> Listed
     Listed::Accepted
 }
 
-// The first read, in text order, whose word is too great. Its words come after those of the parameters.
-fn check_reads(bytes: &[u8], inputs: &[u32], h: Header) -> Listed
-    requires { ⌜ IsRoutine (now bytes) h ⌝ }
-    ensures { λ r. ⌜ ScansReads (now (bytes .entry)) (now (inputs .entry)) h r ⌝ }
+// The first read, in text order, whose word is too great. The bytes after the last read are not looked at.
+fn check_reads(bytes: &[u8], inputs: &[u32], h: Header, k: Counts) -> Listed
+    requires { ⌜ Counted (now bytes) h k ⌝ }
+    ensures { λ r. ⌜ r ≡ firstGreat (now (bytes .entry)) (now (inputs .entry)) (given h) (readVariables (textOf (commandsIn (now (bytes .entry))))) ⌝ }
 {
+    let end = input_count(h, k);
     let mut at = first_command(h);
-    let mut n = h.parameters as usize;
-    while at < bytes.len() {
-        let command = command_at(bytes, at);
-        match touch_of(command) {
-            Touch::Nothing => {
-                at += size_of(command);
+    let mut n = given_of(h) as usize;
+    while n < end {
+        let op = byte_at(bytes, at);
+        if op == 0x09 {
+            if !fits(bytes, inputs, n, byte_at(bytes, at + 1)) {
+                return Listed::TooGreat(n);
             }
-            Touch::Reads { d, array: _, i: _ } => {
-                if !fits(bytes, inputs, n, d) {
-                    return Listed::TooGreat(n);
-                }
-                at += size_of(command);
-                n += 1;
-            }
-            Touch::Writes { .. } => {
-                at += size_of(command);
-            }
+            at += 4;
+            n += 1;
+        } else {
+            at += size_by(op);
         }
     }
     Listed::Accepted
@@ -79,14 +76,14 @@ fn check_reads(bytes: &[u8], inputs: &[u32], h: Header) -> Listed
 
 // 9 and 10: one word for each parameter and each read, and none too great.
 pub fn check_inputs(bytes: &[u8], inputs: &[u32], h: Header, k: Counts) -> Listed
-    requires { ⌜ IsRoutine (now bytes) h ⌝ }
-    ensures { λ r. ⌜ Lists (now (bytes .entry)) (now (inputs .entry)) h k r ⌝ }
+    requires { ⌜ Counted (now bytes) h k ⌝ }
+    ensures { λ r. ⌜ r ≡ listed (now (bytes .entry)) (now (inputs .entry)) h (commandsIn (now (bytes .entry))) k ⌝ }
 {
-    if inputs.len() != h.parameters as usize + k.reads as usize {
+    if inputs.len() != input_count(h, k) {
         return Listed::Miscounted;
     }
-    match check_parameters(bytes, inputs, h.parameters) {
-        Listed::Accepted => check_reads(bytes, inputs, h),
+    match check_given(bytes, inputs, given_of(h)) {
+        Listed::Accepted => check_reads(bytes, inputs, h, k),
         Listed::Miscounted => Listed::Miscounted,
         Listed::TooGreat(n) => Listed::TooGreat(n),
     }

@@ -1,5 +1,5 @@
 -- The state of a run, and how it moves on by one command.
-use Prim.Native.Nat.{ℕ, zero, suc, _+_}
+use Prim.Native.Nat.{ℕ, zero, suc}
 use mathlib.Core.List.{List}
 use mathlib.Core.Bool.{Bool, cond}
 use lib.ListN.{set, replicate}
@@ -11,6 +11,7 @@ use Rattle.bitvec.specs.Relation.{relates}
 use Rattle.bitvec.specs.declared.Whole.{Whole}
 use Rattle.header.specs.Header.{width, arraySize}
 use Rattle.faults.specs.Step.{accesses}
+use Rattle.faults.specs.Inputs.{inputNumber}
 use Rattle.header.specs.declared.Header.{Header}
 use Rattle.command.specs.declared.Condition.{Condition}
 use Rattle.faults.specs.declared.Counts.{Counts}
@@ -26,9 +27,9 @@ unfoldable pub over : (n : ℕ) → (xs ys : List ℕ) → List ℕ
 over zero xs ys = ys
 over (suc n) xs ys = set (over n xs ys) n (entry xs n)
 
--- the beginning: each parameter has its input word, other variables are 0, and no if was come to
-unfoldable pub start : (ins : List ℕ) → (parameters : ℕ) → State
-start ins parameters = record { values = over parameters ins (replicate 32 0); trail = replicate 32 2; outcome = Outcome.Going }
+-- the beginning: the first n variables have their input words, the others are 0, and no if was come to
+unfoldable pub start : (ins : List ℕ) → (n : ℕ) → State
+start ins n = record { values = over n ins (replicate 32 0); trail = replicate 32 2; outcome = Outcome.Going }
 
 -- the value of a variable
 abbrev pub value : State → ℕ → ℕ
@@ -90,5 +91,5 @@ unfoldable pub carry : (bs ins : List ℕ) → Header → Simple → Counts → 
 carry bs ins h (Simple.Set d c) k s = put s d c
 carry bs ins h (Simple.Convert op d a) k s = put s d (converted op (width bs d) (width bs a) (value s a))
 carry bs ins h (Simple.Compute op d a b) k s = put s d (computed op (width bs d) (value s a) (value s b))
-carry bs ins h (Simple.Read d array i) k s = accessed bs h array i k s (put s d (entry ins (h .parameters + k .reads)))
+carry bs ins h (Simple.Read d array i) k s = accessed bs h array i k s (put s d (entry ins (inputNumber h k)))
 carry bs ins h (Simple.Write array i a) k s = accessed bs h array i k s s

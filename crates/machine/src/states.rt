@@ -11,6 +11,7 @@ use command::Condition;
 use command::Simple;
 use faults::Counts;
 use faults::steps::accesses_of;
+use faults::words::input_number;
 use header::Header;
 use header::size_of_array;
 use header::width_of;
@@ -65,12 +66,12 @@ pub fn lies_at(size: u32, index: Whole) -> Lies
 }
 
 impl State {
-    // The beginning: each parameter has its input word.
-    pub fn begin(inputs: &[u32], parameters: u8) -> State
-        requires { ⌜ parameters ≤ 32 ⌝ }
-        ensures { λ r. ⌜ r ≡ start (now (inputs .entry)) parameters ⌝ }
+    // The beginning: each of the first n variables has its input word.
+    pub fn begin(inputs: &[u32], n: u8) -> State
+        requires { ⌜ n ≤ 32 ⌝ }
+        ensures { λ r. ⌜ r ≡ start (now (inputs .entry)) n ⌝ }
     {
-        let count = parameters as usize;
+        let count = n as usize;
         let mut values = [0u32; 32];
         let mut i: usize = 0;
         while i < count {
@@ -153,8 +154,7 @@ impl State {
         match lies_at(size_of_array(bytes, h, array), index) {
             Lies::Inside => {
                 let to = d as usize;
-                let number = h.parameters as usize + k.reads as usize;
-                self.values[to] = entry_at(inputs, number);
+                self.values[to] = entry_at(inputs, input_number(h, k));
                 self
             }
             Lies::Outside(side) => self.stopped(accesses_of(k), index, side),

@@ -23,6 +23,7 @@ use Rattle.faults.specs.Inner.Sound.{Sound, SoundIf, Fine}
 use Rattle.header.specs.declared.Header.{Header}
 use Rattle.command.specs.declared.Condition.{Condition}
 use Rattle.faults.specs.declared.Counts.{Counts}
+use Rattle.faults.specs.Inputs.{given, inputNumber}
 use Rattle.command.specs.declared.Simple.{Simple}
 use Rattle.routine.proofs.Views.{induction}
 use Rattle.routine.proofs.Accepted.{decoded}
@@ -158,7 +159,7 @@ module _ (bs : List ℕ) (h : Header) (w : ℕ) (narrow : (v : ℕ) → v < h .v
     simple-few g (Simple.Read d array i) k s q =
         let p = read-fine bs h d array i q in
         at-access g array i k s (readInto bs h d k) (p .2)
-        (λ g₁ u. omega (arith, length-inputs (h .parameters + k .reads) (width bs d), narrow d (p .0)))
+        (λ g₁ u. omega (arith, length-inputs (inputNumber h k) (width bs d), narrow d (p .0)))
     simple-few g (Simple.Write array i a) k s q = at-access g array i k s (λ g₁. still) (write-fine bs h array i a q .1) (λ g₁ u. omega arith)
 
     -- ---- ifs
@@ -243,9 +244,9 @@ module _ (bs : List ℕ) (h : Header) (w : ℕ) (narrow : (v : ℕ) → v < h .v
 -- ---- a routine
 
 -- the bits of the parameters
-pub parameters-few : (bs : List ℕ) (h : Header) → Fine bs h → length (parameterNodes bs (h .parameters)) ≤ 1024
+pub parameters-few : (bs : List ℕ) (h : Header) → Fine bs h → length (parameterNodes bs (given h)) ≤ 1024
 parameters-few bs h f =
-    omega (arith, parameters-short bs h 32 (λ v l. f .widths v l .1) (h .parameters) (f .parameters), f .few, f .parameters)
+    omega (arith, parameters-short bs h 32 (λ v l. f .widths v l .1) (given h) (f .parameters), f .few, f .parameters)
 
 -- a translation whose widths are at most w takes at most so many variables
 pub whole-bound : (bs : List ℕ) (t : Target) (ds : List ℕ) (h : Header) (a : Arm) (k : Counts) → decode bs ≡ routine h a k → (w : ℕ) → 1 ≤ w
@@ -255,11 +256,11 @@ unfolding whole
 whole-bound bs t ds h a k e w l narrow =
     let d = decoded bs h a k e in
     let f = fine bs h (d .header) in
-    let ns : List Node = parameterNodes bs (h .parameters) in
-    let s : Wires = start bs (h .parameters) in
+    let ns : List Node = parameterNodes bs (given h) in
+    let s : Wires = start bs (given h) in
     let x : Stretch = armOf bs h t ds a (2 + length ns) s in
-    let p = parameters-short bs h w narrow (h .parameters) (f .parameters) in
-    let n : h .parameters ≤ 32 = omega (arith, f .parameters, f .few) in
+    let p = parameters-short bs h w narrow (given h) (f .parameters) in
+    let n : given h ≤ 32 = omega (arith, f .parameters, f .few) in
     let q : length (x .nodes) ≤ 4 * w * (w + 1) * commandsIn a + (32 * w + 1) * k .ifs =
     rw (← all-ifs bs h a k e) (arm-bound bs h w narrow l f t ds a 0 0 _ _ _ k (d .stands) (2 + length ns) s) in
     omega (arith, length-append ns (x .nodes), p, mul-le-mul-left w n, q)
@@ -285,17 +286,17 @@ module _ (bs : List ℕ) (t : Target) (ds : List ℕ) (h : Header) (a : Arm) whe
   pub clauses-bound : length (clausesOfAll (whole bs t ds h a)) ≤ 6 * length (whole bs t ds h a .nodes)
   unfolding clausesOfAll clausesOf nodeClauses whole
   clauses-bound =
-      let x = armOf bs h t ds a (2 + length (parameterNodes bs (h .parameters))) (start bs (h .parameters)) in
-      let ns = parameterNodes bs (h .parameters) ++ x .nodes in
-      simp length-append (omega (arith, clausesOf-few 2 ns, last-few (x .wires .claim) .0, length-append (parameterNodes bs (h .parameters)) (x .nodes)))
+      let x = armOf bs h t ds a (2 + length (parameterNodes bs (given h))) (start bs (given h)) in
+      let ns = parameterNodes bs (given h) ++ x .nodes in
+      simp length-append (omega (arith, clausesOf-few 2 ns, last-few (x .wires .claim) .0, length-append (parameterNodes bs (given h)) (x .nodes)))
 
   -- and at most 24 words
   pub words-bound : length (flatten (clausesOfAll (whole bs t ds h a))) ≤ 24 * length (whole bs t ds h a .nodes)
   unfolding clausesOfAll clausesOf nodeClauses whole
   words-bound =
-      let x = armOf bs h t ds a (2 + length (parameterNodes bs (h .parameters))) (start bs (h .parameters)) in
-      let ns = parameterNodes bs (h .parameters) ++ x .nodes in
+      let x = armOf bs h t ds a (2 + length (parameterNodes bs (given h))) (start bs (given h)) in
+      let ns = parameterNodes bs (given h) ++ x .nodes in
       let cs = clausesOf 2 ns in
       let ls = lastClauses (x .wires .claim) in
       let e : length (flatten (cs ++ ls)) ≡ length (flatten cs) + length (flatten ls) = ap length (flatten-append cs ls) ∙ length-append (flatten cs) (flatten ls) in
-      omega (arith, e, clausesOf-short 2 ns, last-few (x .wires .claim) .1, length-append (parameterNodes bs (h .parameters)) (x .nodes))
+      omega (arith, e, clausesOf-short 2 ns, last-few (x .wires .claim) .1, length-append (parameterNodes bs (given h)) (x .nodes))

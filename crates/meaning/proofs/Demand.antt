@@ -10,6 +10,7 @@ use Rattle.slices.specs.Bytes.{entry}
 use Rattle.bitvec.specs.declared.Whole.{Whole}
 use Rattle.header.specs.Header.{arraySize, firstCommand}
 use Rattle.faults.specs.Step.{accesses}
+use Rattle.faults.specs.Inputs.{given}
 use Rattle.routine.specs.Routine.{Arm}
 use Rattle.routine.specs.Decode.{routine, decode, noCounts}
 use Rattle.routine.specs.Inner.Stands.{Stands}
@@ -95,15 +96,15 @@ module _ (bs : List ℕ) (t : Target) (ds : List ℕ) (h : Header) (a : Arm) (k 
   stands = decoded bs h a k is .stands
 
   abbrev ps : List Node
-  ps = parameterNodes bs (h .parameters)
+  ps = parameterNodes bs (given h)
 
   abbrev g : ℕ
   g = 2 + length ps
 
   abbrev x : Stretch
-  x = armOf bs h t ds a g (start bs (h .parameters))
+  x = armOf bs h t ds a g (start bs (given h))
 
-  start-open : start bs (h .parameters) .claim ≡ Claim.Open
+  start-open : start bs (given h) .claim ≡ Claim.Open
   unfolding start
   start-open = refl
 
@@ -114,7 +115,7 @@ module _ (bs : List ℕ) (t : Target) (ds : List ℕ) (h : Header) (a : Arm) (k 
       pick : (b : Bool) → isMade (x .wires .claim) ≡ b → isMade (x .wires .claim) ≡ true
       pick true e = e
       pick false e =
-          let p = arm-claims t bs h ds a 0 0 (firstCommand h) noCounts (length bs) k stands g (start bs (h .parameters)) start-open .unnamed e (omega arith) in
+          let p = arm-claims t bs h ds a 0 0 (firstCommand h) noCounts (length bs) k stands g (start bs (given h)) start-open .unnamed e (omega arith) in
           absurd (omega arith)
 
   made : MadeBy (x .wires .claim)
@@ -123,7 +124,7 @@ module _ (bs : List ℕ) (t : Target) (ds : List ℕ) (h : Header) (a : Arm) (k 
   claims : x .wires .claim ≡ Claim.Made (x .wires .arrival) (made .side)
   claims =
       made .is
-      ∙ ap (λ (z : ℕ). Claim.Made z (made .side)) (arm-settled t bs h ds a g (start bs (h .parameters)) start-open (made .arrival) (made .side) (made .is))
+      ∙ ap (λ (z : ℕ). Claim.Made z (made .side)) (arm-settled t bs h ds a g (start bs (given h)) start-open (made .arrival) (made .side) (made .is))
 
   formed : WellFormed 1 (whole bs t ds h a .nodes)
   formed = whole-formed bs h ok t ds a (firstCommand h) noCounts (length bs) k stands
@@ -148,20 +149,20 @@ module _ (bs : List ℕ) (t : Target) (ds : List ℕ) (h : Header) (a : Arm) (k 
       parts = models-append I ρ 2 ps (x .nodes) (models .1)
 
       -- at the start the parameters have their words
-      alive : Alive bs ins h ok t ds ρ truth (start bs (h .parameters)) (state.start ins (h .parameters))
+      alive : Alive bs ins h ok t ds ρ truth (start bs (given h)) (state.start ins (given h))
       unfolding start state.start
       alive = record {
         unclaimed = refl;
         come = lit-true ρ truth;
         going = refl;
-        worth = parameters-worth bs h ok ρ ins truth (h .parameters) (ok .parameters) (fits .parameters) (parts .0);
+        worth = parameters-worth bs h ok ρ ins truth (given h) (ok .parameters) (fits .parameters) (parts .0);
       }
 
       tally : Tally bs h ok t ds ρ (x .wires) (courseOf bs t ds h a ins) (runOf bs ins h a .state)
       unfolding runOf
       tally =
-          arm-alive bs ins h ok t ds ρ truth side few a 0 0 (firstCommand h) noCounts (length bs) k stands (fits .reads) (omega arith) g (start bs (h .parameters))
-          (state.start ins (h .parameters)) (parts .1) alive
+          arm-alive bs ins h ok t ds ρ truth side few a 0 0 (firstCommand h) noCounts (length bs) k stands (fits .reads) (omega arith) g (start bs (given h))
+          (state.start ins (given h)) (parts .1) alive
 
   all-parts : Faithful bs t ds h a k
   unfolding whole

@@ -12,6 +12,7 @@ use borrow.Author.Tests.{ltb-true}
 use Rattle.slices.specs.Bytes.{entry}
 use Rattle.header.specs.Header.{width}
 use Rattle.faults.specs.Step.{after}
+use Rattle.faults.specs.Inputs.{given, inputNumber, inputCount}
 use Rattle.routine.specs.Routine.{Arm, done, plain, fork, textOf}
 use Rattle.routine.specs.Decode.{routine, decode, noCounts}
 use Rattle.routine.specs.Inner.Stands.{Stands}
@@ -20,7 +21,7 @@ use Rattle.faults.specs.declared.Counts.{Counts}
 use Rattle.command.specs.declared.Simple.{Simple}
 use Rattle.routine.proofs.Accepted.{decoded}
 use Rattle.routine.proofs.Views.{induction}
-use Rattle.inputs.specs.Inputs.{variablesFrom, joined, readBySimple, readVariables, firstGreat, listed}
+use Rattle.inputs.specs.Inputs.{variablesFrom, readBefore, readVariables, firstGreat, listed}
 use Rattle.inputs.specs.declared.Listed.{Listed}
 
 -- the words of a text's reads, and then those of another's
@@ -71,7 +72,7 @@ module _ (bs ins : List ℕ) where
     FitSimple (Simple.Set d c) k = Unit {0}
     FitSimple (Simple.Convert op d s) k = Unit {0}
     FitSimple (Simple.Compute op d s t) k = Unit {0}
-    FitSimple (Simple.Read d array i) k = entry ins (h .parameters + k .reads) < 2 ^ width bs d
+    FitSimple (Simple.Read d array i) k = entry ins (inputNumber h k) < 2 ^ width bs d
     FitSimple (Simple.Write array i s) k = Unit {0}
 
     -- the words of all reads of an arm do
@@ -82,23 +83,23 @@ module _ (bs ins : List ℕ) where
 
     -- from the counts k on, the words for vs are accepted
     abbrev Good : Counts → List ℕ → Type 0
-    Good k vs = firstGreat bs ins (h .parameters + k .reads) vs ≡ Listed.Accepted
+    Good k vs = firstGreat bs ins (inputNumber h k) vs ≡ Listed.Accepted
 
-    simple-fit : (c : Simple) (k : Counts) (vs : List ℕ) → Good k (joined (readBySimple c) vs) → FitSimple c k × Good (after c k) vs
+    simple-fit : (c : Simple) (k : Counts) (vs : List ℕ) → Good k (readBefore c vs) → FitSimple c k × Good (after c k) vs
     simple-fit (Simple.Set d c) k vs e = (tt, e)
     simple-fit (Simple.Convert op d s) k vs e = (tt, e)
     simple-fit (Simple.Compute op d s t) k vs e = (tt, e)
     simple-fit (Simple.Read d array i) k vs e =
-        let p = one-word (h .parameters + k .reads) d vs e in
-        (p .0, subst (λ (m : ℕ). firstGreat bs ins m vs ≡ Listed.Accepted) (add-assoc (h .parameters) (k .reads) 1) (p .1))
+        let p = one-word (inputNumber h k) d vs e in
+        (p .0, subst (λ (m : ℕ). firstGreat bs ins m vs ≡ Listed.Accepted) (add-assoc (given h) (k .reads) 1) (p .1))
     simple-fit (Simple.Write array i s) k vs e = (tt, e)
 
-    joined-append : (c : Simple) (xs ys : List ℕ) → joined (readBySimple c) xs ++ ys ≡ joined (readBySimple c) (xs ++ ys)
-    joined-append (Simple.Set d c) xs ys = refl
-    joined-append (Simple.Convert op d s) xs ys = refl
-    joined-append (Simple.Compute op d s t) xs ys = refl
-    joined-append (Simple.Read d array i) xs ys = refl
-    joined-append (Simple.Write array i s) xs ys = refl
+    before-append : (c : Simple) (xs ys : List ℕ) → readBefore c xs ++ ys ≡ readBefore c (xs ++ ys)
+    before-append (Simple.Set d c) xs ys = refl
+    before-append (Simple.Convert op d s) xs ys = refl
+    before-append (Simple.Compute op d s t) xs ys = refl
+    before-append (Simple.Read d array i) xs ys = refl
+    before-append (Simple.Write array i s) xs ys = refl
 
     arm-fit : (a : Arm) (depth close at : ℕ) (k : Counts) (end : ℕ) (k₁ : Counts) → Stands bs h depth close at k a end k₁
         → (vs : List ℕ) → Good k (readVariables (textOf a) ++ vs) → Fit a × Good k₁ vs
@@ -107,7 +108,7 @@ module _ (bs ins : List ℕ) where
         induction bs h (λ depth close at k a end k₁. (vs : List ℕ) → Good k (readVariables (textOf a) ++ vs) → Fit a × Good k₁ vs)
         (λ depth close at k mark e l vs f. (tt, f))
         (λ depth close at k c rest end k₁ v go vs f.
-        let p = simple-fit c k (readVariables (textOf rest) ++ vs) (rw (joined-append c (readVariables (textOf rest)) vs) at f) in
+        let p = simple-fit c k (readVariables (textOf rest) ++ vs) (rw (before-append c (readVariables (textOf rest)) vs) at f) in
         let q = go vs (p .1) in
         ((p .0, q .0), q .1))
         (λ depth close at k c first second rest end k₁ v go₁ go₂ go₃ vs f.
@@ -124,15 +125,15 @@ module _ (bs ins : List ℕ) where
 
     -- what an accepted input list tells
     pub record Fitting (a : Arm) : Type 0 where
-      pub parameters : (v : ℕ) → v < h .parameters → entry ins v < 2 ^ width bs v
+      pub parameters : (v : ℕ) → v < given h → entry ins v < 2 ^ width bs v
       pub reads : Fit a
 
     pub fitting : (a : Arm) (k : Counts) → decode bs ≡ routine h a k → listed bs ins h a k ≡ Listed.Accepted → Fitting a
     unfolding listed
     fitting a k e f =
         let vs = readVariables (textOf a) in
-        let p = words-fit (h .parameters) 0 vs (counted-cond (eqb (length ins) (h .parameters + k .reads)) _ f) in
-        let z : 0 + h .parameters ≡ h .parameters + 0 = omega arith in
-        let q : firstGreat bs ins (h .parameters + 0) (vs ++ []) ≡ Listed.Accepted = rw (append-nil vs) (subst (λ (m : ℕ). firstGreat bs ins m vs ≡ Listed.Accepted) z (p .1)) in
+        let p = words-fit (given h) 0 vs (counted-cond (eqb (length ins) (inputCount h k)) _ f) in
+        let z : 0 + given h ≡ given h + 0 = omega arith in
+        let q : firstGreat bs ins (given h + 0) (vs ++ []) ≡ Listed.Accepted = rw (append-nil vs) (subst (λ (m : ℕ). firstGreat bs ins m vs ≡ Listed.Accepted) z (p .1)) in
         let r = arm-fit a 0 0 _ noCounts (length bs) k (decoded bs h a k e .stands) [] q in
         record { parameters = λ v l. p .0 v (omega arith) (omega arith); reads = r .0 }

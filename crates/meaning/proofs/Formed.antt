@@ -15,6 +15,7 @@ use Rattle.faults.specs.Inner.Sound.{Sound, SoundIf, Fine}
 use Rattle.header.specs.declared.Header.{Header}
 use Rattle.command.specs.declared.Condition.{Condition}
 use Rattle.faults.specs.declared.Counts.{Counts}
+use Rattle.faults.specs.Inputs.{given, inputNumber}
 use Rattle.command.specs.declared.Simple.{Simple}
 use Rattle.routine.proofs.Views.{induction}
 use Rattle.faults.proofs.Fine.{convert-fine, compute-fine, read-fine, write-fine, condition-fine}
@@ -144,11 +145,11 @@ module _ (bs : List ℕ) (h : Header) (fine : Fine bs h) where
 
     read-made : (d : ℕ) (k : Counts) (g : ℕ) (s : Wires) → Wired g s → Made g (readInto bs h d k g s)
     read-made d k g s w =
-        let e = length-inputs (h .parameters + k .reads) (width bs d) in
-        let b : AllBefore (g + length (inputs (h .parameters + k .reads) (width bs d))) (inBit g) (width bs d) =
+        let e = length-inputs (inputNumber h k) (width bs d) in
+        let b : AllBefore (g + length (inputs (inputNumber h k) (width bs d))) (inBit g) (width bs d) =
         subst (λ (n : ℕ). AllBefore (g + n) (inBit g) (width bs d)) (sym e) (input-before g (width bs d) (omega (arith, w .some))) in
         record {
-          formed = inputs-formed g (h .parameters + k .reads) (width bs d);
+          formed = inputs-formed g (inputNumber h k) (width bs d);
           wired = wired-put bs _ s (wired-later _ (omega arith) w) d (inBit g) b;
         }
 
@@ -284,23 +285,23 @@ module _ (bs : List ℕ) (h : Header) (fine : Fine bs h) where
         }
 
     abbrev wholeFrom : ℕ
-    wholeFrom = 2 + length (parameterNodes bs (h .parameters))
+    wholeFrom = 2 + length (parameterNodes bs (given h))
 
-    start-wired : Wired wholeFrom (start bs (h .parameters))
+    start-wired : Wired wholeFrom (start bs (given h))
     unfolding start
-    start-wired = record { some = omega arith; held = started (h .parameters) .lits; arrival = before-pos wholeFrom 1 (omega arith) (omega arith); claim = tt }
+    start-wired = record { some = omega arith; held = started (given h) .lits; arrival = before-pos wholeFrom 1 (omega arith) (omega arith); claim = tt }
 
     module _ (ds : List ℕ) (a : Arm) (at : ℕ) (k : Counts) (end : ℕ) (k₁ : Counts) (st : Stands bs h 0 0 at k a end k₁) where
-      commands-made : Made wholeFrom (armOf bs h t ds a wholeFrom (start bs (h .parameters)))
-      commands-made = arm-made ds a 0 0 at k end k₁ st wholeFrom (start bs (h .parameters)) start-wired
+      commands-made : Made wholeFrom (armOf bs h t ds a wholeFrom (start bs (given h)))
+      commands-made = arm-made ds a 0 0 at k end k₁ st wholeFrom (start bs (given h)) start-wired
 
       -- a whole translation is well formed
       pub whole-formed : WellFormed 1 (whole bs t ds h a .nodes)
       unfolding whole
       whole-formed = (
         tt,
-        formed-append 2 (parameterNodes bs (h .parameters)) (armOf bs h t ds a wholeFrom (start bs (h .parameters)) .nodes)
-            (started (h .parameters) .gates) (commands-made .formed),
+        formed-append 2 (parameterNodes bs (given h)) (armOf bs h t ds a wholeFrom (start bs (given h)) .nodes)
+            (started (given h) .gates) (commands-made .formed),
       )
 
       -- the claim's literals are of its variables
@@ -308,8 +309,8 @@ module _ (bs : List ℕ) (h : Header) (fine : Fine bs h) where
           → Before (1 + length (whole bs t ds h a .nodes)) arrival × Before (1 + length (whole bs t ds h a .nodes)) side
       unfolding whole
       whole-named arrival side e =
-          let ns : List Node = parameterNodes bs (h .parameters) in
-          let x : Stretch = armOf bs h t ds a wholeFrom (start bs (h .parameters)) in
+          let ns : List Node = parameterNodes bs (given h) in
+          let x : Stretch = armOf bs h t ds a wholeFrom (start bs (given h)) in
           let z = length-append ns (x .nodes) in
           subst (Named (1 + length (One ∷ (ns ++ x .nodes)))) e
           (named-later (1 + length (One ∷ (ns ++ x .nodes))) (x .wires .claim) (omega arith) (commands-made .wired .claim))

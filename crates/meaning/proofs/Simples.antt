@@ -14,6 +14,7 @@ use Rattle.bitvec.specs.Signed.{signed, signExtend}
 use Rattle.bitvec.specs.declared.Whole.{Whole}
 use Rattle.header.specs.Header.{width, arraySize}
 use Rattle.faults.specs.Step.{accesses, converts, widthsFit}
+use Rattle.faults.specs.Inputs.{inputNumber}
 use Rattle.faults.specs.Inner.Sound.{Sound, Fine}
 use Rattle.header.specs.declared.Header.{Header}
 use Rattle.faults.specs.declared.Counts.{Counts}
@@ -226,7 +227,7 @@ module _ (bs ins : List ℕ) (h : Header) (fine : Fine bs h) (t : Target) (ds : 
       (compute-word (bitsOfList ins) ρ o op g (bitsOf bs s b) (bitsOf bs s c) w m ∙ ap₂ (computed op w) vb vc)) refl
   simple-alive sd g (Simple.Read d array i) k s r q f m a =
       let p = read-fine bs h d array i q in
-      let n : ℕ = h .parameters + k .reads in
+      let n : ℕ = inputNumber h k in
       access-alive sd g array i k s r (state.put r d (entry ins n)) (readInto bs h d k) (p .2) a
       (λ m₁ b. alive-put _ r b d (inBit _) (entry ins n) (p .0) (input-word (bitsOfList ins) ρ _ n (width bs d) (entry ins n) (λ j. refl) f m₁)) refl m
   simple-alive sd g (Simple.Write array i b) k s r q f m a =

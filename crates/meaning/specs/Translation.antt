@@ -6,6 +6,7 @@ use Rattle.header.specs.Header.{width}
 use Rattle.routine.specs.Routine.{Arm}
 use Rattle.header.specs.declared.Header.{Header}
 use Rattle.cnf.specs.Clause.{Clause, flatten}
+use Rattle.faults.specs.Inputs.{given}
 use Rattle.netlist.specs.Literal.{opp}
 use Rattle.netlist.specs.declared.Node.{Node}
 use Rattle.netlist.specs.declared.Node.the-variants.{One}
@@ -29,14 +30,14 @@ parameterLits bs zero = replicate allPlaces 3
 parameterLits bs (suc p) = bitsPut bs (parameterLits bs p) p (inBit (2 + length (parameterNodes bs p)))
 
 -- the beginning: arrival is 2, and there is no claim yet
-unfoldable pub start : List ℕ → (parameters : ℕ) → Wires
-start bs parameters = record { lits = parameterLits bs parameters; arrival = 2; claim = Claim.Open }
+unfoldable pub start : List ℕ → (n : ℕ) → Wires
+start bs n = record { lits = parameterLits bs n; arrival = 2; claim = Claim.Open }
 
 -- variable 1 is true, then come the parameters' bits, then the commands
 unfoldable pub whole : List ℕ → Target → (ds : List ℕ) → Header → Arm → Stretch
 whole bs t ds h a =
-    after (One ∷ parameterNodes bs (h .parameters))
-    (armOf bs h t ds a (2 + length (parameterNodes bs (h .parameters))) (start bs (h .parameters)))
+    after (One ∷ parameterNodes bs (given h))
+    (armOf bs h t ds a (2 + length (parameterNodes bs (given h))) (start bs (given h)))
 
 -- the last two clauses: {arrival}, {-side literal}
 abbrev pub lastClauses : Claim → List Clause

@@ -6,15 +6,16 @@ use lib.ListN.{length}
 use Rattle.bitvec.specs.declared.Whole.{Whole}
 use Rattle.header.specs.declared.Header.{Header}
 use Rattle.faults.specs.declared.Counts.{Counts}
-use Rattle.routine.specs.Decode.{checked}
+use Rattle.routine.specs.Routine.{Arm}
+use Rattle.routine.specs.Decode.{routine, decode, commandsIn, checked}
 use Rattle.routine.specs.Inner.Known.{Counted}
 use Rattle.routine.specs.declared.Checked.{Checked}
 use Rattle.routine.specs.declared.Refusal as declared
-use Rattle.routine.proofs.Accepted.{accepted, refused-by}
+use Rattle.routine.proofs.Accepted.{accepted, refused-by, commands-are}
 use Rattle.lead.specs.declared.Refusal as lead
 use Rattle.lead.specs.declared.Target.{Target}
 use Rattle.witness.specs.Lead.{proofAt}
-use Rattle.witness.specs.Inner.Settles.{Witnesses}
+use Rattle.witness.specs.Witness.{witnessOf}
 use Rattle.witness.specs.declared.Refusal as witness
 use Rattle.witness.specs.declared.Witness.{Witness}
 use Rattle.witness.proofs.Opening.{Lets, lets}
@@ -35,21 +36,25 @@ module _ (bs : List ℕ) (h : Header) (k : Counts) (x : Checked) (is : x ≡ che
 
 -- ---- the witness, then the proof
 
-module _ (bs r : List ℕ) (h : Header) (k : Counts) (m : Room) (w : Witness) (said : Witnesses bs r h k w) where
+-- what is said of the witness is said of the tree that was decoded
+witnessed : (bs r : List ℕ) (h : Header) (a : Arm) (k : Counts) (w : Witness) → w ≡ witnessOf bs r h (commandsIn bs) k → decode bs ≡ routine h a k → w ≡ witnessOf bs r h a k
+witnessed bs r h a k w said d = said ∙ ap (λ (c : Arm). witnessOf bs r h c k) (commands-are bs h a k d)
+
+module _ (bs r : List ℕ) (h : Header) (k : Counts) (m : Room) (w : Witness) (said : w ≡ witnessOf bs r h (commandsIn bs) k) where
   pub claim-refused : (refusal : witness.Refusal) → w ≡ Witness.Refused refusal → Claims bs r h k m (Judged.Refused (Refusal.Witness refusal))
-  claim-refused refusal e = record { tells = λ a d. ap (byWitness bs r m h a k) (sym e ∙ said .tells a d) }
+  claim-refused refusal e = record { tells = λ a d. ap (byWitness bs r m h a k) (sym e ∙ witnessed bs r h a k w said d) }
 
   module _ (t : Target) (array : ℕ) (index : Whole) (e : w ≡ Witness.Stands t array index) where
     pub claim-proved : (p : Proved) → Proves bs r h k t m p → (j : Judged) → j ≡ byProof bs h t array index p → Claims bs r h k m j
     claim-proved p proves j is = record {
-      tells = λ a d. is ∙ ap (byProof bs h t array index) (proves .tells a d) ∙ ap (byWitness bs r m h a k) (sym e ∙ said .tells a d);
+      tells = λ a d. is ∙ ap (byProof bs h t array index) (proves .tells a d) ∙ ap (byWitness bs r m h a k) (sym e ∙ witnessed bs r h a k w said d);
     }
 
 -- a report whose witness stands is long enough for its lead, and not too long
-module _ (bs r : List ℕ) (h : Header) (k : Counts) (w : Witness) (said : Witnesses bs r h k w) (t : Target) (array : ℕ) (index : Whole)
+module _ (bs r : List ℕ) (h : Header) (k : Counts) (w : Witness) (said : w ≡ witnessOf bs r h (commandsIn bs) k) (t : Target) (array : ℕ) (index : Whole)
     (e : w ≡ Witness.Stands t array index) (i : Counted bs h k) where
   let-through : Lets r h k t
-  let-through = lets r h k t _ (sym (stood bs r h (i .commands) k t array index (sym (said .tells (i .commands) (i .decodes)) ∙ e) .opens)) refl
+  let-through = lets r h k t _ (sym (stood bs r h (i .commands) k t array index (sym (witnessed bs r h (i .commands) k w said (i .decodes)) ∙ e) .opens)) refl
 
   pub claim-long : proofAt h k ≤ length r
   claim-long = let-through .long

@@ -10,7 +10,7 @@ use borrow.Author.Tests.{eqb-true, leb-true}
 use Rattle.slices.specs.Guard.{unless}
 use Rattle.header.specs.Header.{headerOf, firstCommand}
 use Rattle.routine.specs.Routine.{Arm, Parsed, refused, parsed, arm}
-use Rattle.routine.specs.Decode.{Decoded, rejected, routine, noCounts, decodeArm, decodeHead, decode, answer, checked}
+use Rattle.routine.specs.Decode.{Decoded, rejected, routine, noCounts, decodeArm, decodeHead, decode, commandsOf, commandsIn, answer, checked}
 use Rattle.routine.specs.Inner.Stands.{Stands}
 use Rattle.header.specs.declared.Header.{Header}
 use Rattle.header.specs.declared.Head.{Head}
@@ -51,6 +51,11 @@ module _ (bs : List ℕ) where
   pub decoded : (h : Header) (a : Arm) (k : Counts) → decode bs ≡ routine h a k → Whole bs h a k
   unfolding decode
   decoded h a k e = subst Of-decoded e (of-decode (leb 1 (length bs)) (leb (length bs) 4096) refl refl)
+
+  -- the commands that were decoded are those that the bytes have
+  pub commands-are : (h : Header) (a : Arm) (k : Counts) → decode bs ≡ routine h a k → commandsIn bs ≡ a
+  unfolding commandsIn
+  commands-are h a k e = ap commandsOf e
 
   -- what `check` accepted was decoded
   pub record Accepted (h : Header) (k : Counts) : Type 0 where

@@ -8,7 +8,7 @@ use lib.Dec.{leb, eqb}
 use Rattle.slices.specs.Guard.{unless}
 use Rattle.header.specs.Header.{headerOf, firstCommand}
 pub use Rattle.faults.specs.Step.{noCounts}
-use Rattle.routine.specs.Routine.{Arm, Parsed, refused, parsed, arm}
+use Rattle.routine.specs.Routine.{Arm, done, Parsed, refused, parsed, arm}
 use Rattle.header.specs.declared.Header.{Header}
 use Rattle.header.specs.declared.Head.{Head}
 use Rattle.faults.specs.declared.Counts.{Counts}
@@ -34,6 +34,15 @@ decodeHead bs (Head.Whole h) = decodeArm bs h (arm bs h 0 0x00 (firstCommand h) 
 unfoldable pub decode : List ℕ → Decoded
 unfolding unless
 decode bs = unless (leb 1 (length bs) && leb (length bs) 4096) (rejected Refusal.Length) (decodeHead bs (headerOf bs))
+
+-- the commands of a routine; bytes that are no routine have none
+abbrev pub commandsOf : Decoded → Arm
+commandsOf (rejected refusal) = done
+commandsOf (routine h a k) = a
+
+-- the commands that the bytes have
+unfoldable pub commandsIn : List ℕ → Arm
+commandsIn bs = commandsOf (decode bs)
 
 -- the answer: a routine is accepted with its header and its counts
 abbrev pub answer : Decoded → Checked

@@ -1,5 +1,5 @@
 -- Whether there is a run, from what the calls answered. Assumes nothing.
-use mathlib.Core.Path.{_≡_, refl, sym, _∙_}
+use mathlib.Core.Path.{_≡_, refl, sym, ap, _∙_}
 use mathlib.Core.List.{List}
 use mathlib.Core.Bool.{Bool, true, false, cond}
 use Prim.Native.Nat.{ℕ, _≤_}
@@ -8,18 +8,18 @@ use lib.ListN.{length}
 use lib.Dec.{leb}
 use borrow.Author.Tests.{leb-true}
 use Rattle.routine.specs.Routine.{Arm, done}
-use Rattle.routine.specs.Decode.{Decoded, rejected, routine, decode, checked, IsRoutine}
+use Rattle.routine.specs.Decode.{Decoded, rejected, routine, decode, commandsIn, checked, IsRoutine}
 use Rattle.header.specs.declared.Header.{Header}
 use Rattle.faults.specs.declared.Counts.{Counts}
 use Rattle.routine.specs.declared.Checked.{Checked}
 use Rattle.routine.specs.declared.Refusal as declared
-use Rattle.routine.proofs.Accepted.{accepted, refused-by, decoded}
+use Rattle.routine.specs.Inner.Known.{Counted}
+use Rattle.routine.proofs.Accepted.{accepted, refused-by, decoded, commands-are}
 use Rattle.routine.proofs.Counting.{few-ifs}
 use Rattle.faults.proofs.Fine.{fine}
 use Rattle.inputs.specs.Inputs.{listed}
 use Rattle.machine.specs.State.{over}
-use Rattle.run.specs.Inner.Walker.{RunsRoutine}
-use Rattle.inputs.specs.Inner.Scan.{Lists}
+use Rattle.run.specs.Run.{runOf}
 use Rattle.run.specs.Answer.{Admission, refused, runs, byList, byRoutine, admission, ranBy, answer, Answers}
 use Rattle.run.specs.Inner.Admitted.{withoutTree, admittedRoom, admitted}
 use Rattle.inputs.specs.declared.Listed.{Listed}
@@ -32,8 +32,8 @@ use Rattle.run.specs.declared.Ran.{Ran}
 -- ---- the routine
 
 module _ (bs : List ℕ) (h : Header) (k : Counts) (r : Checked) (is : r ≡ checked bs) (e : r ≡ Checked.Accepted h k) where
-  pub is-routine : IsRoutine bs h
-  is-routine = let x = accepted bs h k r is e in record { commands = x .arm; counts = k; decodes = x .decodes }
+  pub is-counted : Counted bs h k
+  is-counted = let x = accepted bs h k r is e in record { commands = x .arm; decodes = x .decodes }
 
   pub decodes-to : decode bs ≡ routine h (accepted bs h k r is e .arm) k
   decodes-to = accepted bs h k r is e .decodes
@@ -53,10 +53,13 @@ module _ (bs ins : List ℕ) (values trail : ℕ) where
   room-alone h a k true false = refl
   room-alone h a k false c = refl
 
-  module _ (h : Header) (k : Counts) (r : Checked) (is : r ≡ checked bs) (e : r ≡ Checked.Accepted h k) (l : Listed) (by : Lists bs ins h k l) where
+  module _ (h : Header) (k : Counts) (r : Checked) (is : r ≡ checked bs) (e : r ≡ Checked.Accepted h k) (l : Listed) (by : l ≡ listed bs ins h (commandsIn bs) k) where
     admitted-by : (x : Listed) → l ≡ x → admitted bs ins values trail ≡ withoutTree (byList (length ins) values trail h (accepted bs h k r is e .arm) k x)
     unfolding admitted admission
-    admitted-by x q = rw (decodes-to bs h k r is e, ← by .tells _ (decodes-to bs h k r is e), q)
+    admitted-by x q =
+        let d = decodes-to bs h k r is e in
+        let z : listed bs ins h (accepted bs h k r is e .arm) k ≡ x = ap (λ (a : Arm). listed bs ins h a k) (sym (commands-are bs h _ k d)) ∙ sym by ∙ q in
+        rw (d, z)
 
     pub roomed : l ≡ Listed.Accepted → admittedRoom values trail h k ≡ admitted bs ins values trail
     unfolding admittedRoom
@@ -142,10 +145,11 @@ module _ (bs ins values trail : List ℕ) (r : Admitted) (is : r ≡ admitted bs
   unfolding answer
   answers-refusal refusal e = record { equal = rw (refuses bs ins (length values) (length trail) refusal r is e) }
 
-  pub answers-run : (h : Header) (k : Counts) → r ≡ Admitted.Runs h k → (s : State) → RunsRoutine bs ins h s → (q : Ran) (values₁ trail₁ : List ℕ)
+  pub answers-run : (h : Header) (k : Counts) → r ≡ Admitted.Runs h k → (s : State) → s ≡ runOf bs ins h (commandsIn bs) .state → (q : Ran) (values₁ trail₁ : List ℕ)
       → q ≡ ranBy (s .outcome) → values₁ ≡ over (h .variables) (s .values) values → trail₁ ≡ over (k .ifs) (s .trail) trail
       → Answers bs ins values trail values₁ trail₁ q
   unfolding answer
   answers-run h k e s x q values₁ trail₁ u v w =
       let a = run-admits bs ins (length values) (length trail) r is h k e in
-      record { equal = rw (a .admits, ← x .tells _ k (a .decodes), u, v, w) }
+      let z : s ≡ runOf bs ins h (a .commands) .state = x ∙ ap (λ (c : Arm). runOf bs ins h c .state) (commands-are bs h (a .commands) k (a .decodes)) in
+      record { equal = rw (a .admits, ← z, u, v, w) }

@@ -8,6 +8,7 @@ use Rattle.bitvec.specs.declared.Whole.{Whole}
 use Rattle.header.specs.Header.{arraySize}
 use Rattle.header.specs.declared.Header.{Header}
 use Rattle.faults.specs.Step.{accesses}
+use Rattle.faults.specs.Inputs.{given}
 use Rattle.faults.specs.declared.Counts.{Counts}
 use Rattle.command.specs.declared.Simple.{Simple}
 use Rattle.routine.specs.Routine.{Arm, done, plain, fork}
@@ -89,4 +90,4 @@ module _ (bs : List ℕ) (h : Header) where
     -- the run of a routine
     pub ends : (a : Arm) → EndsIn (runOf bs ins h a)
     unfolding runOf
-    ends a = ends-arm a (start ins (h .parameters))
+    ends a = ends-arm a (start ins (given h))

@@ -8,8 +8,9 @@ use lib.ListN.{length}
 use Rattle.command.specs.Command.{sizeOfSimple, commandAt}
 use Rattle.header.specs.Header.{firstCommand}
 use Rattle.faults.specs.Step.{after, oneIf, accesses}
+use Rattle.faults.specs.Inputs.{given}
 use Rattle.routine.specs.Routine.{Arm}
-use Rattle.routine.specs.Decode.{noCounts, IsRoutine}
+use Rattle.routine.specs.Decode.{noCounts, commandsIn, IsRoutine}
 use Rattle.routine.specs.Inner.Stands.{Stands, SomeArm, SomeIf}
 use Rattle.faults.specs.Inner.Sound.{Fine}
 use Rattle.routine.specs.Inner.Passes.{Passes}
@@ -20,14 +21,14 @@ use Rattle.command.specs.declared.Simple.{Simple}
 use Rattle.command.specs.declared.Command.{Command}
 use Rattle.routine.specs.declared.Passed.{Passed}
 use Rattle.routine.proofs.Views.{by-if}
-use Rattle.routine.proofs.Accepted.{decoded}
+use Rattle.routine.proofs.Accepted.{decoded, commands-are}
 use Rattle.faults.proofs.Fine.{fine}
 use Rattle.routine.proofs.Walking as walking
 use Rattle.routine.proofs.Standing.{if-ends, second-at}
 use Rattle.machine.specs.State.{start, take, holds, carry}
 use Rattle.run.specs.Run as run
 use Rattle.run.specs.Run.{Event, Stretch, unlessStopped, andThen, eventsAt, runArm, runOf}
-use Rattle.run.specs.Inner.Walker.{isOver, reachedAt, Arrives, RunsArm, RunsIf, ranIf, RunsRoutine}
+use Rattle.run.specs.Inner.Walker.{isOver, reachedAt, Arrives, RunsArm, RunsIf, ranIf}
 use Rattle.machine.specs.declared.Outcome.{Outcome}
 use Rattle.machine.specs.declared.State.{State}
 use Rattle.run.specs.declared.Reached.{Reached}
@@ -234,10 +235,10 @@ module _ (bs : List ℕ) (h : Header) (i : IsRoutine bs h) where
       let w = decoded bs h (i .commands) (i .counts) (i .decodes) in
       rw e (record { arm = i .commands; end = length bs; after = i .counts; stands = w .stands })
 
-pub ran-whole : (bs ins : List ℕ) (h : Header) (at : ℕ) (s : State) (r : Reached) → at ≡ firstCommand h → s ≡ start ins (h .parameters)
-    → RunsArm bs ins h 0 0 (reachedAt at noCounts s) r → RunsRoutine bs ins h (r .state)
+pub ran-whole : (bs ins : List ℕ) (h : Header) (i : IsRoutine bs h) (at : ℕ) (s : State) (r : Reached) → at ≡ firstCommand h → s ≡ start ins (given h)
+    → RunsArm bs ins h 0 0 (reachedAt at noCounts s) r → r .state ≡ runOf bs ins h (commandsIn bs) .state
 unfolding runOf
-ran-whole bs ins h at s r e q x = record {
-  tells = λ a k d.
-      x .tells a (length bs) k (rw e (decoded bs h a k d .stands)) .state ∙ ap (λ (y : State). runArm bs ins h a y .state) q;
-}
+ran-whole bs ins h i at s r e q x =
+    rw (commands-are bs h (i .commands) (i .counts) (i .decodes))
+    (x .tells (i .commands) (length bs) (i .counts) (rw e (decoded bs h (i .commands) (i .counts) (i .decodes) .stands)) .state
+    ∙ ap (λ (y : State). runArm bs ins h (i .commands) y .state) q)

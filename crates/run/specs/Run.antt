@@ -4,6 +4,7 @@ use mathlib.Core.List.{List, [], _∷_, _++_}
 use mathlib.Core.Bool.{cond}
 use Rattle.bitvec.specs.declared.Whole.{Whole}
 use Rattle.faults.specs.Step.{accesses}
+use Rattle.faults.specs.Inputs.{given}
 use Rattle.routine.specs.Routine.{Arm, done, plain, fork}
 use Rattle.header.specs.declared.Header.{Header}
 use Rattle.faults.specs.declared.Counts.{Counts}
@@ -62,4 +63,4 @@ runArm bs ins h (fork at c k first second rest) s =
 
 -- the run of a routine on an input list
 unfoldable pub runOf : (bs ins : List ℕ) → Header → Arm → Stretch
-runOf bs ins h a = runArm bs ins h a (start ins (h .parameters))
+runOf bs ins h a = runArm bs ins h a (start ins (given h))

@@ -8,6 +8,7 @@ use command::commands::simple_size;
 use faults::Counts;
 use faults::steps::counts_after;
 use faults::steps::counts_after_if;
+use faults::words::given_of;
 use header::Header;
 use header::first_command;
 use machine::Outcome;
@@ -16,10 +17,11 @@ use routine::walks::pass_arm;
 ghost use mathlib.Core.Path.{_≡_};
 ghost use Prim.Native.Nat.{_<_};
 ghost use Rattle.faults.specs.Step.{oneIf};
-ghost use Rattle.routine.specs.Decode.{IsRoutine};
+ghost use Rattle.routine.specs.Decode.{IsRoutine, commandsIn};
 ghost use Rattle.routine.specs.Inner.Stands.{SomeArm, SomeIf};
 ghost use Rattle.faults.specs.Inner.Sound.{SoundIf, Fine};
-ghost use Rattle.run.specs.Inner.Walker.{isOver, reachedAt, RunsArm, RunsIf, RunsRoutine};
+ghost use Rattle.run.specs.Inner.Walker.{isOver, reachedAt, RunsArm, RunsIf};
+ghost use Rattle.run.specs.Run.{runOf};
 ghost use Rattle.run.specs.Answer.{ranBy};
 
 // Runs the arm that stands where the walk is, inside `depth` ifs and ended by the command byte `close`.
@@ -115,14 +117,14 @@ fn is_over(s: State) -> bool
 // The state that the run of a whole routine leaves.
 pub fn run_from_start(routine: &[u8], inputs: &[u32], h: Header) -> State
     requires { ⌜ IsRoutine (now routine) h ⌝ }
-    ensures { λ r. ⌜ RunsRoutine (now (routine .entry)) (now (inputs .entry)) h r ⌝ }
+    ensures { λ r. ⌜ r ≡ runOf (now (routine .entry)) (now (inputs .entry)) h (commandsIn (now (routine .entry))) .state ⌝ }
 {
     let none = Counts {
         ifs: 0,
         reads: 0,
         writes: 0,
     };
-    let start = reached(first_command(h), none, State::begin(inputs, h.parameters));
+    let start = reached(first_command(h), none, State::begin(inputs, given_of(h)));
     let r = run_arm(routine, inputs, h, 0, 0x00, start);
     r.state
 }

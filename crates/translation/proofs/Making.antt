@@ -11,6 +11,7 @@ use Rattle.routine.specs.Decode.{routine, decode, IsRoutine}
 use Rattle.faults.specs.Inner.Sound.{Fine}
 use Rattle.header.specs.declared.Header.{Header}
 use Rattle.faults.specs.declared.Counts.{Counts}
+use Rattle.faults.specs.Inputs.{given}
 use Rattle.routine.proofs.Accepted.{decoded}
 use Rattle.faults.proofs.Fine.{fine}
 use Rattle.cnf.specs.Clause.{Clause}
@@ -44,10 +45,10 @@ module _ {bs : List ℕ} {h : Header} (i : IsRoutine bs h) {w u w₁ u₁ : List
   pub begin-ready : Ready n₁ 2048
   begin-ready = let r : Ready empty 2049 = record { words = omega arith; clauses = omega arith; next = omega arith } in ready-after 2048 p r (omega arith)
 
-  module _ {n : Net} {l : List ℕ} (b : Begun bs n₁ (h .parameters) l n) where
+  module _ {n : Net} {l : List ℕ} (b : Begun bs n₁ (given h) l n) where
     -- where the commands begin
-    from : n .next ≡ 2 + length (parameterNodes bs (h .parameters))
-    from = b .emitted w₁ u₁ .next ∙ ap (λ (g : ℕ). g + length (parameterNodes bs (h .parameters))) (p .next)
+    from : n .next ≡ 2 + length (parameterNodes bs (given h))
+    from = b .emitted w₁ u₁ .next ∙ ap (λ (g : ℕ). g + length (parameterNodes bs (given h))) (p .next)
 
     ready-here : Ready n 1024
     ready-here = ready-after 1024 (b .emitted w₁ u₁) begin-ready (omega (arith, parameters-few bs h (fine-here bs h i)))
@@ -63,7 +64,7 @@ module _ {bs : List ℕ} {h : Header} (i : IsRoutine bs h) {w u w₁ u₁ : List
       whole-roomy {at} e = record {
         some = record { arm = i .commands; end = length bs; after = i .counts; stands = rw e (decoded bs h (i .commands) (i .counts) (i .decodes) .stands) };
         room = room-for t ds at (i .commands) (i .counts) (i .decodes);
-        places = ap length (b .lits) ∙ parameters-length bs (h .parameters);
+        places = ap length (b .lits) ∙ parameters-length bs (given h);
       }
 
       module _ {w₂ u₂ l₂ : List ℕ} {at : ℕ} (e : at ≡ firstCommand h) {r : Walk} (x : ArmMade bs h t ds 0 0 w₁ u₁ l (beginning at n) w₂ u₂ l₂ r) where
@@ -84,7 +85,7 @@ module _ {bs : List ℕ} {h : Header} (i : IsRoutine bs h) {w u w₁ u₁ : List
             X = whole bs t ds h a
 
             Y : Stretch
-            Y = armOf bs h t ds a (2 + length (parameterNodes bs (h .parameters))) (start bs (h .parameters))
+            Y = armOf bs h t ds a (2 + length (parameterNodes bs (given h))) (start bs (given h))
 
             arm-is : armOf bs h t ds a (n .next) (wiresAt l (beginning at n)) ≡ Y
             unfolding Y start
@@ -93,13 +94,13 @@ module _ {bs : List ℕ} {h : Header} (i : IsRoutine bs h) {w u w₁ u₁ : List
             arm-there : Arrives w₁ u₁ n Y (length bs) k w₂ u₂ l₂ r
             arm-there = subst (λ (z : Stretch). Arrives w₁ u₁ n z (length bs) k w₂ u₂ l₂ r) arm-is (arrives a k d)
 
-            nodes-made : Emitted w u empty (One ∷ (parameterNodes bs (h .parameters) ++ Y .nodes)) w₂ u₂ (r .net)
+            nodes-made : Emitted w u empty (One ∷ (parameterNodes bs (given h) ++ Y .nodes)) w₂ u₂ (r .net)
             nodes-made = emitted-then p (emitted-then (b .emitted w₁ u₁) (arm-there .emitted))
 
             all-made : Appended w u noStore (clausesOfAll X) w₃ u₃ all
             unfolding clausesOfAll whole X Y
             all-made =
-                subst (λ (cs : List Clause). Appended w u noStore (clausesOf 1 (One ∷ (parameterNodes bs (h .parameters) ++ Y .nodes)) ++ cs) w₃ u₃ all)
+                subst (λ (cs : List Clause). Appended w u noStore (clausesOf 1 (One ∷ (parameterNodes bs (given h) ++ Y .nodes)) ++ cs) w₃ u₃ all)
                 (ap lastClauses (arm-there .claim))
                 (appended-then (nodes-made .store) c)
 

@@ -8,6 +8,7 @@ use lib.ListN.{length, length-append}
 use lib.Seq.{length-sets}
 use Rattle.header.specs.Header.{width}
 use Rattle.faults.specs.Inner.Sound.{Fine}
+use Rattle.faults.specs.Inputs.{given}
 use Rattle.header.specs.declared.Header.{Header}
 use Rattle.netlist.specs.declared.Node.{Node}
 use Rattle.netlist.specs.Inner.Emit.{Emitted}
@@ -21,7 +22,7 @@ use Rattle.meaning.specs.Translation.{parameterNodes, parameterLits}
 use Rattle.wires.specs.Wires.{allPlaces, bitsPut}
 use Rattle.wires.proofs.Ranges.{ranged}
 
-pub some-few : (bs : List ℕ) (h : Header) → Fine bs h → (p : ℕ) → p ≤ h .parameters → length (parameterNodes bs p) ≤ 32 * p
+pub some-few : (bs : List ℕ) (h : Header) → Fine bs h → (p : ℕ) → p ≤ given h → length (parameterNodes bs p) ≤ 32 * p
 unfolding parameterNodes
 some-few bs h f zero l = omega arith
 some-few bs h f (suc p) l =

@@ -13,6 +13,7 @@ use wires::literals::store_bits;
 ghost use mathlib.Core.Path.{_≡_};
 ghost use lib.ListN.{replicate};
 ghost use Rattle.faults.specs.Inner.Sound.{Fine};
+ghost use Rattle.faults.specs.Inputs.{given};
 ghost use Rattle.netlist.specs.Inner.Emit.{Ready};
 ghost use Rattle.wires.specs.Wires.{allPlaces};
 ghost use Rattle.walking.specs.Inner.Walker.{Begun, beginning};
@@ -22,7 +23,7 @@ pub fn begin(lits: &mut [u32], n: Net, bytes: &[u8], h: Header) -> Net
     requires { ⌜ now lits ≡ replicate allPlaces 3 ⌝ }
     requires { ⌜ Ready n 2048 × (n .next ≡ 2) ⌝ }
     requires { ⌜ Fine (now bytes) h ⌝ }
-    ensures { λ r. ⌜ Begun (now (bytes .entry)) n (h .parameters) (now (lits .exit)) r ⌝ }
+    ensures { λ r. ⌜ Begun (now (bytes .entry)) n (given h) (now (lits .exit)) r ⌝ }
 {
     let mut net = n;
     let mut p = 0;

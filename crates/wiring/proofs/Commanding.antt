@@ -11,6 +11,7 @@ use lib.Dec.{eqb}
 use borrow.Author.Tests.{eq-eqb, ne-eqb}
 use Rattle.header.specs.Header.{width, arraySize}
 use Rattle.faults.specs.Step.{accesses}
+use Rattle.faults.specs.Inputs.{inputNumber}
 use Rattle.header.specs.declared.Header.{Header}
 use Rattle.faults.specs.declared.Counts.{Counts}
 use Rattle.command.specs.declared.Simple.{Simple}
@@ -110,7 +111,7 @@ pub read-makes : {w u w₁ u₁ l₁ : List ℕ} {n : Net} {x : Stretch} {m : Ma
     → (l₂ : List ℕ) → l₂ ≡ bitsPut bs l₁ d (inBit (m .net .next))
     → Makes w u n (after (x .nodes) (readInto bs h d k (n .next + length (x .nodes)) (x .wires))) w₁ u₁ l₂ (record { net = n₁; reach = m .reach })
 read-makes {w₁ = w₁} {u₁ = u₁} {n = n} {x = x} {m} bs h d k p wd e n₁ q l₂ z = record {
-  emitted = emitted-then (p .emitted) (rw e at (q .tells w₁ u₁ (h .parameters + k .reads)));
+  emitted = emitted-then (p .emitted) (rw e at (q .tells w₁ u₁ (inputNumber h k)));
   wires = ap (λ (l : List ℕ). wiresOf l (m .reach)) z ∙ (λ j. put bs (p .wires j) d (inBit (p .emitted .next j)));
 }
 

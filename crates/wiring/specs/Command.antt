@@ -6,6 +6,7 @@ use lib.ListN.{length}
 use lib.Dec.{eqb}
 use Rattle.header.specs.Header.{width, arraySize}
 use Rattle.faults.specs.Step.{accesses}
+use Rattle.faults.specs.Inputs.{inputNumber}
 use Rattle.header.specs.declared.Header.{Header}
 use Rattle.faults.specs.declared.Counts.{Counts}
 use Rattle.command.specs.declared.Simple.{Simple}
@@ -51,7 +52,7 @@ access bs h t g array i k s go =
 
 -- the bits of a read take the next variables: they are those of the input word of its number
 abbrev pub readInto : List ℕ → Header → (d : ℕ) → Counts → (g : ℕ) → Wires → Stretch
-readInto bs h d k g s = record { nodes = inputs (h .parameters + k .reads) (width bs d); wires = put bs s d (inBit g) }
+readInto bs h d k g s = record { nodes = inputs (inputNumber h k) (width bs d); wires = put bs s d (inBit g) }
 
 -- a command that is no if, the next variable being g
 unfoldable pub simple : List ℕ → Header → Target → (g : ℕ) → Simple → Counts → Wires → Stretch

@@ -18,7 +18,8 @@ use Rattle.routine.specs.Inner.Known.{Counted}
 use Rattle.routine.proofs.Accepted.{decoded}
 use Rattle.routine.proofs.Counting.{few-accesses}
 use Rattle.faults.proofs.Fine.{fine}
-use Rattle.witness.specs.Lead.{targetIn, decisionsIn, inputCount, proofAt, byAdmitted, leadOf}
+use Rattle.faults.specs.Inputs.{inputCount}
+use Rattle.witness.specs.Lead.{targetIn, decisionsIn, proofAt, byAdmitted, leadOf}
 use Rattle.witness.specs.declared.Refusal.{Refusal}
 use Rattle.witness.specs.declared.Opened.{Opened}
 

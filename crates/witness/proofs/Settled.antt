@@ -6,18 +6,15 @@ use lib.ListN.{length, take}
 use Rattle.header.specs.declared.Header.{Header}
 use Rattle.faults.specs.declared.Counts.{Counts}
 use Rattle.routine.specs.Routine.{Arm}
-use Rattle.routine.specs.Decode.{routine, decode}
 use Rattle.inputs.specs.Inputs.{listed}
 use Rattle.run.specs.Run.{runOf}
-use Rattle.inputs.specs.Inner.Scan.{Lists}
 use Rattle.inputs.specs.declared.Listed.{Listed}
 use Rattle.course.specs.Course.{course}
-use Rattle.course.specs.Inner.Walker.{FollowsRoutine}
 use Rattle.course.specs.declared.Course.{Course}
 use Rattle.lead.specs.declared.Target.{Target}
-use Rattle.witness.specs.Lead.{decisionsIn, wordsFrom, inputCount, witnessIn, leadOf}
+use Rattle.faults.specs.Inputs.{inputCount}
+use Rattle.witness.specs.Lead.{decisionsIn, wordsFrom, witnessIn, leadOf}
 use Rattle.witness.specs.Witness.{byCourse, byOpened, witnessOf}
-use Rattle.witness.specs.Inner.Settles.{Witnesses, Settles}
 use Rattle.witness.specs.declared.Opened.{Opened}
 use Rattle.witness.specs.declared.Refusal.{Refusal}
 use Rattle.witness.specs.declared.Witness.{Witness}
@@ -37,32 +34,30 @@ module _ (r : List ℕ) (h : Header) (k : Counts) (n : ℕ) (is : n ≡ inputCou
 
 -- ---- the witness's run
 
-module _ (bs r : List ℕ) (h : Header) (k : Counts) (t : Target) (ins : List ℕ) (same : ins ≡ witnessIn r h k) (l : Listed) (lists : Lists bs ins h k l) where
-  said : (x : Listed) → l ≡ x → (a : Arm) → decode bs ≡ routine h a k → listed bs (witnessIn r h k) h a k ≡ x
-  said x e a d = ap (λ (z : List ℕ). listed bs z h a k) (sym same) ∙ sym (lists .tells a d) ∙ e
+module _ (bs r : List ℕ) (h : Header) (a : Arm) (k : Counts) (t : Target) (ins : List ℕ) (same : ins ≡ witnessIn r h k) (l : Listed) (lists : l ≡ listed bs ins h a k) where
+  said : (x : Listed) → l ≡ x → listed bs (witnessIn r h k) h a k ≡ x
+  said x e = ap (λ (z : List ℕ). listed bs z h a k) (sym same) ∙ sym lists ∙ e
 
-  pub settled : l ≡ Listed.Accepted → (ds : List ℕ) → ds ≡ decisionsIn r k → (x : Course) → FollowsRoutine bs ins ds (t .access) h x
-      → (w : Witness) → w ≡ byCourse bs h t x → Settles bs r h k t w
-  settled e ds by x follows w is = record {
-    tells = λ a d.
-        rw (said Listed.Accepted e a d)
-        (is ∙ ap (byCourse bs h t) (follows .tells a k d ∙ ap (λ (z : List ℕ). course z (t .access) (runOf bs ins h a .events)) by
-        ∙ ap (λ (z : List ℕ). course (decisionsIn r k) (t .access) (runOf bs z h a .events)) same));
-  }
+  pub settled : l ≡ Listed.Accepted → (ds : List ℕ) → ds ≡ decisionsIn r k → (x : Course) → x ≡ course ds (t .access) (runOf bs ins h a .events)
+      → (w : Witness) → w ≡ byCourse bs h t x → w ≡ byOpened bs r h a k (Opened.Opens t)
+  settled e ds by x follows w is =
+      rw (said Listed.Accepted e)
+      (is ∙ ap (byCourse bs h t) (follows ∙ ap (λ (z : List ℕ). course z (t .access) (runOf bs ins h a .events)) by
+      ∙ ap (λ (z : List ℕ). course (decisionsIn r k) (t .access) (runOf bs z h a .events)) same))
 
-  pub settled-cut : l ≡ Listed.Miscounted → Settles bs r h k t (Witness.Refused (Refusal.Cut (length r)))
-  settled-cut e = record { tells = λ a d. rw (said Listed.Miscounted e a d) refl }
+  pub settled-cut : l ≡ Listed.Miscounted → Witness.Refused (Refusal.Cut (length r)) ≡ byOpened bs r h a k (Opened.Opens t)
+  settled-cut e = rw (said Listed.Miscounted e) refl
 
-  pub settled-great : (n : ℕ) → l ≡ Listed.TooGreat n → Settles bs r h k t (Witness.Refused (Refusal.Input n))
-  settled-great n e = record { tells = λ a d. rw (said (Listed.TooGreat n) e a d) refl }
+  pub settled-great : (n : ℕ) → l ≡ Listed.TooGreat n → Witness.Refused (Refusal.Input n) ≡ byOpened bs r h a k (Opened.Opens t)
+  settled-great n e = rw (said (Listed.TooGreat n) e) refl
 
 -- ---- the whole
 
-module _ (bs r : List ℕ) (h : Header) (k : Counts) (x : Opened) (is : x ≡ leadOf r h k) where
-  pub witness-refused : (refusal : Refusal) → x ≡ Opened.Refused refusal → Witnesses bs r h k (Witness.Refused refusal)
+module _ (bs r : List ℕ) (h : Header) (a : Arm) (k : Counts) (x : Opened) (is : x ≡ leadOf r h k) where
+  pub witness-refused : (refusal : Refusal) → x ≡ Opened.Refused refusal → Witness.Refused refusal ≡ witnessOf bs r h a k
   unfolding witnessOf
-  witness-refused refusal e = record { tells = λ a d. ap (byOpened bs r h a k) (sym e ∙ is) }
+  witness-refused refusal e = ap (byOpened bs r h a k) (sym e ∙ is)
 
-  pub witness-settled : (t : Target) → x ≡ Opened.Opens t → (w : Witness) → Settles bs r h k t w → Witnesses bs r h k w
+  pub witness-settled : (t : Target) → x ≡ Opened.Opens t → (w : Witness) → w ≡ byOpened bs r h a k (Opened.Opens t) → w ≡ witnessOf bs r h a k
   unfolding witnessOf
-  witness-settled t e w s = record { tells = λ a d. s .tells a d ∙ ap (byOpened bs r h a k) (sym e ∙ is) }
+  witness-settled t e w s = s ∙ ap (byOpened bs r h a k) (sym e ∙ is)

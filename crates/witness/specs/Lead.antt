@@ -7,6 +7,7 @@ use Rattle.slices.specs.Bytes.{entry, word}
 use Rattle.slices.specs.Guard.{unless}
 use Rattle.header.specs.declared.Header.{Header}
 use Rattle.faults.specs.declared.Counts.{Counts}
+use Rattle.faults.specs.Inputs.{inputCount}
 use Rattle.lead.specs.Lead.{targetOf, admittedLead}
 use Rattle.lead.specs.declared.Target.{Target}
 use Rattle.lead.specs.declared.Admitted.{Admitted}
@@ -25,10 +26,6 @@ decisionsIn r k = take (k .ifs) (drop 2 r)
 unfoldable pub wordsFrom : List ℕ → (at n : ℕ) → List ℕ
 wordsFrom r at zero = []
 wordsFrom r at (suc n) = word r at ∷ wordsFrom r (at + 4) n
-
--- how many inputs the routine takes: one for each parameter and each read
-abbrev pub inputCount : Header → Counts → ℕ
-inputCount h k = h .parameters + k .reads
 
 -- the witness: the input list in the lead
 abbrev pub witnessIn : List ℕ → Header → Counts → List ℕ

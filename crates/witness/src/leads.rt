@@ -2,20 +2,14 @@
 use crate::Opened;
 use crate::Refusal;
 use faults::Counts;
+use faults::words::input_count;
 use header::Header;
 use lead::Admitted;
 use lead::Target;
 use lead::admit_lead;
 ghost use mathlib.Core.Path.{_≡_};
 ghost use Prim.Native.Nat.{_+_};
-ghost use Rattle.witness.specs.Lead.{inputCount, proofAt, leadOf};
-
-// One input for each parameter and each read.
-pub fn input_count(h: Header, k: Counts) -> usize
-    ensures { λ r. ⌜ r ≡ inputCount h k ⌝ }
-{
-    h.parameters as usize + k.reads as usize
-}
+ghost use Rattle.witness.specs.Lead.{proofAt, leadOf};
 
 // Where the proof begins.
 pub fn proof_at(h: Header, k: Counts) -> usize

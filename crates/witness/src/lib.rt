@@ -7,8 +7,10 @@ use bitvec::Whole;
 use faults::Counts;
 use header::Header;
 use lead::Target;
+ghost use mathlib.Core.Path.{_≡_};
+ghost use Rattle.routine.specs.Decode.{commandsIn};
 ghost use Rattle.routine.specs.Inner.Known.{Counted};
-ghost use Rattle.witness.specs.Inner.Settles.{Witnesses};
+ghost use Rattle.witness.specs.Witness.{witnessOf};
 
 // Why a report is turned down before its proof is looked at.
 pub enum Refusal {
@@ -44,7 +46,7 @@ pub enum Witness {
 // Looks at the lead of a report on a routine with these counts, and runs its witness as far as the named access.
 pub fn run_witness(routine: &[u8], report: &[u8], h: Header, k: Counts) -> Witness
     requires { ⌜ Counted (now routine) h k ⌝ }
-    ensures { λ r. ⌜ Witnesses (now (routine .entry)) (now (report .entry)) h k r ⌝ }
+    ensures { λ r. ⌜ r ≡ witnessOf (now (routine .entry)) (now (report .entry)) h (commandsIn (now (routine .entry))) k ⌝ }
 {
     match leads::open(report, h, k) {
         Opened::Refused(refusal) => Witness::Refused(refusal),

@@ -1,11 +1,11 @@
 // The witness's run: 10, 13 or 14, then 15.
 use crate::Refusal;
 use crate::Witness;
-use crate::leads::input_count;
 use crate::listing::words_from;
 use course::Course;
 use course::follow;
 use faults::Counts;
+use faults::words::input_count;
 use header::Header;
 use header::size_of_array;
 use inputs::Listed;
@@ -17,10 +17,12 @@ use machine::states::lies_at;
 ghost use mathlib.Core.Path.{_≡_};
 ghost use Prim.Native.Nat.{_≤_};
 ghost use lib.ListN.{length};
-ghost use Rattle.routine.specs.Decode.{IsRoutine};
-ghost use Rattle.witness.specs.Lead.{inputCount, proofAt};
-ghost use Rattle.witness.specs.Witness.{isOn, byCourse};
-ghost use Rattle.witness.specs.Inner.Settles.{Settles};
+ghost use Rattle.routine.specs.Decode.{commandsIn};
+ghost use Rattle.routine.specs.Inner.Known.{Counted};
+ghost use Rattle.faults.specs.Inputs.{inputCount};
+ghost use Rattle.witness.specs.Lead.{proofAt};
+ghost use Rattle.witness.specs.Witness.{isOn, byCourse, byOpened};
+ghost use Rattle.witness.specs.declared.Opened.{Opened};
 
 // Whether an index lies on the side of a number.
 fn is_on(side: u8, lies: Lies) -> bool
@@ -58,8 +60,8 @@ fn by_course(routine: &[u8], h: Header, t: Target, course: Course) -> Witness
 
 // The witness of a report whose lead is whole and names t.
 pub fn settle(routine: &[u8], report: &[u8], h: Header, k: Counts, t: Target) -> Witness
-    requires { ⌜ IsRoutine (now routine) h × (proofAt h k ≤ length (now report)) × (inputCount h k ≤ 96) ⌝ }
-    ensures { λ r. ⌜ Settles (now (routine .entry)) (now (report .entry)) h k t r ⌝ }
+    requires { ⌜ Counted (now routine) h k × (proofAt h k ≤ length (now report)) × (inputCount h k ≤ 96) ⌝ }
+    ensures { λ r. ⌜ r ≡ byOpened (now (routine .entry)) (now (report .entry)) h (commandsIn (now (routine .entry))) k (Opened.Opens t) ⌝ }
 {
     let n = input_count(h, k);
     let end = 2 + k.ifs as usize;

@@ -7,7 +7,6 @@ use lib.Dec.{eqb}
 use Rattle.command.specs.Command.{sizeOfSimple}
 use Rattle.faults.specs.Step.{oneIf, accesses, after}
 use Rattle.routine.specs.Routine.{Arm}
-use Rattle.routine.specs.Decode.{routine, decode}
 use Rattle.routine.specs.Inner.Stands.{Stands}
 use Rattle.header.specs.declared.Header.{Header}
 use Rattle.command.specs.declared.Condition.{Condition}
@@ -15,7 +14,7 @@ use Rattle.faults.specs.declared.Counts.{Counts}
 use Rattle.command.specs.declared.Simple.{Simple}
 use Rattle.machine.specs.State.{holds, indexOf, carry}
 use Rattle.machine.specs.declared.State.{State}
-use Rattle.run.specs.Run.{Stretch, eventsAt, runArm, runIf, runOf}
+use Rattle.run.specs.Run.{Stretch, eventsAt, runArm, runIf}
 use Rattle.run.specs.Inner.Walker.{isOver}
 use Rattle.course.specs.Course.{course}
 use Rattle.course.specs.declared.Course.{Course}
@@ -66,7 +65,3 @@ pub record FollowsIf (bs ins ds : List ℕ) (access : ℕ) (h : Header) (depth :
   pub tells : (first : Arm) (else : ℕ) (k₁ : Counts) (second : Arm) (end : ℕ) (k₂ : Counts)
       → Stands bs h (depth + 1) 0x0C (w .next + 4) (oneIf (w .counts)) first else k₁ → Stands bs h (depth + 1) 0x0D else k₁ second end k₂
       → Arrives ds access (runIf bs c (w .counts) (runArm bs ins h first) (runArm bs ins h second) (w .state)) end k₂ r
-
--- the course of the whole run is r
-pub record FollowsRoutine (bs ins ds : List ℕ) (access : ℕ) (h : Header) (r : Course) : Type 0 where
-  pub tells : (a : Arm) (k : Counts) → decode bs ≡ routine h a k → r ≡ course ds access (runOf bs ins h a .events)

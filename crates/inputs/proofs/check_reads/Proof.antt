@@ -1,119 +1,87 @@
-use mathlib.Core.Path.{refl, sym, _∙_}
-use Prim.Native.Nat.{_≤_, _<_, _-_, _+_}
+use mathlib.Core.Path.{sym, _∙_}
+use Prim.Native.Nat.{_-_}
 use native.Mathlib.Omega.{arith}
 use lib.ListN.{length}
 use borrow.Author.Needs.{needs}
 use borrow.Author.Tests.{not-true, not-false}
-use Rattle.command.specs.Command.{sizeOf}
-use Rattle.inputs.proofs.Lists.{Scanning, scan-start, scan-room, scan-past, scan-fits, scan-great, scan-over, scans}
+use Rattle.routine.specs.Routine.{textOf}
+use Rattle.routine.specs.Decode.{commandsIn}
+use Rattle.inputs.proofs.Scan.{LeftOf, scan-start, scan-over, scan-room, read-room, scan-past, scan-fits, scan-great}
 use Rattle.inputs.proofs.check_reads.Statement.{statement}
 use Rattle.inputs.proofs.check_reads.Tie as tie
 
 abbrev Inv-loop : tie.InvT-loop
-Inv-loop bytes inputs at₀ n₀ at n = (at₀ ≤ at) × Scanning bytes inputs at₀ n₀ at n × (n + at₀ ≤ n₀ + at)
+Inv-loop bytes inputs end at₀ n₀ at n = LeftOf bytes inputs (textOf (commandsIn bytes)) n₀ end at n
 
 abbrev μ-loop : tie.MeasureT-loop
-μ-loop bytes inputs at₀ n₀ at n = length bytes - at
+μ-loop bytes inputs end at₀ n₀ at n = length bytes - at
+
+input-count-requires : tie.Need-input-count-requires Inv-loop μ-loop
+input-count-requires c κs = search needs
 
 first-command-requires : tie.Need-first-command-requires Inv-loop μ-loop
 first-command-requires c κs = search needs
+
+given-of-requires : tie.Need-given-of-requires Inv-loop μ-loop
+given-of-requires c κs = search needs
 
 cast-n : tie.Need-cast-n Inv-loop μ-loop
 cast-n c = search needs
 
 loop-holds : tie.Need-loop-holds Inv-loop μ-loop
-loop-holds c = (omega arith, scan-start _ _ _ _, omega arith)
+loop-holds c = scan-start _ _ _ _ (c .before .before .before .before .before .pre) _ _ _ (c .before .before .input-count .ensures) (c .before .first-command .ensures) (c .given-of .ensures)
 
-command-at-requires : tie.Need-command-at-requires Inv-loop μ-loop
-command-at-requires c κs = search needs
+byte-at-requires : tie.Need-byte-at-requires Inv-loop μ-loop
+byte-at-requires c κs = search needs
 
-touch-of-requires : tie.Need-touch-of-requires Inv-loop μ-loop
-touch-of-requires c κs = search needs
+add-byte-at : tie.Need-add-byte-at Inv-loop μ-loop
+add-byte-at c =
+    let l = read-room _ _ _ _ _ _ _ (c .before .before .before .loop .inv) (omega arith) _ (c .before .byte-at .ensures) (c .if1 .taken) in
+    omega arith
 
-enum-told : tie.Need-enum-told Inv-loop μ-loop
-enum-told c = search needs
-
-size-of-requires : tie.Need-size-of-requires Inv-loop μ-loop
-size-of-requires c κs = search needs
-
--- the command at hand is whole
-room : (c : tie.After-command-at Inv-loop μ-loop) → (c .before .before .loop .at + sizeOf (c .command-at .result) ≤ length (c .before .before .before .before .before .before .before .args .bytes .now)) × (0 < sizeOf (c .command-at .result))
-room c =
-    let l = c .before .before in
-    scan-room _ _ _ _ _ _ (l .loop .inv .1) _ (c .command-at .ensures) (c .before .loop-test .taken) _ (l .before .before .before .before .before .pre) (l .before .before .first-command .ensures)
-
-add-at : tie.Need-add-at Inv-loop μ-loop
-add-at c = omega (arith, room (c .before .before .before .before))
-
-loop-less : tie.Need-loop-less Inv-loop μ-loop
-loop-less c = omega (arith, room (c .before .before .before .before))
-
-loop-again : tie.Need-loop-again Inv-loop μ-loop
-loop-again c =
-    let l = c .before .before .before .before .before .before in
-    let is = c .before .before .before .before .command-at .ensures in
-    let s = room (c .before .before .before .before) in
-    let g = scan-past _ _ _ _ _ _ (l .loop .inv .1) _ is (omega arith) _ (c .before .before .before .touch-of .ensures) _ (c .before .enum-told .given .1) (λ vs. refl) in
-    (omega arith, rw (c .size-of .ensures) g, omega arith)
-
-enum-known-d : tie.Need-enum-known-d Inv-loop μ-loop
-enum-known-d c = search needs
+byte-at-requires-2 : tie.Need-byte-at-requires-2 Inv-loop μ-loop
+byte-at-requires-2 c κs = search needs
 
 fits-requires : tie.Need-fits-requires Inv-loop μ-loop
 fits-requires c κs = search needs
 
 returns : tie.Need-returns Inv-loop μ-loop
-returns c =
-    let l = c .before .before .before .before .before .before .before .before in
-    scans _ _ _ _ _ _ (l .before .before .first-command .ensures) refl
-    (scan-great _ _ _ _ _ _ (l .loop .inv .1) _ (c .before .before .before .before .before .before .command-at .ensures) (omega arith) _ (c .before .before .before .before .before .touch-of .ensures) _ _ _ (c .before .before .before .d .given .1)
-    (sym (c .before .fits2 .ensures) ∙ not-true _ (c .if1 .taken)))
+returns c = rw (← c .before .before .before .before .before .before .before .given-of .ensures) (scan-great _ _ _ _ _ _ _ (c .before .before .before .before .before .before .loop .inv) (omega arith) _ (c .before .before .before .before .byte-at .ensures) (c .before .before .before .if1 .taken) _ (c .before .before .byte-at2 .ensures) (sym (c .before .fits2 .ensures) ∙ not-true _ (c .if2 .taken)))
 
-size-of-requires-2 : tie.Need-size-of-requires-2 Inv-loop μ-loop
-size-of-requires-2 c κs = search needs
-
-add-at-2 : tie.Need-add-at-2 Inv-loop μ-loop
-add-at-2 c = omega (arith, room (c .before .before .before .before .before .before .before))
+add-at : tie.Need-add-at Inv-loop μ-loop
+add-at c =
+    let l = read-room _ _ _ _ _ _ _ (c .before .before .before .before .before .before .loop .inv) (omega arith) _ (c .before .before .before .before .byte-at .ensures) (c .before .before .before .if1 .taken) in
+    omega arith
 
 add-n : tie.Need-add-n Inv-loop μ-loop
 add-n c = omega arith
 
+loop-less : tie.Need-loop-less Inv-loop μ-loop
+loop-less c =
+    let l = read-room _ _ _ _ _ _ _ (c .before .before .before .before .before .before .loop .inv) (omega arith) _ (c .before .before .before .before .byte-at .ensures) (c .before .before .before .if1 .taken) in
+    omega arith
+
+loop-again : tie.Need-loop-again Inv-loop μ-loop
+loop-again c = scan-fits _ _ _ _ _ _ _ (c .before .before .before .before .before .before .loop .inv) (omega arith) _ (c .before .before .before .before .byte-at .ensures) (c .before .before .before .if1 .taken) _ (c .before .before .byte-at2 .ensures) (sym (c .before .fits2 .ensures) ∙ not-false _ (c .if2 .left))
+
+size-by-requires : tie.Need-size-by-requires Inv-loop μ-loop
+size-by-requires c κs = search needs
+
+add-at-2 : tie.Need-add-at-2 Inv-loop μ-loop
+add-at-2 c =
+    let l = scan-room _ _ _ _ _ _ _ (c .before .before .before .before .loop .inv) (omega arith) _ (c .before .before .byte-at .ensures) in
+    omega (arith, l, c .size-by .ensures)
+
 loop-less-2 : tie.Need-loop-less-2 Inv-loop μ-loop
-loop-less-2 c = omega (arith, room (c .before .before .before .before .before .before .before))
+loop-less-2 c =
+    let l = scan-room _ _ _ _ _ _ _ (c .before .before .before .before .loop .inv) (omega arith) _ (c .before .before .byte-at .ensures) in
+    omega (arith, l, c .size-by .ensures)
 
 loop-again-2 : tie.Need-loop-again-2 Inv-loop μ-loop
-loop-again-2 c =
-    let l = c .before .before .before .before .before .before .before .before .before in
-    let is = c .before .before .before .before .before .before .before .command-at .ensures in
-    let s = room (c .before .before .before .before .before .before .before) in
-    let e = sym (c .before .before .fits2 .ensures) ∙ not-false _ (c .before .if1 .left) in
-    let g = scan-fits _ _ _ _ _ _ (l .loop .inv .1) _ is (omega arith) _ (c .before .before .before .before .before .before .touch-of .ensures) _ _ _ (c .before .before .before .before .d .given .1) e in
-    (omega arith, rw (c .size-of2 .ensures) g, omega arith)
-
-enum-told-2 : tie.Need-enum-told-2 Inv-loop μ-loop
-enum-told-2 c = search needs
-
-size-of-requires-3 : tie.Need-size-of-requires-3 Inv-loop μ-loop
-size-of-requires-3 c κs = search needs
-
-add-at-3 : tie.Need-add-at-3 Inv-loop μ-loop
-add-at-3 c = omega (arith, room (c .before .before .before .before))
-
-loop-less-3 : tie.Need-loop-less-3 Inv-loop μ-loop
-loop-less-3 c = omega (arith, room (c .before .before .before .before))
-
-loop-again-3 : tie.Need-loop-again-3 Inv-loop μ-loop
-loop-again-3 c =
-    let l = c .before .before .before .before .before .before in
-    let is = c .before .before .before .before .command-at .ensures in
-    let s = room (c .before .before .before .before) in
-    let g = scan-past _ _ _ _ _ _ (l .loop .inv .1) _ is (omega arith) _ (c .before .before .before .touch-of .ensures) _ (c .before .enum-told2 .given .1) (λ vs. refl) in
-    (omega arith, rw (c .size-of3 .ensures) g, omega arith)
+loop-again-2 c = rw (c .size-by .ensures) (scan-past _ _ _ _ _ _ _ (c .before .before .before .before .loop .inv) (omega arith) _ (c .before .before .byte-at .ensures) (c .before .if1 .left))
 
 returns-2 : tie.Need-returns-2 Inv-loop μ-loop
-returns-2 c =
-    let l = c .before in
-    scans _ _ _ _ _ _ (l .before .before .first-command .ensures) refl (scan-over _ _ _ _ _ _ (l .loop .inv .1) (omega arith))
+returns-2 c = rw (← c .before .before .given-of .ensures) (scan-over _ _ _ _ _ _ _ (c .before .loop .inv) (omega arith))
 
 pub check-reads-spec : {M : Type 1} → statement M
 check-reads-spec =
@@ -121,27 +89,22 @@ check-reads-spec =
     (tie.spec
     Inv-loop
     μ-loop
+    input-count-requires
     first-command-requires
+    given-of-requires
     cast-n
     loop-holds
-    command-at-requires
-    touch-of-requires
-    enum-told
-    size-of-requires
-    add-at
-    loop-less
-    loop-again
-    enum-known-d
+    byte-at-requires
+    add-byte-at
+    byte-at-requires-2
     fits-requires
     returns
-    size-of-requires-2
-    add-at-2
+    add-at
     add-n
+    loop-less
+    loop-again
+    size-by-requires
+    add-at-2
     loop-less-2
     loop-again-2
-    enum-told-2
-    size-of-requires-3
-    add-at-3
-    loop-less-3
-    loop-again-3
     returns-2)

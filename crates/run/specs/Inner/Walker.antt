@@ -5,13 +5,12 @@ use mathlib.Core.List.{List}
 use mathlib.Core.Bool.{Bool, true, false, cond}
 use Rattle.faults.specs.Step.{oneIf}
 use Rattle.routine.specs.Routine.{Arm}
-use Rattle.routine.specs.Decode.{routine, decode}
 use Rattle.routine.specs.Inner.Stands.{Stands}
 use Rattle.header.specs.declared.Header.{Header}
 use Rattle.command.specs.declared.Condition.{Condition}
 use Rattle.faults.specs.declared.Counts.{Counts}
 use Rattle.machine.specs.State.{take, holds}
-use Rattle.run.specs.Run.{runArm, runOf}
+use Rattle.run.specs.Run.{runArm}
 use Rattle.machine.specs.declared.Outcome.{Outcome}
 use Rattle.machine.specs.declared.State.{State}
 use Rattle.run.specs.declared.Reached.{Reached}
@@ -45,7 +44,3 @@ pub record RunsIf (bs ins : List ℕ) (h : Header) (depth : ℕ) (c : Condition)
   pub tells : (first : Arm) (else : ℕ) (k₁ : Counts) (second : Arm) (end : ℕ) (k₂ : Counts)
       → Stands bs h (depth + 1) 0x0C (w .next + 4) (oneIf (w .counts)) first else k₁ → Stands bs h (depth + 1) 0x0D else k₁ second end k₂
       → Arrives (ranIf bs ins h c (w .counts .ifs) first second (w .state)) end k₂ r
-
--- the whole run leaves the state r
-pub record RunsRoutine (bs ins : List ℕ) (h : Header) (r : State) : Type 0 where
-  pub tells : (a : Arm) (k : Counts) → decode bs ≡ routine h a k → r ≡ runOf bs ins h a .state

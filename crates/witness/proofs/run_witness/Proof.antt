@@ -1,4 +1,4 @@
-use Rattle.witness.proofs.Opening.{lets, inputs-few, counted-routine}
+use Rattle.witness.proofs.Opening.{lets, inputs-few}
 use Rattle.witness.proofs.Settled.{witness-refused, witness-settled}
 use borrow.Author.Needs.{needs}
 use Rattle.witness.proofs.run_witness.Statement.{statement}
@@ -16,16 +16,16 @@ enum-known-t c = search needs
 settle-requires : tie.Need-settle-requires
 settle-requires c κs =
     let i = c .before .before .before .before .before .before .pre in (
-      counted-routine _ _ _ i,
+      i,
       lets _ _ _ _ _ (c .before .before .before .«open» .ensures) (c .before .t .given .1) .long,
       inputs-few _ _ _ i,
     )
 
 returns : tie.Need-returns
-returns c = witness-refused _ _ _ _ _ (c .before .before .before .«open» .ensures) _ (c .before .refusal .given .1)
+returns c = witness-refused _ _ _ _ _ _ (c .before .before .before .«open» .ensures) _ (c .before .refusal .given .1)
 
 returns-2 : tie.Need-returns-2
-returns-2 c = witness-settled _ _ _ _ _ (c .before .before .before .before .«open» .ensures) _ (c .before .before .t .given .1) _ (c .settle .ensures)
+returns-2 c = witness-settled _ _ _ _ _ _ (c .before .before .before .before .«open» .ensures) _ (c .before .before .t .given .1) _ (c .settle .ensures)
 
 pub run-witness-spec : {M : Type 1} → statement M
 run-witness-spec =

@@ -1,59 +1,10 @@
 -- `command::command_of` meets its contract: at each arm the keys, or the bounds of the range, decide the tests of `commandBy`.
-use mathlib.Core.Path.{_≡_}
-use Prim.Native.Nat.{ℕ, _≤_}
 use native.Mathlib.Omega.{arith}
 use borrow.Author.Needs.{needs}
-use borrow.Author.Tests.{ne-eqb, le-leb, lt-leb}
 use Rattle.command.specs.Command.{commandBy}
-use Rattle.command.specs.declared.Simple.{Simple}
-use Rattle.command.specs.declared.Command.{Command}
+use Rattle.command.proofs.Bytes.{closes, computes, converts, unknown}
 use Rattle.command.proofs.commands.command_of.Statement.{statement}
 use Rattle.command.proofs.commands.command_of.Tie as tie
-
-module _ (op a b c k : ℕ) where
-  computes : 3 ≤ op → op ≤ 5 → Command.Simple (Simple.Compute op a b c) ≡ commandBy op a b c k
-  unfolding commandBy
-  computes l h = simp (ne-eqb op 1 (omega arith), ne-eqb op 2 (omega arith), lt-leb 6 op (omega arith), le-leb 3 op l, le-leb op 5 h)
-
-  converts : 6 ≤ op → op ≤ 8 → Command.Simple (Simple.Convert op a b) ≡ commandBy op a b c k
-  unfolding commandBy
-  converts l h = simp (ne-eqb op 1 (omega arith), ne-eqb op 2 (omega arith), le-leb 6 op l, le-leb op 8 h)
-
-  closes : 12 ≤ op → op ≤ 13 → Command.Close op ≡ commandBy op a b c k
-  unfolding commandBy
-  closes l h =
-      simp (
-        ne-eqb op 1 (omega arith),
-        ne-eqb op 2 (omega arith),
-        le-leb 6 op (omega arith),
-        lt-leb op 8 (omega arith),
-        le-leb 3 op (omega arith),
-        lt-leb op 5 (omega arith),
-        ne-eqb op 9 (omega arith),
-        ne-eqb op 10 (omega arith),
-        ne-eqb op 11 (omega arith),
-        ne-eqb op 0 (omega arith),
-        le-leb 12 op l,
-        le-leb op 13 h,
-      )
-
-  unknown : 14 ≤ op → Command.Missing ≡ commandBy op a b c k
-  unfolding commandBy
-  unknown l =
-      simp (
-        ne-eqb op 1 (omega arith),
-        ne-eqb op 2 (omega arith),
-        le-leb 6 op (omega arith),
-        lt-leb op 8 (omega arith),
-        le-leb 3 op (omega arith),
-        lt-leb op 5 (omega arith),
-        ne-eqb op 9 (omega arith),
-        ne-eqb op 10 (omega arith),
-        ne-eqb op 11 (omega arith),
-        ne-eqb op 0 (omega arith),
-        le-leb 12 op (omega arith),
-        lt-leb op 13 (omega arith),
-      )
 
 front-at-requires : tie.Need-front-at-requires
 front-at-requires c κs = search needs

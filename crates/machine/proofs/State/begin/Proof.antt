@@ -8,10 +8,10 @@ use Rattle.machine.proofs.State.begin.Statement.{statement}
 use Rattle.machine.proofs.State.begin.Tie as tie
 
 abbrev Inv-loop : tie.InvT-loop
-Inv-loop inputs parameters count values₀ i₀ values i = (i ≤ count) × (values ≡ over i inputs values₀)
+Inv-loop inputs n count values₀ i₀ values i = (i ≤ count) × (values ≡ over i inputs values₀)
 
 abbrev μ-loop : tie.MeasureT-loop
-μ-loop inputs parameters count values₀ i₀ values i = count - i
+μ-loop inputs n count values₀ i₀ values i = count - i
 
 loop-holds : tie.Need-loop-holds Inv-loop μ-loop
 loop-holds c = (omega arith, laid-none _ _)
@@ -38,7 +38,7 @@ returns : tie.Need-returns Inv-loop μ-loop
 unfolding start
 returns c =
     let l = c .before in
-    let e : l .loop .i ≡ l .before .before .args .parameters = omega arith in
+    let e : l .loop .i ≡ l .before .before .args .n = omega arith in
     rw (← laid-all _ _ _ _ _ (l .loop .inv .1) e)
 
 pub begin-spec : {M : Type 1} → statement M

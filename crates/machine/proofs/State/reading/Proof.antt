@@ -16,14 +16,8 @@ lies-at-requires c κs = search needs
 enum-told : tie.Need-enum-told
 enum-told c = search needs
 
-cast-number : tie.Need-cast-number
-cast-number c = search needs
-
-cast-number-2 : tie.Need-cast-number-2
-cast-number-2 c = search needs
-
-add-number : tie.Need-add-number
-add-number c = search needs
+input-number-requires : tie.Need-input-number-requires
+input-number-requires c κs = search needs
 
 entry-at-requires : tie.Need-entry-at-requires
 entry-at-requires c κs = search needs
@@ -46,9 +40,9 @@ stopped-requires c κs = search needs
 returns : tie.Need-returns
 unfolding carry
 returns c =
-    let t = c .before .before .before in
+    let t = c .before .before in
     let l = t .before .before in
-    rw (← l .before .before .index .ensures, ← l .before .size-of-array .ensures, ← l .lies-at .ensures, t .enum-told .given .1, c .entry-at .ensures)
+    rw (← l .before .before .index .ensures, ← l .before .size-of-array .ensures, ← l .lies-at .ensures, t .enum-told .given .1, c .entry-at .ensures, c .before .input-number .ensures)
 
 returns-2 : tie.Need-returns-2
 unfolding carry
@@ -66,9 +60,7 @@ reading-spec =
     size-of-array-requires
     lies-at-requires
     enum-told
-    cast-number
-    cast-number-2
-    add-number
+    input-number-requires
     entry-at-requires
     mul-self
     element-write-self

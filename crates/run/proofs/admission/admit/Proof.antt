@@ -1,6 +1,6 @@
 use mathlib.Core.Path.{_∙_}
 use borrow.Author.Needs.{needs}
-use Rattle.run.proofs.Admitting.{is-routine, no-routine, roomed, too-few, too-great}
+use Rattle.run.proofs.Admitting.{is-counted, no-routine, roomed, too-few, too-great}
 use Rattle.run.proofs.admission.admit.Statement.{statement}
 use Rattle.run.proofs.admission.admit.Tie as tie
 
@@ -14,7 +14,7 @@ enum-known-header : tie.Need-enum-known-header
 enum-known-header c = search needs
 
 check-inputs-requires : tie.Need-check-inputs-requires
-check-inputs-requires c κs = is-routine _ _ _ _ (c .before .before .before .check .ensures) (c .before .header .given .1)
+check-inputs-requires c κs = is-counted _ _ _ _ (c .before .before .before .check .ensures) (c .before .header .given .1)
 
 enum-told : tie.Need-enum-told
 enum-told c = search needs

@@ -14,13 +14,14 @@ use Rattle.wires.proofs.Ranges.{ranged, ranged-as, storable, stored}
 use Rattle.walking.proofs.Beginning.{some-few, parameter-made, parameter-wired, parameters-length}
 use Rattle.walking.proofs.parameters.begin.Statement.{statement}
 use Rattle.walking.proofs.parameters.begin.Tie as tie
+use Rattle.faults.specs.Inputs.{given}
 
 abbrev Inv-loop : tie.InvT-loop
 Inv-loop lits₀ bytes h net₀ p₀ lits net p =
-    (p ≤ h .parameters) × ((w u : List ℕ) → Emitted w u net₀ (parameterNodes bytes p) w u net) × (lits ≡ parameterLits bytes p)
+    (p ≤ given h) × ((w u : List ℕ) → Emitted w u net₀ (parameterNodes bytes p) w u net) × (lits ≡ parameterLits bytes p)
 
 abbrev μ-loop : tie.MeasureT-loop
-μ-loop lits₀ bytes h net₀ p₀ lits net p = h .parameters - p
+μ-loop lits₀ bytes h net₀ p₀ lits net p = given h - p
 
 loop-holds : tie.Need-loop-holds Inv-loop μ-loop
 unfolding parameterNodes parameterLits

@@ -1,4 +1,4 @@
-use Rattle.witness.proofs.Opening.{decisions-part}
+use Rattle.witness.proofs.Opening.{decisions-part, counted-routine}
 use Rattle.witness.proofs.Settled.{inputs-length, inputs-are, settled, settled-cut, settled-great}
 use borrow.Author.Needs.{needs}
 use Rattle.witness.proofs.settling.settle.Statement.{statement}
@@ -48,7 +48,7 @@ part-follow-end : tie.Need-part-follow-end
 part-follow-end c = search needs
 
 follow-requires : tie.Need-follow-requires
-follow-requires c κs = search needs
+follow-requires c κs = counted-routine _ _ _ (c .before .before .before .before .before .before .before .before .before .before .before .pre .0)
 
 by-course-requires : tie.Need-by-course-requires
 by-course-requires c κs = search needs
@@ -62,17 +62,17 @@ enum-known-number c = search needs
 returns : tie.Need-returns
 returns c =
     let a = c .before .before .before .before .before .before .before .before .before .before .before .before .before .args in
-    settled _ _ _ _ _ _ (inputs-are (a .report .now) (a .h) (a .k) _ (c .before .before .before .before .before .before .before .before .before .before .input-count .ensures) _ (c .before .before .before .before .before .before .before .before .words-from .ensures)) _ (c .before .before .before .before .before .before .check-inputs .ensures) (c .before .before .before .before .enum-told .given .1) _ (decisions-part (a .report .now) (a .k .ifs)) _ (c .before .follow .ensures) _ (c .by-course .ensures)
+    settled _ _ _ _ _ _ _ (inputs-are (a .report .now) (a .h) (a .k) _ (c .before .before .before .before .before .before .before .before .before .before .input-count .ensures) _ (c .before .before .before .before .before .before .before .before .words-from .ensures)) _ (c .before .before .before .before .before .before .check-inputs .ensures) (c .before .before .before .before .enum-told .given .1) _ (decisions-part (a .report .now) (a .k .ifs)) _ (c .before .follow .ensures) _ (c .by-course .ensures)
 
 returns-2 : tie.Need-returns-2
 returns-2 c =
     let a = c .before .before .before .before .before .before .before .before .before .args in
-    settled-cut _ _ _ _ _ _ (inputs-are (a .report .now) (a .h) (a .k) _ (c .before .before .before .before .before .before .input-count .ensures) _ (c .before .before .before .before .words-from .ensures)) _ (c .before .before .check-inputs .ensures) (c .enum-told2 .given .1)
+    settled-cut _ _ _ _ _ _ _ (inputs-are (a .report .now) (a .h) (a .k) _ (c .before .before .before .before .before .before .input-count .ensures) _ (c .before .before .before .before .words-from .ensures)) _ (c .before .before .check-inputs .ensures) (c .enum-told2 .given .1)
 
 returns-3 : tie.Need-returns-3
 returns-3 c =
     let a = c .before .before .before .before .before .before .before .before .before .before .args in
-    settled-great _ _ _ _ _ _ (inputs-are (a .report .now) (a .h) (a .k) _ (c .before .before .before .before .before .before .before .input-count .ensures) _ (c .before .before .before .before .before .words-from .ensures)) _ (c .before .before .before .check-inputs .ensures) _ (c .before .number .given .1)
+    settled-great _ _ _ _ _ _ _ (inputs-are (a .report .now) (a .h) (a .k) _ (c .before .before .before .before .before .before .before .input-count .ensures) _ (c .before .before .before .before .before .words-from .ensures)) _ (c .before .before .before .check-inputs .ensures) _ (c .before .number .given .1)
 
 pub settle-spec : {M : Type 1} → statement M
 settle-spec =
