@@ -19,10 +19,10 @@ use Rattle.inputs.specs.Inputs.{listed}
 use Rattle.run.specs.Run.{runOf}
 use Rattle.inputs.specs.declared.Listed.{Listed}
 use Rattle.run.proofs.Outside.{Ends, ends}
-use Rattle.course.specs.Course.{course}
-use Rattle.course.specs.Goes.{goesWay, Comes}
-use Rattle.course.specs.declared.Course.{Course}
-use Rattle.course.proofs.Arriving.{comes, goes, same, arrives}
+use Rattle.run.specs.Course.{course}
+use Rattle.run.specs.Goes.{goesWay, Comes}
+use Rattle.run.specs.declared.Course.{Course}
+use Rattle.run.proofs.Arriving.{comes, goes, same, arrives}
 use Rattle.cnf.specs.Clause.{Clause}
 use Rattle.cnf.specs.Meaning.{Assign, lit, satClause, sat}
 use Rattle.netlist.specs.Node.{clausesOf}

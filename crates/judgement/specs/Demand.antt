@@ -18,7 +18,7 @@ use Rattle.inputs.specs.Inputs.{listed}
 use Rattle.run.specs.Run.{Stretch, runOf}
 use Rattle.inputs.specs.declared.Listed.{Listed}
 use Rattle.run.specs.declared.Ran.{Ran}
-use Rattle.course.specs.Goes.{goesWay, Comes}
+use Rattle.run.specs.Goes.{goesWay, Comes}
 use Rattle.witness.specs.Lead.{decisionsIn, witnessIn}
 use Rattle.judgement.specs.declared.Judged.{Judged}
 

@@ -17,7 +17,7 @@ use Rattle.machine.specs.State.{take, holds, carry}
 use Rattle.run.specs.Run as run
 use Rattle.run.specs.Run.{took, eventsAt, runArm}
 use Rattle.machine.specs.declared.State.{State}
-use Rattle.course.specs.Course.{course}
+use Rattle.run.specs.Course.{courseTo, course}
 use Rattle.cnf.specs.Meaning.{Assign}
 use Rattle.netlist.specs.Meaning.{Inputs}
 use Rattle.netlist.proofs.Truth.{Models, models-append}
@@ -69,7 +69,7 @@ module _ (bs ins : List ℕ) (h : Header) (fine : Fine bs h) (t : Target) (ds : 
   -- an arm that does not stand after the named access
   pub arm-alive : t .side ≤ 1 → ((n : ℕ) → entry ds n ≤ 2) → (a : Arm) (depth close at : ℕ) (k : Counts) (end : ℕ) (k₁ : Counts)
       → Stands bs h depth close at k a end k₁ → Fit bs ins h a → accesses k ≤ t .access → Runs bs ins h fine t ds ρ o (armOf bs h t ds a) (runArm bs ins h a)
-  unfolding armOf runArm course
+  unfolding armOf runArm courseTo
   arm-alive sd few =
       induction bs h (λ depth close at k a end k₁. Fit bs ins h a → accesses k ≤ t .access → Runs bs ins h fine t ds ρ o (armOf bs h t ds a) (runArm bs ins h a))
       (λ depth close at k mark e l f ahead g s r m a. alive-through bs ins h fine t ds ρ o s _ r a refl)

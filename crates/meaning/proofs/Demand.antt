@@ -26,7 +26,7 @@ use Rattle.run.specs.Run.{runOf}
 use Rattle.inputs.specs.declared.Listed.{Listed}
 use Rattle.machine.specs.declared.Lies.{Lies}
 use Rattle.machine.specs.declared.State.{State}
-use Rattle.course.specs.declared.Course.{Course}
+use Rattle.run.specs.declared.Course.{Course}
 use Rattle.netlist.specs.declared.Node.{Node}
 use Rattle.cnf.specs.Meaning.{Assign, lit}
 use Rattle.netlist.specs.Meaning.{Inputs}

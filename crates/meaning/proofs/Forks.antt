@@ -19,8 +19,8 @@ use Rattle.machine.specs.State.{take, holds}
 use Rattle.run.specs.Run as run
 use Rattle.run.specs.Run.{took}
 use Rattle.machine.specs.declared.State.{State}
-use Rattle.course.specs.Course.{follows, course}
-use Rattle.course.specs.declared.Course.{Course}
+use Rattle.run.specs.Course.{follows, courseTo, course}
+use Rattle.run.specs.declared.Course.{Course}
 use Rattle.cnf.specs.Meaning.{Assign, lit}
 use Rattle.netlist.specs.Meaning.{Inputs}
 use Rattle.netlist.proofs.Truth.{Models, models-append}
@@ -267,7 +267,7 @@ module _ (bs ins : List ℕ) (h : Header) (fine : Fine bs h) (t : Target) (ds : 
           tally cm bm xm = arms .one g₂ s₁ (take r n 0) xm (alive-at (arrivals d g₁ (s .arrival) l .first) 0 (first-come cm bm ∙ ap₂ (λ (p v : Bool). cond p false v) q e))
 
       first-run : Fork-models → Tallies bs h fine t ds ρ (forked bs h d g c s first second) (run.after (took n 0 before ∷ []) z₁)
-      unfolding course
+      unfolding courseTo
       first-run mm =
           rw (le-ltb (t .access) before ahead, follows-first d few)
           (pick (eqb d 1) refl)
@@ -314,7 +314,7 @@ module _ (bs ins : List ℕ) (h : Header) (fine : Fine bs h) (t : Target) (ds : 
               (alive-at (arrivals d g₁ (s .arrival) l .second) 1 (else-come cm bm ∙ ap₂ (λ (p v : Bool). cond p false (not v)) q e))
 
       else-run : Fork-models → Tallies bs h fine t ds ρ (forked bs h d g c s first second) (run.after (took n 1 before ∷ []) z₂)
-      unfolding course
+      unfolding courseTo
       else-run mm =
           rw (le-ltb (t .access) before ahead, follows-else d few)
           (pick (eqb d 0) refl)

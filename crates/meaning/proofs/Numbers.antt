@@ -20,9 +20,9 @@ use Rattle.run.specs.Run.{took, came, unlessStopped, eventsAt, runArm}
 use Rattle.machine.specs.declared.Outcome.{Outcome}
 use Rattle.machine.specs.declared.Side.{Side}
 use Rattle.machine.specs.declared.State.{State}
-use Rattle.course.specs.Course.{keeps, course}
-use Rattle.course.specs.declared.Course.{Course}
-use Rattle.course.proofs.Laws.{onward, course-append}
+use Rattle.run.specs.Course.{keeps, courseTo, course}
+use Rattle.run.specs.declared.Course.{Course}
+use Rattle.run.proofs.Laws.{onward, course-append}
 use Rattle.meaning.proofs.Stretches.{by-cond}
 
 -- ---- a course that goes on
@@ -79,11 +79,11 @@ module _ (bs ins : List ℕ) (h : Header) (ds : List ℕ) (access : ℕ) where
       (λ a i s e. p)
 
   misses-came : (number array : ℕ) (index : Whole) → access < number → Elsewhere (course ds access (came number array index ∷ []))
-  unfolding course
+  unfolding courseTo
   misses-came number array index l = rw (ne-eqb number access (λ e. omega arith)) tt
 
   misses-simple : (c : Simple) (k : Counts) (s : State) → access < accesses k → Elsewhere (course ds access (eventsAt bs c k s))
-  unfolding course
+  unfolding courseTo
   misses-simple (Simple.Set d x) k s l = tt
   misses-simple (Simple.Convert op d a) k s l = tt
   misses-simple (Simple.Compute op d a b) k s l = tt
@@ -91,14 +91,14 @@ module _ (bs ins : List ℕ) (h : Header) (ds : List ℕ) (access : ℕ) where
   misses-simple (Simple.Write array i a) k s l = misses-came (accesses k) array _ l
 
   misses-took : (number arm before : ℕ) (x : run.Stretch) → Misses x → Misses (run.after (took number arm before ∷ []) x)
-  unfolding course
+  unfolding courseTo
   misses-took number arm before x p =
       by-cond Elsewhere (keeps ds access number arm before) (course ds access (x .events)) (Course.Astray number) (λ e. p) (λ e. tt)
 
   -- an arm whose accesses all have greater numbers
   pub misses : (a : Arm) (depth close at : ℕ) (k : Counts) (end : ℕ) (k₁ : Counts) → Stands bs h depth close at k a end k₁
       → access < accesses k → (r : State) → Misses (runArm bs ins h a r)
-  unfolding runArm course
+  unfolding runArm courseTo
   misses =
       induction bs h (λ depth close at k a end k₁. access < accesses k → (r : State) → Misses (runArm bs ins h a r))
       (λ depth close at k mark e l f r. tt)

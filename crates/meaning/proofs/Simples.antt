@@ -26,8 +26,8 @@ use Rattle.run.specs.Run.{came, eventsAt}
 use Rattle.machine.specs.declared.Lies.{Lies}
 use Rattle.machine.specs.declared.Outcome.{Outcome}
 use Rattle.machine.specs.declared.State.{State}
-use Rattle.course.specs.Course.{course}
-use Rattle.course.specs.declared.Course.{Course}
+use Rattle.run.specs.Course.{courseTo, course}
+use Rattle.run.specs.declared.Course.{Course}
 use Rattle.netlist.specs.declared.Node.{Node}
 use Rattle.cnf.specs.Meaning.{Assign, lit}
 use Rattle.netlist.specs.Meaning.{Inputs}
@@ -127,11 +127,11 @@ module _ (bs ins : List ℕ) (h : Header) (fine : Fine bs h) (t : Target) (ds : 
   and-true a b e = ap (λ (x : Bool). x && b) e
 
   came-here : (number array : ℕ) (index : Whole) → eqb number (t .access) ≡ true → course ds (t .access) (came number array index ∷ []) ≡ Course.Arrived array index
-  unfolding course
+  unfolding courseTo
   came-here number array index e = rw e
 
   came-past : (number array : ℕ) (index : Whole) → eqb number (t .access) ≡ false → course ds (t .access) (came number array index ∷ []) ≡ Course.Passing
-  unfolding course
+  unfolding courseTo
   came-past number array index e = rw e
 
   module _ (side : t .side ≤ 1) (g array i : ℕ) (k : Counts) (s : Wires) (r next : State) (go : ℕ → Wires → Stretch) (l : i < h .variables) (a : Alive s r) where
@@ -203,7 +203,7 @@ module _ (bs ins : List ℕ) (h : Header) (fine : Fine bs h) (t : Target) (ds : 
   pub simple-alive : t .side ≤ 1 → (g : ℕ) (c : Simple) (k : Counts) (s : Wires) (r : State) → Sound bs h c → FitSimple bs ins h c k
       → Models (bitsOfList ins) ρ g (simple bs h t g c k s .nodes) → Alive s r
       → Tallies bs h fine t ds ρ (simple bs h t g c k s) (record { events = eventsAt bs c k r; state = carry bs ins h c k r })
-  unfolding simple carry course widthsFit
+  unfolding simple carry courseTo widthsFit
   simple-alive sd g (Simple.Set d c) k s r q f m a =
       let p = set-fine bs h d c q in
       alive-through (put bs s d (constBit c)) Course.Passing (state.put r d c) (alive-put s r a d (constBit c) c (p .0) (const-word ρ c (width bs d) o (p .1))) refl

@@ -16,8 +16,8 @@ use Rattle.run.specs.Inner.Walker.{isOver}
 use Rattle.machine.specs.declared.Lies.{Lies}
 use Rattle.machine.specs.declared.Outcome.{Outcome}
 use Rattle.machine.specs.declared.State.{State}
-use Rattle.course.specs.Course.{course}
-use Rattle.course.specs.declared.Course.{Course}
+use Rattle.run.specs.Course.{course}
+use Rattle.run.specs.declared.Course.{Course}
 use Rattle.cnf.specs.Meaning.{Assign, lit}
 use Rattle.wiring.specs.Command.{Stretch, after}
 use Rattle.wires.specs.Wires.{Wires, isMade}
@@ -26,7 +26,7 @@ use Rattle.machine.specs.Side.{sideOf}
 use Rattle.wires.specs.declared.Claim.{Claim}
 use Rattle.lead.specs.declared.Target.{Target}
 use Rattle.meaning.proofs.Claimed.{open-of}
-use Rattle.course.proofs.Laws.{onward, course-append}
+use Rattle.run.proofs.Laws.{onward, course-append}
 use Rattle.meaning.proofs.Numbers.{Elsewhere, elsewhere-then, run-then-by}
 use Rattle.faults.proofs.Tests.{not-both}
 use Rattle.meaning.proofs.Worth.{Worth}

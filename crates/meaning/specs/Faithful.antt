@@ -16,8 +16,8 @@ use Rattle.machine.specs.State.{lies}
 use Rattle.run.specs.Run.{runOf}
 use Rattle.inputs.specs.declared.Listed.{Listed}
 use Rattle.machine.specs.declared.Lies.{Lies}
-use Rattle.course.specs.Course.{course}
-use Rattle.course.specs.declared.Course.{Course}
+use Rattle.run.specs.Course.{course}
+use Rattle.run.specs.declared.Course.{Course}
 use Rattle.arithmetic.specs.Input.{bitsOfWord}
 use Rattle.netlist.specs.Node.{clausesOf}
 use Rattle.cnf.specs.Meaning.{Assign, lit, sat}

@@ -1,5 +1,9 @@
 -- What the proofs of several functions use, and the laws for the layers above.
-mod Running
+pub mod Laws
+mod Following
+mod Parting
+mod Wholes
 mod Admitting
 mod Bench
+pub mod Arriving
 pub mod Outside

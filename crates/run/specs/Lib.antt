@@ -1,3 +1,5 @@
 pub mod Run
+pub mod Course
+pub mod Goes
 pub mod Answer
 pub mod Inner

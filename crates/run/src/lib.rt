@@ -1,7 +1,8 @@
 // The run of a routine on an input list.
 mod admission;
 mod buffers;
-mod runs;
+pub mod runs;
+mod ways;
 
 use bitvec::Whole;
 use faults::Counts;
@@ -10,11 +11,29 @@ use machine::Side;
 use machine::State;
 ghost use Rattle.run.specs.Answer.{Answers};
 
-// A run at the end of an arm or an if: the offset and the counts there, and the state. Where it stopped before, only the state tells something.
-pub struct Reached {
+// How far a run is followed: to its end, or as far as the access of a number.
+pub enum Goal {
+    End,
+    Access(u8),
+}
+
+// What a run did as far as the goal.
+pub enum Course {
+    // it took another arm than was decided, at the if of this number
+    Astray(u8),
+    // it came to no access of that number yet
+    Passing,
+    // it came to the access
+    Arrived { array: u8, index: Whole },
+}
+
+// A run that is followed, at the end of an arm or an if: the offset and the counts there, the state, and the course so far. Where the course is settled
+// only that tells something; where the run stopped, only the state and the course.
+pub struct Way {
     pub next: usize,
     pub counts: Counts,
     pub state: State,
+    pub course: Course,
 }
 
 // A lent buffer of a run.
@@ -57,7 +76,7 @@ pub fn run(routine: &[u8], inputs: &[u32], values: &mut [u32], trail: &mut [u8])
     match admission::admit(routine, inputs, values.len(), trail.len()) {
         Admitted::Refused(refusal) => Ran::Refused(refusal),
         Admitted::Runs(h, k) => {
-            let state = runs::run_from_start(routine, inputs, h);
+            let state = runs::run_to_end(routine, inputs, h);
             buffers::put_values(state, h.variables, values);
             buffers::put_trail(state, k.ifs, trail);
             let outcome = state.outcome;

@@ -9,8 +9,8 @@ use Rattle.routine.specs.Routine.{Arm}
 use Rattle.inputs.specs.Inputs.{listed}
 use Rattle.run.specs.Run.{runOf}
 use Rattle.inputs.specs.declared.Listed.{Listed}
-use Rattle.course.specs.Course.{course}
-use Rattle.course.specs.declared.Course.{Course}
+use Rattle.run.specs.Course.{course}
+use Rattle.run.specs.declared.Course.{Course}
 use Rattle.lead.specs.declared.Target.{Target}
 use Rattle.faults.specs.Inputs.{inputCount}
 use Rattle.witness.specs.Lead.{decisionsIn, wordsFrom, witnessIn, leadOf}

@@ -16,7 +16,7 @@ use Rattle.machine.specs.declared.Lies.{Lies}
 use Rattle.machine.specs.declared.Side.the-variants.{Below, Above}
 use Rattle.inputs.specs.Inputs.{listed}
 use Rattle.inputs.specs.declared.Listed.{Listed}
-use Rattle.course.specs.declared.Course.{Course}
+use Rattle.run.specs.declared.Course.{Course}
 use Rattle.lead.specs.declared.Target.{Target}
 use Rattle.witness.specs.Lead.{witnessIn, leadOf}
 use Rattle.witness.specs.Witness.{isOn, byCourse, byListed, witnessCourse, byOpened, witnessOf}

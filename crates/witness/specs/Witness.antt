@@ -15,8 +15,8 @@ use Rattle.machine.specs.declared.Lies.{Lies}
 use Rattle.inputs.specs.Inputs.{listed}
 use Rattle.run.specs.Run.{runOf}
 use Rattle.inputs.specs.declared.Listed.{Listed}
-use Rattle.course.specs.Course.{course}
-use Rattle.course.specs.declared.Course.{Course}
+use Rattle.run.specs.Course.{course}
+use Rattle.run.specs.declared.Course.{Course}
 use Rattle.lead.specs.declared.Target.{Target}
 use Rattle.witness.specs.Lead.{decisionsIn, witnessIn, leadOf}
 use Rattle.witness.specs.declared.Refusal.{Refusal}

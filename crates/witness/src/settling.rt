@@ -2,8 +2,6 @@
 use crate::Refusal;
 use crate::Witness;
 use crate::listing::words_from;
-use course::Course;
-use course::follow;
 use faults::Counts;
 use faults::words::input_count;
 use header::Header;
@@ -14,6 +12,8 @@ use lead::Target;
 use machine::Lies;
 use machine::Side;
 use machine::states::lies_at;
+use run::Course;
+use run::runs::run_to_access;
 ghost use mathlib.Core.Path.{_≡_};
 ghost use Prim.Native.Nat.{_≤_};
 ghost use lib.ListN.{length};
@@ -68,7 +68,7 @@ pub fn settle(routine: &[u8], report: &[u8], h: Header, k: Counts, t: Target) ->
     let words = words_from(report, end, n);
     match check_inputs(routine, &words[..n], h, k) {
         Listed::Accepted => {
-            let course = follow(routine, &words[..n], &report[2..end], t.access, h);
+            let course = run_to_access(routine, &words[..n], &report[2..end], t.access, h);
             by_course(routine, h, t, course)
         }
         Listed::Miscounted => Witness::Refused(Refusal::Cut(report.len())),

@@ -12,8 +12,8 @@ enum-known-refusal c = search needs
 enum-known-h : tie.Need-enum-known-h
 enum-known-h c = search needs
 
-run-from-start-requires : tie.Need-run-from-start-requires
-run-from-start-requires c κs = run-routine _ _ _ _ _ (c .before .before .before .admit .ensures) _ _ (c .before .h .given .1)
+run-to-end-requires : tie.Need-run-to-end-requires
+run-to-end-requires c κs = run-routine _ _ _ _ _ (c .before .before .before .admit .ensures) _ _ (c .before .h .given .1)
 
 put-values-requires : tie.Need-put-values-requires
 put-values-requires c κs = values-fit _ _ _ _ _ (c .before .before .before .before .before .admit .ensures) _ _ (c .before .before .before .h .given .1)
@@ -34,7 +34,7 @@ same-length-2 : tie.Need-same-length-2
 same-length-2 c = search needs
 
 returns-2 : tie.Need-returns-2
-returns-2 c = answers-run _ _ _ _ _ (c .before .before .before .before .before .before .before .before .before .before .before .before .before .admit .ensures) _ _ (c .before .before .before .before .before .before .before .before .before .before .before .h .given .1) _ (c .before .before .before .before .before .before .before .before .before .run-from-start .ensures) _ _ _ (c .answer-of .ensures) (c .before .before .before .before .before .before .before .put-values .ensures) (c .before .before .before .put-trail .ensures)
+returns-2 c = answers-run _ _ _ _ _ (c .before .before .before .before .before .before .before .before .before .before .before .before .before .admit .ensures) _ _ (c .before .before .before .before .before .before .before .before .before .before .before .h .given .1) _ (c .before .before .before .before .before .before .before .before .before .run-to-end .ensures) _ _ _ (c .answer-of .ensures) (c .before .before .before .before .before .before .before .put-values .ensures) (c .before .before .before .put-trail .ensures)
 
 pub run-spec : {M : Type 1} → statement M
 run-spec =
@@ -43,7 +43,7 @@ run-spec =
     admit-requires
     enum-known-refusal
     enum-known-h
-    run-from-start-requires
+    run-to-end-requires
     put-values-requires
     put-trail-requires
     answer-of-requires

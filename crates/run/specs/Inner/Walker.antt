@@ -1,46 +1,72 @@
--- What the walkers over the bytes of an accepted routine tell: of whatever tree was decoded, of whatever arm stands there.
+-- What the walkers over the bytes of an accepted routine tell of the course: of whatever tree was decoded, of whatever arm stands there.
 use Prim.Native.Nat.{ℕ, _+_}
 use mathlib.Core.Path.{_≡_}
-use mathlib.Core.List.{List}
+use mathlib.Core.List.{List, []}
 use mathlib.Core.Bool.{Bool, true, false, cond}
-use Rattle.faults.specs.Step.{oneIf}
+use Rattle.command.specs.Command.{sizeOfSimple}
+use Rattle.faults.specs.Step.{oneIf, after}
 use Rattle.routine.specs.Routine.{Arm}
 use Rattle.routine.specs.Inner.Stands.{Stands}
 use Rattle.header.specs.declared.Header.{Header}
 use Rattle.command.specs.declared.Condition.{Condition}
 use Rattle.faults.specs.declared.Counts.{Counts}
-use Rattle.machine.specs.State.{take, holds}
-use Rattle.run.specs.Run.{runArm}
+use Rattle.command.specs.declared.Simple.{Simple}
+use Rattle.machine.specs.State.{holds, carry}
 use Rattle.machine.specs.declared.Outcome.{Outcome}
 use Rattle.machine.specs.declared.State.{State}
-use Rattle.run.specs.declared.Reached.{Reached}
+use Rattle.run.specs.Run.{Stretch, eventsAt, runArm, runIf}
+use Rattle.run.specs.Course.{courseTo}
+use Rattle.run.specs.declared.Course.{Course}
+use Rattle.run.specs.declared.Goal.{Goal}
+use Rattle.run.specs.declared.Way.{Way}
 
 -- an access stopped the run
 abbrev pub isOver : Outcome → Bool
 isOver Outcome.Going = false
 isOver (Outcome.Stopped access index side) = true
 
+-- the run went astray or came to the access
+abbrev pub settled : Course → Bool
+settled (Course.Astray number) = true
+settled Course.Passing = false
+settled (Course.Arrived array index) = true
+
+-- the course is settled, or an access before the goal stopped the run
+abbrev pub isEnded : Course → State → Bool
+isEnded course state = cond (settled course) true (isOver (state .outcome))
+
+-- nothing of the rest matters to the walk
+abbrev pub isDone : Way → Bool
+isDone w = isEnded (w .course) (w .state)
+
 -- the walk at an offset, with the counts there
-abbrev pub reachedAt : ℕ → Counts → State → Reached
-reachedAt next counts state = record { next = next; counts = counts; state = state }
+abbrev pub wayAt : ℕ → Counts → State → Course → Way
+wayAt next counts state course = record { next = next; counts = counts; state = state; course = course }
 
--- the walk has the state s, and where it did not stop it is at `end` with the counts k
-pub record Arrives (s : State) (end : ℕ) (k : Counts) (r : Reached) : Type 0 where
-  pub state : r .state ≡ s
-  pub next : isOver (r .state .outcome) ≡ false → r .next ≡ end
-  pub counts : isOver (r .state .outcome) ≡ false → r .counts ≡ k
+-- the arm that an if takes: 0 first, 1 else
+unfoldable pub armAt : List ℕ → Condition → State → ℕ
+armAt bs c s = cond (holds bs c s) 0 1
 
--- an arm, run from where the walk w is
-pub record RunsArm (bs ins : List ℕ) (h : Header) (depth close : ℕ) (w r : Reached) : Type 0 where
-  pub tells : (a : Arm) (end : ℕ) (k₁ : Counts) → Stands bs h depth close (w .next) (w .counts) a end k₁ → Arrives (runArm bs ins h a (w .state) .state) end k₁ r
+-- the walk after a command that is no if
+unfoldable pub stepOn : (bs ins : List ℕ) → Goal → Header → Simple → Way → Way
+stepOn bs ins goal h c w =
+    wayAt (w .next + sizeOfSimple c) (after c (w .counts)) (carry bs ins h c (w .counts) (w .state))
+    (courseTo [] goal (eventsAt bs c (w .counts) (w .state)))
 
--- the state that an if with these arms leaves, the if's number being n
-abbrev pub ranIf : (bs ins : List ℕ) → Header → Condition → (n : ℕ) → (first second : Arm) → State → State
-ranIf bs ins h c n first second s =
-    cond (holds bs c s) (runArm bs ins h first (take s n 0) .state) (runArm bs ins h second (take s n 1) .state)
+-- the walk has the course of the stretch x, and where that is not settled, its state; where it goes on, it is at `end` with the counts k
+pub record Arrives (ds : List ℕ) (goal : Goal) (x : Stretch) (end : ℕ) (k : Counts) (r : Way) : Type 0 where
+  pub course : r .course ≡ courseTo ds goal (x .events)
+  pub state : settled (r .course) ≡ false → r .state ≡ x .state
+  pub next : isDone r ≡ false → r .next ≡ end
+  pub counts : isDone r ≡ false → r .counts ≡ k
 
--- an if, run from where the walk w is
-pub record RunsIf (bs ins : List ℕ) (h : Header) (depth : ℕ) (c : Condition) (w r : Reached) : Type 0 where
+-- an arm, followed from where the walk w is
+pub record FollowsArm (bs ins ds : List ℕ) (goal : Goal) (h : Header) (depth close : ℕ) (w r : Way) : Type 0 where
+  pub tells : (a : Arm) (end : ℕ) (k₁ : Counts) → Stands bs h depth close (w .next) (w .counts) a end k₁
+      → Arrives ds goal (runArm bs ins h a (w .state)) end k₁ r
+
+-- an if, followed from where the walk w is
+pub record FollowsIf (bs ins ds : List ℕ) (goal : Goal) (h : Header) (depth : ℕ) (c : Condition) (w r : Way) : Type 0 where
   pub tells : (first : Arm) (else : ℕ) (k₁ : Counts) (second : Arm) (end : ℕ) (k₂ : Counts)
       → Stands bs h (depth + 1) 0x0C (w .next + 4) (oneIf (w .counts)) first else k₁ → Stands bs h (depth + 1) 0x0D else k₁ second end k₂
-      → Arrives (ranIf bs ins h c (w .counts .ifs) first second (w .state)) end k₂ r
+      → Arrives ds goal (runIf bs c (w .counts) (runArm bs ins h first) (runArm bs ins h second) (w .state)) end k₂ r

@@ -33,22 +33,22 @@ enum-told c = search needs
 array-share-prefix-words-2 : tie.Need-array-share-prefix-words-2
 array-share-prefix-words-2 c = search needs
 
-slice-aggregate-follow : tie.Need-slice-aggregate-follow
-slice-aggregate-follow c =
+slice-aggregate-run-to-access : tie.Need-slice-aggregate-run-to-access
+slice-aggregate-run-to-access c =
     let a = c .before .before .before .before .before .before .before .before .before .before .args in
     inputs-length (a .report .now) (a .h) (a .k) _ (c .before .before .before .before .before .before .before .input-count .ensures) _ (c .before .before .before .before .before .words-from .ensures)
 
-sub-follow : tie.Need-sub-follow
-sub-follow c = search needs
+sub-run-to-access : tie.Need-sub-run-to-access
+sub-run-to-access c = search needs
 
-part-follow-start : tie.Need-part-follow-start
-part-follow-start c = search needs
+part-run-to-access-start : tie.Need-part-run-to-access-start
+part-run-to-access-start c = search needs
 
-part-follow-end : tie.Need-part-follow-end
-part-follow-end c = search needs
+part-run-to-access-end : tie.Need-part-run-to-access-end
+part-run-to-access-end c = search needs
 
-follow-requires : tie.Need-follow-requires
-follow-requires c κs = counted-routine _ _ _ (c .before .before .before .before .before .before .before .before .before .before .before .pre .0)
+run-to-access-requires : tie.Need-run-to-access-requires
+run-to-access-requires c κs = counted-routine _ _ _ (c .before .before .before .before .before .before .before .before .before .before .before .pre .0)
 
 by-course-requires : tie.Need-by-course-requires
 by-course-requires c κs = search needs
@@ -62,7 +62,7 @@ enum-known-number c = search needs
 returns : tie.Need-returns
 returns c =
     let a = c .before .before .before .before .before .before .before .before .before .before .before .before .before .args in
-    settled _ _ _ _ _ _ _ (inputs-are (a .report .now) (a .h) (a .k) _ (c .before .before .before .before .before .before .before .before .before .before .input-count .ensures) _ (c .before .before .before .before .before .before .before .before .words-from .ensures)) _ (c .before .before .before .before .before .before .check-inputs .ensures) (c .before .before .before .before .enum-told .given .1) _ (decisions-part (a .report .now) (a .k .ifs)) _ (c .before .follow .ensures) _ (c .by-course .ensures)
+    settled _ _ _ _ _ _ _ (inputs-are (a .report .now) (a .h) (a .k) _ (c .before .before .before .before .before .before .before .before .before .before .input-count .ensures) _ (c .before .before .before .before .before .before .before .before .words-from .ensures)) _ (c .before .before .before .before .before .before .check-inputs .ensures) (c .before .before .before .before .enum-told .given .1) _ (decisions-part (a .report .now) (a .k .ifs)) _ (c .before .run-to-access .ensures) _ (c .by-course .ensures)
 
 returns-2 : tie.Need-returns-2
 returns-2 c =
@@ -87,11 +87,11 @@ settle-spec =
     check-inputs-requires
     enum-told
     array-share-prefix-words-2
-    slice-aggregate-follow
-    sub-follow
-    part-follow-start
-    part-follow-end
-    follow-requires
+    slice-aggregate-run-to-access
+    sub-run-to-access
+    part-run-to-access-start
+    part-run-to-access-end
+    run-to-access-requires
     by-course-requires
     enum-told-2
     enum-known-number

@@ -1,29 +1,9 @@
 -- What a command that is no if says of the course. Assumes nothing.
-use mathlib.Core.Path.{_≡_}
-use mathlib.Core.List.{List}
-use Prim.Native.Nat.{ℕ, _≤_, _<_}
-use native.Mathlib.Omega.{arith}
 use borrow.Author.Needs.{needs}
-use Rattle.header.specs.Header.{width}
-use Rattle.header.specs.declared.Header.{Header}
-use Rattle.faults.specs.Inner.Sound.{Sound, Fine}
-use Rattle.command.specs.declared.Simple.{Simple}
-use Rattle.faults.proofs.Fine.{read-fine, write-fine}
-use Rattle.course.specs.Course.{course}
-use Rattle.course.specs.Inner.Walker.{arrivalAt}
-use Rattle.course.proofs.ways.course_at.Statement.{statement}
-use Rattle.course.proofs.ways.course_at.Tie as tie
-
--- the index of an access is a variable of the routine
-module _ (bs : List ℕ) (h : Header) (f : Fine bs h) (x : Simple) (e : Sound bs h x) where
-  index-of : (i : ℕ) → i < h .variables → (i < 32) × (1 ≤ width bs i) × (width bs i ≤ 32)
-  index-of i l = let w = f .widths i l in (omega (arith, f .few), w .0, w .1)
-
-  read-index : (d array i : ℕ) → x ≡ Simple.Read d array i → (i < 32) × (1 ≤ width bs i) × (width bs i ≤ 32)
-  read-index d array i q = index-of i (read-fine bs h d array i (rw q at e) .2)
-
-  write-index : (array i s : ℕ) → x ≡ Simple.Write array i s → (i < 32) × (1 ≤ width bs i) × (width bs i ≤ 32)
-  write-index array i s q = index-of i (write-fine bs h array i s (rw q at e) .1)
+use Rattle.machine.proofs.Operands.{read-index, write-index}
+use Rattle.run.specs.Course.{courseTo}
+use Rattle.run.proofs.ways.course_at.Statement.{statement}
+use Rattle.run.proofs.ways.course_at.Tie as tie
 
 enum-told : tie.Need-enum-told
 enum-told c = search needs
@@ -47,23 +27,21 @@ arrival-requires-2 : tie.Need-arrival-requires-2
 arrival-requires-2 c κs = let p = c .before .before .before .before .pre in write-index _ _ (p .1) _ (p .0) _ _ _ (c .before .c2 .given .1)
 
 returns : tie.Need-returns
-unfolding course
+unfolding courseTo
 returns c = rw (c .enum-told .given .1)
 
 returns-2 : tie.Need-returns-2
-unfolding course
+unfolding courseTo
 returns-2 c = rw (c .enum-told2 .given .1)
 
 returns-3 : tie.Need-returns-3
-unfolding course
+unfolding courseTo
 returns-3 c = rw (c .enum-told3 .given .1)
 
 returns-4 : tie.Need-returns-4
-unfolding course arrivalAt
 returns-4 c = rw (c .before .before .c .given .1) (c .arrival .ensures)
 
 returns-5 : tie.Need-returns-5
-unfolding course arrivalAt
 returns-5 c = rw (c .before .before .c2 .given .1) (c .arrival2 .ensures)
 
 pub course-at-spec : {M : Type 1} → statement M

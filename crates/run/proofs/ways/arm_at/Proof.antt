@@ -1,8 +1,8 @@
 -- The arm that an if takes. Assumes nothing.
 use borrow.Author.Needs.{needs}
-use Rattle.course.specs.Inner.Walker.{armAt}
-use Rattle.course.proofs.ways.arm_at.Statement.{statement}
-use Rattle.course.proofs.ways.arm_at.Tie as tie
+use Rattle.run.specs.Inner.Walker.{armAt}
+use Rattle.run.proofs.ways.arm_at.Statement.{statement}
+use Rattle.run.proofs.ways.arm_at.Tie as tie
 
 meets-requires : tie.Need-meets-requires
 meets-requires c κs = search needs

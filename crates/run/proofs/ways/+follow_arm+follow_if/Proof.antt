@@ -5,29 +5,36 @@ use native.Mathlib.Omega.{arith}
 use lib.ListN.{length}
 use borrow.Author.Needs.{needs}
 use borrow.Author.Tests.{not-true, not-false}
+use Rattle.command.proofs.Sizes.{simple-size}
 use Rattle.routine.proofs.Standing.{not-missing, close-room, simple-known, some-if, else-room, second-falls, first-arm, passed-to, second-passed}
-use Rattle.course.specs.declared.Way.{Way}
-use Rattle.course.proofs.Following.{Going, begun, here, closed, stepped, step-done, forked, fork-done, if-room, step-room}
-use Rattle.course.proofs.Parting.{first-falls, second-after, astray, first-done, first-passed, second-followed}
+use Rattle.run.specs.Inner.Walker.{wayAt}
+use Rattle.run.specs.declared.Course.{Course}
+use Rattle.run.specs.declared.Way.{Way}
+use Rattle.run.proofs.Following.{if-from, step-is, Going, begun, onwards, started, here, closed, stepped, step-done, forked, fork-done, if-room}
+use Rattle.run.proofs.Parting.{first-falls, second-after, astray, first-done, first-passed, second-followed}
 use borrow.Fn.Kinds.{In}
 use borrow.Fn.PlainCycle.{Measures, is, falls, and}
-use Rattle.course.proofs.ways.follow_arm.Reads as follow-arm
-use Rattle.course.proofs.ways.follow_arm.Kinds as follow-arm-kinds
-use Rattle.course.proofs.ways.+follow_arm+follow_if.Lts-follow_arm as follow-arm-lts
-use Rattle.course.proofs.ways.follow_if.Reads as follow-if
-use Rattle.course.proofs.ways.follow_if.Kinds as follow-if-kinds
-use Rattle.course.proofs.ways.+follow_arm+follow_if.Lts-follow_if as follow-if-lts
+use Rattle.run.proofs.ways.follow_arm.Reads as follow-arm
+use Rattle.run.proofs.ways.follow_arm.Kinds as follow-arm-kinds
+use Rattle.run.proofs.ways.+follow_arm+follow_if.Lts-follow_arm as follow-arm-lts
+use Rattle.run.proofs.ways.follow_if.Reads as follow-if
+use Rattle.run.proofs.ways.follow_if.Kinds as follow-if-kinds
+use Rattle.run.proofs.ways.+follow_arm+follow_if.Lts-follow_if as follow-if-lts
 use Rattle.command.proofs.commands.command_at.Reads as command-at-reads
+use Rattle.command.proofs.commands.simple_size.Reads as simple-size-reads
+use Rattle.faults.proofs.steps.counts_after.Reads as counts-after-reads
+use Rattle.machine.proofs.State.carried.Reads as carried-reads
+use Rattle.run.proofs.ways.course_at.Reads as course-at-reads
+use Rattle.run.proofs.ways.is_ended.Reads as is-ended-reads
 use Rattle.faults.proofs.steps.counts_after_if.Reads as counts-after-if-reads
-use Rattle.course.proofs.ways.arm_at.Reads as arm-at-reads
-use Rattle.course.proofs.ways.is_done.Reads as is-done-reads
-use Rattle.course.proofs.ways.keeps_to.Reads as keeps-to-reads
-use Rattle.course.proofs.ways.step_on.Reads as step-on-reads
-use Rattle.course.proofs.ways.way.Reads as way-reads
+use Rattle.run.proofs.ways.arm_at.Reads as arm-at-reads
+use Rattle.run.proofs.ways.is_done.Reads as is-done-reads
+use Rattle.run.proofs.ways.keeps_to.Reads as keeps-to-reads
+use Rattle.run.proofs.ways.way.Reads as way-reads
 use Rattle.machine.proofs.State.took.Reads as took-reads
 use Rattle.routine.proofs.walks.pass_arm.Reads as pass-arm-reads
-use Rattle.course.proofs.ways.+follow_arm+follow_if.{statement}
-use Rattle.course.proofs.ways.+follow_arm+follow_if.Tie.{close}
+use Rattle.run.proofs.ways.+follow_arm+follow_if.{statement}
+use Rattle.run.proofs.ways.+follow_arm+follow_if.Tie.{close}
 
 abbrev μ-follow-arm : Measures 3 follow-arm-kinds.ps ℕ
 μ-follow-arm κs a = 2 * (length (a .0 .now) - a .1 .1 .1 .1 .1 .1 .1 .0 .next) + 1
@@ -61,8 +68,16 @@ follow-arm-calls t = (
   follow-if.Post,
   is-done-reads.Asked,
   is-done-reads.Learnt,
-  step-on-reads.Asked,
-  step-on-reads.Learnt,
+  course-at-reads.Asked,
+  course-at-reads.Learnt,
+  carried-reads.Asked,
+  carried-reads.Learnt,
+  simple-size-reads.Asked,
+  simple-size-reads.Learnt,
+  counts-after-reads.Asked,
+  counts-after-reads.Learnt,
+  is-ended-reads.Asked,
+  is-ended-reads.Learnt,
 )
 
 -- what follow_if calls
@@ -87,10 +102,11 @@ follow-if-calls t = (
 )
 
 abbrev follow-arm-Inv-loop : follow-arm-lts.InvT-loop
-follow-arm-Inv-loop bytes inputs decisions access h depth close w₀ w = (w₀ .next ≤ w .next) × Going bytes inputs decisions access h depth close w₀ w
+follow-arm-Inv-loop bytes inputs decisions goal h depth close at₀ k₀ s₀ at k s =
+    (at₀ ≤ at) × Going bytes inputs decisions goal h depth close (wayAt at₀ k₀ s₀ Course.Passing) (wayAt at k s Course.Passing)
 
 abbrev follow-arm-μ-loop : follow-arm-lts.MeasureT-loop
-follow-arm-μ-loop bytes inputs decisions access h depth close w₀ w = length bytes - w .next
+follow-arm-μ-loop bytes inputs decisions goal h depth close at₀ k₀ s₀ at k s = length bytes - at
 
 follow-arm-loop-holds : (t : ℕ) → follow-arm-lts.Need-loop-holds (follow-arm-calls t) (follow-arm-at t) follow-arm.Post follow-arm-Inv-loop follow-arm-μ-loop
 follow-arm-loop-holds t c = (omega arith, begun _ _ _ _ _ _ _ _)
@@ -101,86 +117,121 @@ follow-arm-command-at-requires t c κs = search needs
 follow-arm-enum-told : (t : ℕ) → follow-arm-lts.Need-enum-told (follow-arm-calls t) (follow-arm-at t) follow-arm.Post follow-arm-Inv-loop follow-arm-μ-loop
 follow-arm-enum-told t c = search needs
 
+follow-arm-way-requires : (t : ℕ) → follow-arm-lts.Need-way-requires (follow-arm-calls t) (follow-arm-at t) follow-arm.Post follow-arm-Inv-loop follow-arm-μ-loop
+follow-arm-way-requires t c κs = search needs
+
 follow-arm-returns : (t : ℕ) → follow-arm-lts.Need-returns (follow-arm-calls t) (follow-arm-at t) follow-arm.Post follow-arm-Inv-loop follow-arm-μ-loop
 follow-arm-returns t c =
-    let w = here _ _ _ _ _ _ _ _ _ (c .before .before .before .loop .inv .1) (c .before .before .before .before .before .before .before .pre .1 .0) in
-    absurd (not-missing _ _ _ _ _ _ w _ (c .before .before .command-at .ensures) (c .enum-told .given .1))
+    let w = here _ _ _ _ _ _ _ _ _ (c .before .before .before .before .loop .inv .1) (c .before .before .before .before .before .before .before .before .before .before .pre .1 .0) in
+    absurd (not-missing _ _ _ _ _ _ w _ (c .before .before .before .command-at .ensures) (c .before .enum-told .given .1))
 
 follow-arm-enum-told-2 : (t : ℕ) → follow-arm-lts.Need-enum-told-2 (follow-arm-calls t) (follow-arm-at t) follow-arm.Post follow-arm-Inv-loop follow-arm-μ-loop
 follow-arm-enum-told-2 t c = search needs
 
 follow-arm-add-way : (t : ℕ) → follow-arm-lts.Need-add-way (follow-arm-calls t) (follow-arm-at t) follow-arm.Post follow-arm-Inv-loop follow-arm-μ-loop
 follow-arm-add-way t c =
-    let w = here _ _ _ _ _ _ _ _ _ (c .before .before .before .before .loop .inv .1) (c .before .before .before .before .before .before .before .before .pre .1 .0) in
-    let l = close-room _ _ _ _ _ _ w _ (c .before .before .before .command-at .ensures) _ (c .before .enum-told2 .given .1) in
+    let w = here _ _ _ _ _ _ _ _ _ (c .before .before .before .loop .inv .1) (c .before .before .before .before .before .before .before .before .before .pre .1 .0) in
+    let l = close-room _ _ _ _ _ _ w _ (c .before .before .command-at .ensures) _ (c .enum-told2 .given .1) in
     omega arith
 
-follow-arm-way-requires : (t : ℕ) → follow-arm-lts.Need-way-requires (follow-arm-calls t) (follow-arm-at t) follow-arm.Post follow-arm-Inv-loop follow-arm-μ-loop
-follow-arm-way-requires t c κs = search needs
+follow-arm-way-requires-2 : (t : ℕ) → follow-arm-lts.Need-way-requires-2 (follow-arm-calls t) (follow-arm-at t) follow-arm.Post follow-arm-Inv-loop follow-arm-μ-loop
+follow-arm-way-requires-2 t c κs = search needs
 
 follow-arm-returns-2 : (t : ℕ) → follow-arm-lts.Need-returns-2 (follow-arm-calls t) (follow-arm-at t) follow-arm.Post follow-arm-Inv-loop follow-arm-μ-loop
-follow-arm-returns-2 t c = rw (c .way .ensures) (closed _ _ _ _ _ _ _ _ _ (c .before .before .before .before .before .loop .inv .1) _ (c .before .before .before .before .command-at .ensures) _ (c .before .before .enum-told2 .given .1))
+follow-arm-returns-2 t c =
+    rw (c .way2 .ensures)
+    (started _ _ _ _ _ _ _ _ _ (closed _ _ _ _ _ _ _ _ _ (c .before .before .before .before .loop .inv .1) _ (c .before .before .before .command-at .ensures) _ (c .before .enum-told2 .given .1)))
 
 follow-arm-enum-known-c : (t : ℕ) → follow-arm-lts.Need-enum-known-c (follow-arm-calls t) (follow-arm-at t) follow-arm.Post follow-arm-Inv-loop follow-arm-μ-loop
 follow-arm-enum-known-c t c = search needs
 
+follow-arm-way-requires-3 : (t : ℕ) → follow-arm-lts.Need-way-requires-3 (follow-arm-calls t) (follow-arm-at t) follow-arm.Post follow-arm-Inv-loop follow-arm-μ-loop
+follow-arm-way-requires-3 t c κs = search needs
+
 follow-arm-follow-if-requires : (t : ℕ) → follow-arm-lts.Need-follow-if-requires (follow-arm-calls t) (follow-arm-at t) follow-arm.Post follow-arm-Inv-loop follow-arm-μ-loop
 follow-arm-follow-if-requires t c κs =
-    let w = here _ _ _ _ _ _ _ _ _ (c .before .before .before .before .loop .inv .1) (c .before .before .before .before .before .before .before .before .pre .1 .0) in
-    let i = some-if _ _ _ _ _ _ w _ (c .before .before .before .command-at .ensures) _ (c .before .c .given .1) in
-    (omega arith, (i .0, i .1, i .2, c .before .before .before .before .before .before .before .before .pre .1 .1))
+    let w = here _ _ _ _ _ _ _ _ _ (c .before .before .before .before .before .loop .inv .1) (c .before .before .before .before .before .before .before .before .before .before .before .pre .1 .0) in
+    let i = some-if _ _ _ _ _ _ w _ (c .before .before .before .before .command-at .ensures) _ (c .before .before .c .given .1) in
+    rw (c .way3 .ensures) (omega arith, (i .0, i .1, i .2, c .before .before .before .before .before .before .before .before .before .before .before .pre .1 .1))
 
 follow-arm-is-done-requires : (t : ℕ) → follow-arm-lts.Need-is-done-requires (follow-arm-calls t) (follow-arm-at t) follow-arm.Post follow-arm-Inv-loop follow-arm-μ-loop
 follow-arm-is-done-requires t c κs = search needs
 
 follow-arm-returns-3 : (t : ℕ) → follow-arm-lts.Need-returns-3 (follow-arm-calls t) (follow-arm-at t) follow-arm.Post follow-arm-Inv-loop follow-arm-μ-loop
 follow-arm-returns-3 t c =
-    fork-done _ _ _ _ _ _ _ _ _ (c .before .before .before .before .before .before .before .loop .inv .1) _ (c .before .before .before .before .before .before .command-at .ensures) _ (c .before .before .before .before .c .given .1) _ (c .before .before .follow-if .ensures)
-    (sym (c .before .is-done .ensures) ∙ c .if1 .taken)
+    started _ _ _ _ _ _ _ _ _
+    (fork-done _ _ _ _ _ _ _ _ _ (c .before .before .before .before .before .before .before .before .loop .inv .1) _ (c .before .before .before .before .before .before .before .command-at .ensures) _ (c .before .before .before .before .before .c .given .1) _ (if-from _ _ _ _ _ _ _ _ _ _ (c .before .before .before .way3 .ensures) (c .before .before .follow-if .ensures))
+    (sym (c .before .is-done .ensures) ∙ c .if1 .taken))
 
 follow-arm-loop-less : (t : ℕ) → follow-arm-lts.Need-loop-less (follow-arm-calls t) (follow-arm-at t) follow-arm.Post follow-arm-Inv-loop follow-arm-μ-loop
 follow-arm-loop-less t c =
-    let w = here _ _ _ _ _ _ _ _ _ (c .before .before .before .before .before .before .before .loop .inv .1) (c .before .before .before .before .before .before .before .before .before .before .before .pre .1 .0) in
-    let e = sym (c .before .is-done .ensures) ∙ c .if1 .left in
-    let l = if-room _ _ _ _ _ w _ (c .before .before .before .before .before .before .command-at .ensures) _ _ _ _ (c .before .before .before .before .c .given .1) _ (c .before .before .follow-if .ensures) e in
+    let w = here _ _ _ _ _ _ _ _ _ (c .before .before .before .before .before .before .before .before .before .before .loop .inv .1) (c .before .before .before .before .before .before .before .before .before .before .before .before .before .before .before .before .pre .1 .0) in
+    let e = sym (c .before .before .before .is-done .ensures) ∙ c .before .before .if1 .left in
+    let l = if-room _ _ _ _ (wayAt _ _ _ Course.Passing) w _ (c .before .before .before .before .before .before .before .before .before .command-at .ensures) _ _ _ _ (c .before .before .before .before .before .before .before .c .given .1) _ (if-from _ _ _ _ _ _ _ _ _ _ (c .before .before .before .before .before .way3 .ensures) (c .before .before .before .before .follow-if .ensures)) e in
     omega arith
 
 follow-arm-loop-again : (t : ℕ) → follow-arm-lts.Need-loop-again (follow-arm-calls t) (follow-arm-at t) follow-arm.Post follow-arm-Inv-loop follow-arm-μ-loop
 follow-arm-loop-again t c =
-    let w = here _ _ _ _ _ _ _ _ _ (c .before .before .before .before .before .before .before .loop .inv .1) (c .before .before .before .before .before .before .before .before .before .before .before .pre .1 .0) in
-    let e = sym (c .before .is-done .ensures) ∙ c .if1 .left in
-    let l = if-room _ _ _ _ _ w _ (c .before .before .before .before .before .before .command-at .ensures) _ _ _ _ (c .before .before .before .before .c .given .1) _ (c .before .before .follow-if .ensures) e in
-    (omega arith, forked _ _ _ _ _ _ _ _ _ (c .before .before .before .before .before .before .before .loop .inv .1) _ (c .before .before .before .before .before .before .command-at .ensures) _ (c .before .before .before .before .c .given .1) _ (c .before .before .follow-if .ensures) e)
+    let w = here _ _ _ _ _ _ _ _ _ (c .before .before .before .before .before .before .before .before .before .before .loop .inv .1) (c .before .before .before .before .before .before .before .before .before .before .before .before .before .before .before .before .pre .1 .0) in
+    let e = sym (c .before .before .before .is-done .ensures) ∙ c .before .before .if1 .left in
+    let l = if-room _ _ _ _ (wayAt _ _ _ Course.Passing) w _ (c .before .before .before .before .before .before .before .before .before .command-at .ensures) _ _ _ _ (c .before .before .before .before .before .before .before .c .given .1) _ (if-from _ _ _ _ _ _ _ _ _ _ (c .before .before .before .before .before .way3 .ensures) (c .before .before .before .before .follow-if .ensures)) e in
+    (omega arith, onwards _ _ _ _ _ _ _ _ _ (forked _ _ _ _ _ _ _ _ _ (c .before .before .before .before .before .before .before .before .before .before .loop .inv .1) _ (c .before .before .before .before .before .before .before .before .before .command-at .ensures) _ (c .before .before .before .before .before .before .before .c .given .1) _ (if-from _ _ _ _ _ _ _ _ _ _ (c .before .before .before .before .before .way3 .ensures) (c .before .before .before .before .follow-if .ensures)) e))
 
 follow-arm-enum-known-c-2 : (t : ℕ) → follow-arm-lts.Need-enum-known-c-2 (follow-arm-calls t) (follow-arm-at t) follow-arm.Post follow-arm-Inv-loop follow-arm-μ-loop
 follow-arm-enum-known-c-2 t c = search needs
 
-follow-arm-step-on-requires : (t : ℕ) → follow-arm-lts.Need-step-on-requires (follow-arm-calls t) (follow-arm-at t) follow-arm.Post follow-arm-Inv-loop follow-arm-μ-loop
-follow-arm-step-on-requires t c κs =
-    let w = here _ _ _ _ _ _ _ _ _ (c .before .before .before .before .loop .inv .1) (c .before .before .before .before .before .before .before .before .pre .1 .0) in
+follow-arm-course-at-requires : (t : ℕ) → follow-arm-lts.Need-course-at-requires (follow-arm-calls t) (follow-arm-at t) follow-arm.Post follow-arm-Inv-loop follow-arm-μ-loop
+follow-arm-course-at-requires t c κs =
+    let w = here _ _ _ _ _ _ _ _ _ (c .before .before .before .before .loop .inv .1) (c .before .before .before .before .before .before .before .before .before .before .pre .1 .0) in
     let p = simple-known _ _ _ _ _ _ w _ (c .before .before .before .command-at .ensures) _ (c .before .c2 .given .1) in
-    (p .0, c .before .before .before .before .before .before .before .before .pre .1 .1, p .1, p .2)
+    (p .0, c .before .before .before .before .before .before .before .before .before .before .pre .1 .1)
 
-follow-arm-is-done-requires-2 : (t : ℕ) → follow-arm-lts.Need-is-done-requires-2 (follow-arm-calls t) (follow-arm-at t) follow-arm.Post follow-arm-Inv-loop follow-arm-μ-loop
-follow-arm-is-done-requires-2 t c κs = search needs
+follow-arm-carried-requires : (t : ℕ) → follow-arm-lts.Need-carried-requires (follow-arm-calls t) (follow-arm-at t) follow-arm.Post follow-arm-Inv-loop follow-arm-μ-loop
+follow-arm-carried-requires t c κs =
+    let w = here _ _ _ _ _ _ _ _ _ (c .before .before .before .before .before .loop .inv .1) (c .before .before .before .before .before .before .before .before .before .before .before .pre .1 .0) in
+    let p = simple-known _ _ _ _ _ _ w _ (c .before .before .before .before .command-at .ensures) _ (c .before .before .c2 .given .1) in
+    (p .0, c .before .before .before .before .before .before .before .before .before .before .before .pre .1 .1)
+
+follow-arm-simple-size-requires : (t : ℕ) → follow-arm-lts.Need-simple-size-requires (follow-arm-calls t) (follow-arm-at t) follow-arm.Post follow-arm-Inv-loop follow-arm-μ-loop
+follow-arm-simple-size-requires t c κs = search needs
+
+follow-arm-add-at : (t : ℕ) → follow-arm-lts.Need-add-at (follow-arm-calls t) (follow-arm-at t) follow-arm.Post follow-arm-Inv-loop follow-arm-μ-loop
+follow-arm-add-at t c =
+    let w = here _ _ _ _ _ _ _ _ _ (c .before .before .before .before .before .before .before .loop .inv .1) (c .before .before .before .before .before .before .before .before .before .before .before .before .before .pre .1 .0) in
+    let p = simple-known _ _ _ _ _ _ w _ (c .before .before .before .before .before .before .command-at .ensures) _ (c .before .before .before .before .c2 .given .1) in
+    let l = p .2 in
+    omega (arith, l, c .simple-size .ensures)
+
+follow-arm-counts-after-requires : (t : ℕ) → follow-arm-lts.Need-counts-after-requires (follow-arm-calls t) (follow-arm-at t) follow-arm.Post follow-arm-Inv-loop follow-arm-μ-loop
+follow-arm-counts-after-requires t c κs =
+    let w = here _ _ _ _ _ _ _ _ _ (c .before .before .before .before .before .before .before .loop .inv .1) (c .before .before .before .before .before .before .before .before .before .before .before .before .before .pre .1 .0) in
+    let p = simple-known _ _ _ _ _ _ w _ (c .before .before .before .before .before .before .command-at .ensures) _ (c .before .before .before .before .c2 .given .1) in
+    p .1
+
+follow-arm-is-ended-requires : (t : ℕ) → follow-arm-lts.Need-is-ended-requires (follow-arm-calls t) (follow-arm-at t) follow-arm.Post follow-arm-Inv-loop follow-arm-μ-loop
+follow-arm-is-ended-requires t c κs = search needs
+
+follow-arm-way-requires-4 : (t : ℕ) → follow-arm-lts.Need-way-requires-4 (follow-arm-calls t) (follow-arm-at t) follow-arm.Post follow-arm-Inv-loop follow-arm-μ-loop
+follow-arm-way-requires-4 t c κs = search needs
 
 follow-arm-returns-4 : (t : ℕ) → follow-arm-lts.Need-returns-4 (follow-arm-calls t) (follow-arm-at t) follow-arm.Post follow-arm-Inv-loop follow-arm-μ-loop
 follow-arm-returns-4 t c =
-    step-done _ _ _ _ _ _ _ _ _ (c .before .before .before .before .before .before .before .loop .inv .1) _ (c .before .before .before .before .before .before .command-at .ensures) _ (c .before .before .before .before .c2 .given .1) _ (c .before .before .step-on .ensures)
-    (sym (c .before .is-done2 .ensures) ∙ c .if2 .taken)
+    rw (c .way4 .ensures)
+    (started _ _ _ _ _ _ _ _ _
+    (step-done _ _ _ _ _ _ _ _ _ (c .before .before .before .before .before .before .before .before .before .before .before .loop .inv .1) _ (c .before .before .before .before .before .before .before .before .before .before .command-at .ensures) _ (c .before .before .before .before .before .before .before .before .c2 .given .1) _ (step-is _ _ _ _ _ _ _ _ _ _ _ _ (c .before .before .before .before .simple-size .ensures) (c .before .before .before .counts-after .ensures) (c .before .before .before .before .before .carried .ensures) (c .before .before .before .before .before .before .course-at .ensures))
+    (sym (c .before .before .is-ended .ensures) ∙ c .before .if2 .taken)))
 
 follow-arm-loop-less-2 : (t : ℕ) → follow-arm-lts.Need-loop-less-2 (follow-arm-calls t) (follow-arm-at t) follow-arm.Post follow-arm-Inv-loop follow-arm-μ-loop
 follow-arm-loop-less-2 t c =
-    let w = here _ _ _ _ _ _ _ _ _ (c .before .before .before .before .before .before .before .loop .inv .1) (c .before .before .before .before .before .before .before .before .before .before .before .pre .1 .0) in
-    let l = step-room _ _ _ _ _ w _ (c .before .before .before .before .before .before .command-at .ensures) _ _ _ _ (c .before .before .before .before .c2 .given .1) (c .before .before .step-on .ensures) in
-    omega arith
+    let w = here _ _ _ _ _ _ _ _ _ (c .before .before .before .before .before .before .before .before .before .before .loop .inv .1) (c .before .before .before .before .before .before .before .before .before .before .before .before .before .before .before .before .pre .1 .0) in
+    let p = simple-known _ _ _ _ _ _ w _ (c .before .before .before .before .before .before .before .before .before .command-at .ensures) _ (c .before .before .before .before .before .before .before .c2 .given .1) in
+    let l = p .2 in
+    omega (arith, l, c .before .before .before .simple-size .ensures, simple-size (c .before .before .before .before .before .before .before .c2 .given .0 .0))
 
 follow-arm-loop-again-2 : (t : ℕ) → follow-arm-lts.Need-loop-again-2 (follow-arm-calls t) (follow-arm-at t) follow-arm.Post follow-arm-Inv-loop follow-arm-μ-loop
 follow-arm-loop-again-2 t c =
-    let w = here _ _ _ _ _ _ _ _ _ (c .before .before .before .before .before .before .before .loop .inv .1) (c .before .before .before .before .before .before .before .before .before .before .before .pre .1 .0) in
-    let l = step-room _ _ _ _ _ w _ (c .before .before .before .before .before .before .command-at .ensures) _ _ _ _ (c .before .before .before .before .c2 .given .1) (c .before .before .step-on .ensures) in
-    let e = sym (c .before .is-done2 .ensures) ∙ c .if2 .left in
-    (omega arith, stepped _ _ _ _ _ _ _ _ _ (c .before .before .before .before .before .before .before .loop .inv .1) _ (c .before .before .before .before .before .before .command-at .ensures) _ (c .before .before .before .before .c2 .given .1) _ (c .before .before .step-on .ensures) e)
+    let e = sym (c .before .is-ended .ensures) ∙ c .if2 .left in
+    (omega arith, onwards _ _ _ _ _ _ _ _ _ (stepped _ _ _ _ _ _ _ _ _ (c .before .before .before .before .before .before .before .before .before .before .loop .inv .1) _ (c .before .before .before .before .before .before .before .before .before .command-at .ensures) _ (c .before .before .before .before .before .before .before .c2 .given .1) _ (step-is _ _ _ _ _ _ _ _ _ _ _ _ (c .before .before .before .simple-size .ensures) (c .before .before .counts-after .ensures) (c .before .before .before .before .carried .ensures) (c .before .before .before .before .before .course-at .ensures)) e))
 
 follow-if-counts-after-if-requires : (t : ℕ) → follow-if-lts.Need-counts-after-if-requires (follow-if-calls t) (follow-if-at t) follow-if.Post
 follow-if-counts-after-if-requires t c κs = c .before .before .before .before .before .pre .1 .1
@@ -285,20 +336,27 @@ pub +follow-arm+follow-if-spec : {M : Type 1} → statement M
     (follow-arm-loop-holds t)
     (follow-arm-command-at-requires t)
     (follow-arm-enum-told t)
+    (follow-arm-way-requires t)
     (follow-arm-returns t)
     (follow-arm-enum-told-2 t)
     (follow-arm-add-way t)
-    (follow-arm-way-requires t)
+    (follow-arm-way-requires-2 t)
     (follow-arm-returns-2 t)
     (follow-arm-enum-known-c t)
+    (follow-arm-way-requires-3 t)
     (follow-arm-follow-if-requires t)
     (follow-arm-is-done-requires t)
     (follow-arm-returns-3 t)
     (follow-arm-loop-less t)
     (follow-arm-loop-again t)
     (follow-arm-enum-known-c-2 t)
-    (follow-arm-step-on-requires t)
-    (follow-arm-is-done-requires-2 t)
+    (follow-arm-course-at-requires t)
+    (follow-arm-carried-requires t)
+    (follow-arm-simple-size-requires t)
+    (follow-arm-add-at t)
+    (follow-arm-counts-after-requires t)
+    (follow-arm-is-ended-requires t)
+    (follow-arm-way-requires-4 t)
     (follow-arm-returns-4 t)
     (follow-arm-loop-less-2 t)
     (follow-arm-loop-again-2 t))

@@ -21,13 +21,14 @@ use Rattle.routine.proofs.Standing.{simple-known, if-ends}
 use Rattle.machine.specs.State.{carry}
 use Rattle.machine.specs.declared.Outcome.{Outcome}
 use Rattle.machine.specs.declared.State.{State}
 use Rattle.run.specs.Run.{Event, Stretch, unlessStopped, andThen, eventsAt, runArm, runIf}
 use Rattle.run.specs.Inner.Walker.{isOver}
-use Rattle.course.specs.Course.{course}
-use Rattle.course.specs.Inner.Walker.{settled, isDone, wayAt, stepOn, Arrives, FollowsArm, FollowsIf}
-use Rattle.course.specs.declared.Course.{Course}
-use Rattle.course.specs.declared.Way.{Way}
-use Rattle.course.proofs.Laws.{course-append}
+use Rattle.run.specs.Course.{courseTo}
+use Rattle.run.specs.Inner.Walker.{settled, isDone, wayAt, stepOn, Arrives, FollowsArm, FollowsIf}
+use Rattle.run.specs.declared.Course.{Course}
+use Rattle.run.specs.declared.Goal.{Goal}
+use Rattle.run.specs.declared.Way.{Way}
+use Rattle.run.proofs.Laws.{courseTo-append}
 
 -- ---- what matters of a course and a state: the course, and the state only where that is passing
 
@@ -83,24 +84,24 @@ either r e f = let z : _≡_ {A = ℕ} 0 1 = cc in absurd (omega arith)
 
 -- ---- going on, or not
 
-module _ (ds : List ℕ) (access : ℕ) where
+module _ (ds : List ℕ) (goal : Goal) where
   abbrev seenOf : Stretch → Seen
-  seenOf x = seen (course ds access (x .events)) (x .state)
+  seenOf x = seen (courseTo ds goal (x .events)) (x .state)
 
-  on : (o : Outcome) (es : List Event) (s : State) (go : State → Stretch) → course ds access es ≡ Course.Passing → isOver o ≡ false
+  on : (o : Outcome) (es : List Event) (s : State) (go : State → Stretch) → courseTo ds goal es ≡ Course.Passing → isOver o ≡ false
       → seenOf (go s) ≡ seenOf (unlessStopped o es s go)
-  on Outcome.Going es s go e f = rw (course-append ds access es (go s .events), e)
+  on Outcome.Going es s go e f = rw (courseTo-append ds goal es (go s .events), e)
   on (Outcome.Stopped number index side) es s go e f = let z : _≡_ {A = ℕ} 0 1 = cc in absurd (omega arith)
 
-  off : (o : Outcome) (es : List Event) (s : State) (go : State → Stretch) (c : Course) → c ≡ course ds access es → cond (settled c) true (isOver o) ≡ true
+  off : (o : Outcome) (es : List Event) (s : State) (go : State → Stretch) (c : Course) → c ≡ courseTo ds goal es → cond (settled c) true (isOver o) ≡ true
       → seen c s ≡ seenOf (unlessStopped o es s go)
-  off Outcome.Going es s go (Course.Astray number) e f = rw (course-append ds access es (go s .events), ← e)
+  off Outcome.Going es s go (Course.Astray number) e f = rw (courseTo-append ds goal es (go s .events), ← e)
   off Outcome.Going es s go Course.Passing e f = let z : _≡_ {A = ℕ} 0 1 = cc in absurd (omega arith)
-  off Outcome.Going es s go (Course.Arrived array index) e f = rw (course-append ds access es (go s .events), ← e)
+  off Outcome.Going es s go (Course.Arrived array index) e f = rw (courseTo-append ds goal es (go s .events), ← e)
   off (Outcome.Stopped number index side) es s go c e f = ap (λ (z : Course). seen z s) e
 
   -- after a stretch that the walk r has followed
-  module _ (x : Stretch) (go : State → Stretch) (r : Way) (by : r .course ≡ course ds access (x .events)) (is : settled (r .course) ≡ false → r .state ≡ x .state) where
+  module _ (x : Stretch) (go : State → Stretch) (r : Way) (by : r .course ≡ courseTo ds goal (x .events)) (is : settled (r .course) ≡ false → r .state ≡ x .state) where
     then-on : isDone r ≡ false → seenOf (go (r .state)) ≡ seenOf (andThen x go)
     then-on e =
         let p = going (r .course) (isOver (r .state .outcome)) e in
@@ -114,29 +115,42 @@ module _ (ds : List ℕ) (access : ℕ) where
         p .0 ∙ off (x .state .outcome) (x .events) (x .state) go (r .course) by (sym (p .1) ∙ e)
 
   arrived : (x : Stretch) (end : ℕ) (k : Counts) (r : Way) → seen (r .course) (r .state) ≡ seenOf x → (isDone r ≡ false → r .next ≡ end) → (isDone r ≡ false → r .counts ≡ k)
-      → Arrives ds access x end k r
+      → Arrives ds goal x end k r
   arrived x end k r e n m = record {
-    course = same-course (r .course) (course ds access (x .events)) (r .state) (x .state) e;
-    state = same-state (r .course) (course ds access (x .events)) (r .state) (x .state) e;
+    course = same-course (r .course) (courseTo ds goal (x .events)) (r .state) (x .state) e;
+    state = same-state (r .course) (courseTo ds goal (x .events)) (r .state) (x .state) e;
     next = n;
     counts = m;
   }
 
   -- a command that is no if takes no decision
-  course-plain : (bs : List ℕ) (c : Simple) (k : Counts) (s : State) → course [] access (eventsAt bs c k s) ≡ course ds access (eventsAt bs c k s)
-  unfolding course
+  course-plain : (bs : List ℕ) (c : Simple) (k : Counts) (s : State) → courseTo [] goal (eventsAt bs c k s) ≡ courseTo ds goal (eventsAt bs c k s)
+  unfolding courseTo
   course-plain bs (Simple.Set d x) k s = refl
   course-plain bs (Simple.Convert op d x) k s = refl
   course-plain bs (Simple.Compute op d x y) k s = refl
   course-plain bs (Simple.Read d array i) k s = refl
   course-plain bs (Simple.Write array i x) k s = refl
 
+-- ---- a walk that is the same one
+
+pub if-from : (bs ins ds : List ℕ) (goal : Goal) (h : Header) (depth : ℕ) (c : Condition) (v w r : Way) → v ≡ w
+    → FollowsIf bs ins ds goal h depth c v r → FollowsIf bs ins ds goal h depth c w r
+if-from bs ins ds goal h depth c v w r e x = subst (λ (y : Way). FollowsIf bs ins ds goal h depth c y r) e x
+
+-- the walk after a command that is no if, put together
+pub step-is : (bs ins : List ℕ) (goal : Goal) (h : Header) (c : Simple) (at : ℕ) (k : Counts) (s : State) (n : ℕ) (k₁ : Counts) (s₁ : State) (x : Course)
+    → n ≡ sizeOfSimple c → k₁ ≡ after c k → s₁ ≡ carry bs ins h c k s → x ≡ courseTo [] goal (eventsAt bs c k s)
+    → wayAt (at + n) k₁ s₁ x ≡ stepOn bs ins goal h c (wayAt at k s Course.Passing)
+unfolding stepOn
+step-is bs ins goal h c at k s n k₁ s₁ x e f g q = rw (e, f, g, q)
+
 -- ---- the walk over an arm
 
-module _ (bs ins ds : List ℕ) (access : ℕ) (h : Header) (depth close : ℕ) where
+module _ (bs ins ds : List ℕ) (goal : Goal) (h : Header) (depth close : ℕ) where
   -- what an arm means from a state, and that the counts are those of the walk
   abbrev Meant : Arm → State × Counts → Seen
-  Meant a s = seenOf ds access (runArm bs ins h a (s .0))
+  Meant a s = seenOf ds goal (runArm bs ins h a (s .0))
 
   abbrev Tied : Counts → State × Counts → Type 0
   Tied k s = s .1 ≡ k
@@ -149,6 +163,15 @@ module _ (bs ins ds : List ℕ) (access : ℕ) (h : Header) (depth close : ℕ) 
   unfolding Going
   begun w = walking.begin bs h depth close Meant Tied (w .next) (w .state, w .counts)
 
+  -- a walk goes on from its offset, its counts and its state
+  pub onwards : (w₀ w : Way) → Going w₀ w → Going w₀ (wayAt (w .next) (w .counts) (w .state) Course.Passing)
+  unfolding Going
+  onwards w₀ w g = g
+
+  pub started : (w r : Way) → FollowsArm bs ins ds goal h depth close (wayAt (w .next) (w .counts) (w .state) Course.Passing) r
+      → FollowsArm bs ins ds goal h depth close w r
+  started w r x = record { tells = x .tells }
+
   module _ (w₀ w : Way) (g : Going w₀ w) where
     -- the arm that stands here now
     pub here : SomeArm bs h depth close (w₀ .next) (w₀ .counts) → SomeArm bs h depth close (w .next) (w .counts)
@@ -159,12 +182,12 @@ module _ (bs ins ds : List ℕ) (access : ℕ) (h : Header) (depth close : ℕ) 
 
     module _ (r : Command) (is : r ≡ commandAt bs (w .next)) where
       pub closed : (m : ℕ) → r ≡ Command.Close m
-          → FollowsArm bs ins ds access h depth close w₀ (wayAt (w .next + 1) (w .counts) (w .state) Course.Passing)
-      unfolding Going runArm course
+          → FollowsArm bs ins ds goal h depth close w₀ (wayAt (w .next + 1) (w .counts) (w .state) Course.Passing)
+      unfolding Going runArm courseTo
       closed m q = record {
         tells = λ a end k₁ x.
             let p = walking.at-close bs h depth close Meant Tied (w₀ .next) (w₀ .state, w₀ .counts) (w .next) (w .state, w .counts) g r is m q (w₀ .counts) a end k₁ refl x in
-            arrived ds access (runArm bs ins h a (w₀ .state)) end k₁ (wayAt (w .next + 1) (w .counts) (w .state) Course.Passing) (p .2) (λ e. p .0) (λ e. p .1);
+            arrived ds goal (runArm bs ins h a (w₀ .state)) end k₁ (wayAt (w .next + 1) (w .counts) (w .state) Course.Passing) (p .2) (λ e. p .0) (λ e. p .1);
       }
 
       -- a command that is no if
@@ -173,47 +196,47 @@ module _ (bs ins ds : List ℕ) (access : ℕ) (h : Header) (depth close : ℕ) 
         abbrev plainStretch : Counts → Stretch
         plainStretch k = record { events = eventsAt bs c k (w .state); state = carry bs ins h c k (w .state) }
 
-        step-course : (k : Counts) → w .counts ≡ k → stepOn bs ins access h c w .course ≡ course ds access (plainStretch k .events)
+        step-course : (k : Counts) → w .counts ≡ k → stepOn bs ins goal h c w .course ≡ courseTo ds goal (plainStretch k .events)
         unfolding stepOn
         step-course k t =
-            course-plain ds access bs c (w .counts) (w .state) ∙ ap (λ (x : Counts). course ds access (eventsAt bs c x (w .state))) t
+            course-plain ds goal bs c (w .counts) (w .state) ∙ ap (λ (x : Counts). courseTo ds goal (eventsAt bs c x (w .state))) t
 
-        step-state : (k : Counts) → w .counts ≡ k → stepOn bs ins access h c w .state ≡ plainStretch k .state
+        step-state : (k : Counts) → w .counts ≡ k → stepOn bs ins goal h c w .state ≡ plainStretch k .state
         unfolding stepOn
         step-state k t = ap (λ (x : Counts). carry bs ins h c x (w .state)) t
 
-        step-on : isDone (stepOn bs ins access h c w) ≡ false → Going w₀ (stepOn bs ins access h c w)
+        step-on : isDone (stepOn bs ins goal h c w) ≡ false → Going w₀ (stepOn bs ins goal h c w)
         unfolding Going runArm stepOn
         step-on e =
             walking.at-simple bs h depth close Meant Tied (w₀ .next) (w₀ .state, w₀ .counts) (w .next) (w .state, w .counts) g r is c q
-            (stepOn bs ins access h c w .state, after c (w .counts))
+            (stepOn bs ins goal h c w .state, after c (w .counts))
             (λ k rest t.
-            (ap (after c) t, then-on ds access (plainStretch k) (runArm bs ins h rest) (stepOn bs ins access h c w) (step-course k t) (λ _. step-state k t) e))
+            (ap (after c) t, then-on ds goal (plainStretch k) (runArm bs ins h rest) (stepOn bs ins goal h c w) (step-course k t) (λ _. step-state k t) e))
 
-        step-off : isDone (stepOn bs ins access h c w) ≡ true → FollowsArm bs ins ds access h depth close w₀ (stepOn bs ins access h c w)
+        step-off : isDone (stepOn bs ins goal h c w) ≡ true → FollowsArm bs ins ds goal h depth close w₀ (stepOn bs ins goal h c w)
         unfolding Going runArm
         step-off e = record {
           tells = λ a end k₁ x.
-              let v = stepOn bs ins access h c w in
-              arrived ds access (runArm bs ins h a (w₀ .state)) end k₁ v
+              let v = stepOn bs ins goal h c w in
+              arrived ds goal (runArm bs ins h a (w₀ .state)) end k₁ v
               (walking.over-simple bs h depth close Meant Tied (w₀ .next) (w₀ .state, w₀ .counts) (w .next) (w .state, w .counts) g r is c q
               (seen (v .course) (v .state))
-              (λ k rest t. then-off ds access (plainStretch k) (runArm bs ins h rest) v (step-course k t) (λ _. step-state k t) e)
+              (λ k rest t. then-off ds goal (plainStretch k) (runArm bs ins h rest) v (step-course k t) (λ _. step-state k t) e)
               (w₀ .counts) a end k₁ refl x)
               (either v e) (either v e);
         }
 
-        pub stepped : (t : Way) → t ≡ stepOn bs ins access h c w → isDone t ≡ false → Going w₀ t
+        pub stepped : (t : Way) → t ≡ stepOn bs ins goal h c w → isDone t ≡ false → Going w₀ t
         stepped t p e = subst (λ (x : Way). Going w₀ x) (sym p) (step-on (ap isDone (sym p) ∙ e))
 
-        pub step-done : (t : Way) → t ≡ stepOn bs ins access h c w → isDone t ≡ true → FollowsArm bs ins ds access h depth close w₀ t
-        step-done t p e = subst (λ (x : Way). FollowsArm bs ins ds access h depth close w₀ x) (sym p) (step-off (ap isDone (sym p) ∙ e))
+        pub step-done : (t : Way) → t ≡ stepOn bs ins goal h c w → isDone t ≡ true → FollowsArm bs ins ds goal h depth close w₀ t
+        step-done t p e = subst (λ (x : Way). FollowsArm bs ins ds goal h depth close w₀ x) (sym p) (step-off (ap isDone (sym p) ∙ e))
 
       -- an if, after which the walk is at t
-      module _ (c : Condition) (q : r ≡ Command.If c) (t : Way) (f : FollowsIf bs ins ds access h depth c w t) where
+      module _ (c : Condition) (q : r ≡ Command.If c) (t : Way) (f : FollowsIf bs ins ds goal h depth c w t) where
         arrives : (k : Counts) → w .counts ≡ k → (first second : Arm) (else : ℕ) (k₂ : Counts) (next : ℕ) (k₃ : Counts)
             → Stands bs h (depth + 1) 12 (w .next + 4) (oneIf k) first else k₂ → Stands bs h (depth + 1) 13 else k₂ second next k₃
-            → Arrives ds access (runIf bs c k (runArm bs ins h first) (runArm bs ins h second) (w .state)) next k₃ t
+            → Arrives ds goal (runIf bs c k (runArm bs ins h first) (runArm bs ins h second) (w .state)) next k₃ t
         arrives k e first second else k₂ next k₃ x y = rw (← e) (f .tells first else k₂ second next k₃ (rw e x) y)
 
         pub forked : isDone t ≡ false → Going w₀ t
@@ -222,26 +245,26 @@ module _ (bs ins ds : List ℕ) (access : ℕ) (h : Header) (depth close : ℕ) 
             walking.at-if bs h depth close Meant Tied (w₀ .next) (w₀ .state, w₀ .counts) (w .next) (w .state, w .counts) g r is c q (t .next) (t .state, t .counts)
             (λ k first second rest else k₂ next k₃ u x y.
             let z = arrives k u first second else k₂ next k₃ x y in
-            (z .next e, z .counts e, then-on ds access (runIf bs c k (runArm bs ins h first) (runArm bs ins h second) (w .state)) (runArm bs ins h rest) t (z .course) (z .state) e))
+            (z .next e, z .counts e, then-on ds goal (runIf bs c k (runArm bs ins h first) (runArm bs ins h second) (w .state)) (runArm bs ins h rest) t (z .course) (z .state) e))
 
-        pub fork-done : isDone t ≡ true → FollowsArm bs ins ds access h depth close w₀ t
+        pub fork-done : isDone t ≡ true → FollowsArm bs ins ds goal h depth close w₀ t
         unfolding Going runArm
         fork-done e = record {
           tells = λ a end k₁ x.
-              arrived ds access (runArm bs ins h a (w₀ .state)) end k₁ t
+              arrived ds goal (runArm bs ins h a (w₀ .state)) end k₁ t
               (walking.over-if bs h depth close Meant Tied (w₀ .next) (w₀ .state, w₀ .counts) (w .next) (w .state, w .counts) g r is c q
               (seen (t .course) (t .state))
               (λ k first second rest else k₂ next k₃ u y z.
               let p = arrives k u first second else k₂ next k₃ y z in
-              then-off ds access (runIf bs c k (runArm bs ins h first) (runArm bs ins h second) (w .state)) (runArm bs ins h rest) t (p .course) (p .state) e)
+              then-off ds goal (runIf bs c k (runArm bs ins h first) (runArm bs ins h second) (w .state)) (runArm bs ins h rest) t (p .course) (p .state) e)
               (w₀ .counts) a end k₁ refl x)
               (either t e) (either t e);
         }
 
 -- the bytes left fall over an if
 module _ (bs : List ℕ) (h : Header) (depth close : ℕ) (w : Way) (a : SomeArm bs h depth close (w .next) (w .counts)) (r : Command) (is : r ≡ commandAt bs (w .next))
-    (ins : List ℕ) (access : ℕ) (t : Way) where
-  pub if-room : (c : Condition) → r ≡ Command.If c → (ds : List ℕ) → FollowsIf bs ins ds access h depth c w t → isDone t ≡ false
+    (ins : List ℕ) (goal : Goal) (t : Way) where
+  pub if-room : (c : Condition) → r ≡ Command.If c → (ds : List ℕ) → FollowsIf bs ins ds goal h depth c w t → isDone t ≡ false
       → (w .next < t .next) × (t .next ≤ length bs)
   if-room c q ds x e =
       let v = by-if bs h depth close (w .next) (w .counts) (a .arm) (a .end) (a .after) r is (a .stands) c q in
@@ -250,7 +273,7 @@ module _ (bs : List ℕ) (h : Header) (depth close : ℕ) (w : Way) (a : SomeArm
       rw y (if-ends v)
 
   -- and over a command that is no if
-  pub step-room : (c : Simple) → r ≡ Command.Simple c → t ≡ stepOn bs ins access h c w → (w .next < t .next) × (t .next ≤ length bs)
+  pub step-room : (c : Simple) → r ≡ Command.Simple c → t ≡ stepOn bs ins goal h c w → (w .next < t .next) × (t .next ≤ length bs)
   unfolding stepOn
   step-room c q x =
       let p : t .next ≡ w .next + sizeOfSimple c = ap (λ (y : Way). y .next) x in

@@ -15,20 +15,21 @@ use Rattle.routine.specs.declared.Passed.{Passed}
 use Rattle.routine.proofs.Standing.{second-at}
 use Rattle.machine.specs.State.{take, holds}
 use Rattle.machine.specs.declared.State.{State}
 use Rattle.run.specs.Run as run
 use Rattle.run.specs.Run.{Stretch, took, runArm, runIf}
 use Rattle.run.specs.Inner.Walker.{isOver}
-use Rattle.course.specs.Course.{keeps, course}
-use Rattle.course.specs.Inner.Walker.{settled, isDone, wayAt, armAt, Arrives, FollowsArm, FollowsIf}
-use Rattle.course.specs.declared.Course.{Course}
-use Rattle.course.specs.declared.Way.{Way}
-use Rattle.course.proofs.Following.{going, either}
+use Rattle.run.specs.Course.{keepsTo, courseTo}
+use Rattle.run.specs.Inner.Walker.{settled, isDone, wayAt, armAt, Arrives, FollowsArm, FollowsIf}
+use Rattle.run.specs.declared.Course.{Course}
+use Rattle.run.specs.declared.Goal.{Goal}
+use Rattle.run.specs.declared.Way.{Way}
+use Rattle.run.proofs.Following.{going, either}
 
 -- after the first arm was followed
 pub second-after : (bs : List ℕ) (h : Header) (depth at : ℕ) (k : Counts) → SomeIf bs h depth at (oneIf k) → (inside : Counts) → inside ≡ oneIf k
-    → (ins ds : List ℕ) (access : ℕ) (s : State) (v r : Way) → v ≡ wayAt (at + 4) inside s Course.Passing
-    → FollowsArm bs ins ds access h (depth + 1) 12 v r → isDone r ≡ false → SomeArm bs h (depth + 1) 13 (r .next) (r .counts)
-second-after bs h depth at k i inside e ins ds access s v r q x f =
+    → (ins ds : List ℕ) (goal : Goal) (s : State) (v r : Way) → v ≡ wayAt (at + 4) inside s Course.Passing
+    → FollowsArm bs ins ds goal h (depth + 1) 12 v r → isDone r ≡ false → SomeArm bs h (depth + 1) 13 (r .next) (r .counts)
+second-after bs h depth at k i inside e ins ds goal s v r q x f =
     let y = (rw q at x) .tells (i .first) (i .else) (i .between) (rw e (i .stands-first)) in
     second-at bs h depth at k i (r .next) (r .counts) (y .next f) (y .counts f)
 
@@ -45,24 +46,24 @@ else-second : (b : Bool) (x y : Stretch) → (cond {A = ℕ} b 0 1 ≡ 0 → ⊥
 else-second true x y e = absurd (e refl)
 else-second false x y e = refl
 
-module _ (ds : List ℕ) (access number before : ℕ) (x y : Stretch) where
+module _ (ds : List ℕ) (goal : Goal) (number before : ℕ) (x y : Stretch) where
   -- the stretch of an if, from those of its arms
   abbrev forkStretch : Bool → Stretch
   forkStretch b = cond b (run.after (took number 0 before ∷ []) x) (run.after (took number 1 before ∷ []) y)
 
-  fork-astray : (b : Bool) → keeps ds access number (cond b 0 1) before ≡ false → Course.Astray number ≡ course ds access (forkStretch b .events)
-  unfolding course
+  fork-astray : (b : Bool) → keepsTo ds goal number (cond b 0 1) before ≡ false → Course.Astray number ≡ courseTo ds goal (forkStretch b .events)
+  unfolding courseTo
   fork-astray true e = rw e
   fork-astray false e = rw e
 
-  fork-kept : (b : Bool) → keeps ds access number (cond b 0 1) before ≡ true
-      → (course ds access (cond b x y .events) ≡ course ds access (forkStretch b .events)) × (cond b x y .state ≡ forkStretch b .state)
-  unfolding course
+  fork-kept : (b : Bool) → keepsTo ds goal number (cond b 0 1) before ≡ true
+      → (courseTo ds goal (cond b x y .events) ≡ courseTo ds goal (forkStretch b .events)) × (cond b x y .state ≡ forkStretch b .state)
+  unfolding courseTo
   fork-kept true e = (rw e, refl)
   fork-kept false e = (rw e, refl)
 
-module _ (bs ins ds : List ℕ) (access : ℕ) (h : Header) (depth : ℕ) (c : Condition) (w : Way) (arm : ℕ) (is : arm ≡ armAt bs c (w .state))
-    (b : Bool) (by : b ≡ keeps ds access (w .counts .ifs) arm (accesses (w .counts))) where
+module _ (bs ins ds : List ℕ) (goal : Goal) (h : Header) (depth : ℕ) (c : Condition) (w : Way) (arm : ℕ) (is : arm ≡ armAt bs c (w .state))
+    (b : Bool) (by : b ≡ keepsTo ds goal (w .counts .ifs) arm (accesses (w .counts))) where
   -- the stretches of the arms
   abbrev firstOf : Arm → Stretch
   firstOf first = runArm bs ins h first (take (w .state) (w .counts .ifs) 0)
@@ -70,15 +71,15 @@ module _ (bs ins ds : List ℕ) (access : ℕ) (h : Header) (depth : ℕ) (c : C
   abbrev secondOf : Arm → Stretch
   secondOf second = runArm bs ins h second (take (w .state) (w .counts .ifs) 1)
 
-  decision : keeps ds access (w .counts .ifs) (cond (holds bs c (w .state)) 0 1) (accesses (w .counts)) ≡ b
+  decision : keepsTo ds goal (w .counts .ifs) (cond (holds bs c (w .state)) 0 1) (accesses (w .counts)) ≡ b
   unfolding armAt
-  decision = sym (by ∙ ap (λ (n : ℕ). keeps ds access (w .counts .ifs) n (accesses (w .counts))) is)
+  decision = sym (by ∙ ap (λ (n : ℕ). keepsTo ds goal (w .counts .ifs) n (accesses (w .counts))) is)
 
-  pub astray : b ≡ false → FollowsIf bs ins ds access h depth c w (wayAt (w .next) (w .counts) (w .state) (Course.Astray (w .counts .ifs)))
+  pub astray : b ≡ false → FollowsIf bs ins ds goal h depth c w (wayAt (w .next) (w .counts) (w .state) (Course.Astray (w .counts .ifs)))
   astray e = record {
     tells = λ first else k₁ second end k₂ p q.
         record {
-          course = fork-astray ds access (w .counts .ifs) (accesses (w .counts)) (firstOf first) (secondOf second) (holds bs c (w .state)) (decision ∙ e);
+          course = fork-astray ds goal (w .counts .ifs) (accesses (w .counts)) (firstOf first) (secondOf second) (holds bs c (w .state)) (decision ∙ e);
           state = λ z. absurd (true≢false z);
           next = λ z. absurd (true≢false z);
           counts = λ z. absurd (true≢false z);
@@ -88,27 +89,27 @@ module _ (bs ins ds : List ℕ) (access : ℕ) (h : Header) (depth : ℕ) (c : C
   module _ (e : b ≡ true) (inside : Counts) (k : inside ≡ oneIf (w .counts)) (s : State) where
     -- what the arm that was taken comes to is what the if comes to
     kept : (first second : Arm) (x : Stretch) → x ≡ cond (holds bs c (w .state)) (firstOf first) (secondOf second)
-        → (end : ℕ) (k₁ : Counts) (r : Way) → Arrives ds access x end k₁ r → Arrives ds access (runIf bs c (w .counts) (runArm bs ins h first) (runArm bs ins h second) (w .state)) end k₁ r
+        → (end : ℕ) (k₁ : Counts) (r : Way) → Arrives ds goal x end k₁ r → Arrives ds goal (runIf bs c (w .counts) (runArm bs ins h first) (runArm bs ins h second) (w .state)) end k₁ r
     kept first second x q end k₁ r a =
-        let p = fork-kept ds access (w .counts .ifs) (accesses (w .counts)) (firstOf first) (secondOf second) (holds bs c (w .state)) (decision ∙ e) in
+        let p = fork-kept ds goal (w .counts .ifs) (accesses (w .counts)) (firstOf first) (secondOf second) (holds bs c (w .state)) (decision ∙ e) in
         record {
-          course = a .course ∙ ap (λ (y : Stretch). course ds access (y .events)) q ∙ p .0;
+          course = a .course ∙ ap (λ (y : Stretch). courseTo ds goal (y .events)) q ∙ p .0;
           state = λ u. a .state u ∙ ap (λ (y : Stretch). y .state) q ∙ p .1;
           next = a .next;
           counts = a .counts;
         }
 
     module _ (z : arm ≡ 0) (t : s ≡ take (w .state) (w .counts .ifs) 0) (v : Way) (f : v ≡ wayAt (w .next + 4) inside s Course.Passing)
-        (r : Way) (x : FollowsArm bs ins ds access h (depth + 1) 12 v r) where
+        (r : Way) (x : FollowsArm bs ins ds goal h (depth + 1) 12 v r) where
       first-tells : (first second : Arm) (else : ℕ) (k₁ : Counts) → Stands bs h (depth + 1) 12 (w .next + 4) (oneIf (w .counts)) first else k₁
-          → Arrives ds access (runIf bs c (w .counts) (runArm bs ins h first) (runArm bs ins h second) (w .state)) else k₁ r
+          → Arrives ds goal (runIf bs c (w .counts) (runArm bs ins h first) (runArm bs ins h second) (w .state)) else k₁ r
       unfolding armAt
       first-tells first second else k₁ p =
           kept first second (runArm bs ins h first s)
           (ap (runArm bs ins h first) t ∙ zero-first (holds bs c (w .state)) (firstOf first) (secondOf second) (sym is ∙ z))
           else k₁ r ((rw f at x) .tells first else k₁ (rw k p))
 
-      pub first-done : isDone r ≡ true → FollowsIf bs ins ds access h depth c w r
+      pub first-done : isDone r ≡ true → FollowsIf bs ins ds goal h depth c w r
       first-done o = record {
         tells = λ first else k₁ second end k₂ p q.
             let a = first-tells first second else k₁ p in
@@ -116,7 +117,7 @@ module _ (bs ins ds : List ℕ) (access : ℕ) (h : Header) (depth : ℕ) (c : C
       }
 
       pub first-passed : isDone r ≡ false → (past : Passed) → Passes bs h (depth + 1) 13 (r .next) (r .counts) past
-          → FollowsIf bs ins ds access h depth c w (wayAt (past .next) (past .counts) (r .state) Course.Passing)
+          → FollowsIf bs ins ds goal h depth c w (wayAt (past .next) (past .counts) (r .state) Course.Passing)
       first-passed o past y = record {
         tells = λ first else k₁ second end k₂ p q.
             let a = first-tells first second else k₁ p in
@@ -127,7 +128,7 @@ module _ (bs ins ds : List ℕ) (access : ℕ) (h : Header) (depth : ℕ) (c : C
 
     pub second-followed : (arm ≡ 0 → ⊥) → s ≡ take (w .state) (w .counts .ifs) 1 → (past : Passed) → Passes bs h (depth + 1) 12 (w .next + 4) inside past
         → (v : Way) → v ≡ wayAt (past .next) (past .counts) s Course.Passing
-        → (r : Way) → FollowsArm bs ins ds access h (depth + 1) 13 v r → FollowsIf bs ins ds access h depth c w r
+        → (r : Way) → FollowsArm bs ins ds goal h (depth + 1) 13 v r → FollowsIf bs ins ds goal h depth c w r
     unfolding armAt
     second-followed z t past y v f r x = record {
       tells = λ first else k₁ second end k₂ p q.

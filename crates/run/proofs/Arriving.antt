@@ -13,11 +13,11 @@ use Rattle.machine.specs.State.{lies}
 use Rattle.machine.specs.declared.Lies.{Lies}
 use Rattle.machine.specs.declared.Outcome.{Outcome}
 use Rattle.machine.specs.declared.Side.{Side}
 use Rattle.run.specs.Run.{Event, took, came}
 use Rattle.run.proofs.Outside.{Ends}
-use Rattle.course.specs.Course.{keeps, course}
-use Rattle.course.specs.Goes.{goesWay, Comes}
-use Rattle.course.specs.declared.Course.{Course}
+use Rattle.run.specs.Course.{keeps, courseTo, course}
+use Rattle.run.specs.Goes.{goesWay, Comes}
+use Rattle.run.specs.declared.Course.{Course}
 
 -- a course that arrived
 pub record Arrived (x : Course) : Type 0 where
@@ -38,7 +38,7 @@ module _ (ds : List ℕ) (access : ℕ) where
 
   -- a course that arrived came to the access
   pub comes : (es : List Event) (array : ℕ) (index : Whole) → course ds access es ≡ Course.Arrived array index → Comes access array index es
-  unfolding course
+  unfolding courseTo
   comes [] array index e = let z : _≡_ {A = ℕ} 0 1 = cc in absurd (omega arith)
   comes (took number arm before ∷ es) array index e =
       let x = comes es array index (kept (keeps ds access number arm before) number array index (course ds access es) e .1) in
@@ -59,7 +59,7 @@ module _ (ds : List ℕ) (access : ℕ) where
     -- with an index outside, it went the way: nothing comes after
     pub goes : (es : List Event) (array : ℕ) (index : Whole) → Ends bs h es o → course ds access es ≡ Course.Arrived array index
         → lies (arraySize bs h array) index ≡ Lies.Outside side → goesWay ds access es ≡ true
-    unfolding course goesWay
+    unfolding courseTo goesWay
     goes [] array index n e l = refl
     goes (took number arm before ∷ es) array index n e l =
         let q = kept (keeps ds access number arm before) number array index (course ds access es) e in
@@ -78,7 +78,7 @@ module _ (ds : List ℕ) (access : ℕ) where
     pub same : (es : List Event) (array₁ : ℕ) (index₁ : Whole) (fs : List Event) (array : ℕ) (index : Whole) → Ends bs h (es ++ came access array₁ index₁ ∷ fs) o
         → course ds access (es ++ came access array₁ index₁ ∷ fs) ≡ Course.Arrived array index → lies (arraySize bs h array) index ≡ Lies.Outside side
         → (array₁ ≡ array) × (index₁ ≡ index) × (o ≡ Outcome.Stopped access index₁ side)
-    unfolding course
+    unfolding courseTo
     same [] array₁ index₁ fs array index n e l =
         let q : Course.Arrived array₁ index₁ ≡ Course.Arrived array index = rw (eq-eqb access access refl) at e in
         let a : array₁ ≡ array = cc in
@@ -102,7 +102,7 @@ module _ (ds : List ℕ) (access : ℕ) where
   -- a run that goes the way and comes to the access has a course that arrived
   pub arrives : (es : List Event) (array : ℕ) (index : Whole) (fs : List Event) → goesWay ds access (es ++ came access array index ∷ fs) ≡ true
       → Arrived (course ds access (es ++ came access array index ∷ fs))
-  unfolding course goesWay
+  unfolding courseTo goesWay
   arrives [] array index fs e = rw (eq-eqb access access refl) (record { array = array; index = index; there = refl })
   arrives (took number arm before ∷ es) array index fs e = pick (arrives es array index fs) (keeps ds access number arm before) e
     where

@@ -4,8 +4,8 @@ use mathlib.Core.Path.{_≡_}
 use mathlib.Core.List.{List, [], _∷_, _++_}
 use mathlib.Core.Bool.{Bool, true, _&&_}
 use Rattle.bitvec.specs.declared.Whole.{Whole}
 use Rattle.run.specs.Run.{Event, took, came}
-use Rattle.course.specs.Course.{keeps}
+use Rattle.run.specs.Course.{keeps}
 
 -- at every if that the run comes to and that stands before the access, it takes the decided arm, if one is decided
 unfoldable pub goesWay : (ds : List ℕ) → (access : ℕ) → List Event → Bool
