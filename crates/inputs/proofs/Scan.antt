@@ -27,6 +27,7 @@ use Rattle.routine.proofs.Views.{induction}
 use Rattle.inputs.specs.Inputs.{readBefore, readVariables, firstGreat}
 use Rattle.inputs.specs.declared.Listed.{Listed}
 use Rattle.inputs.proofs.Lists.{great-next, great-here}
+use Rattle.inputs.proofs.Fitting.{reads-append}
 
 -- ---- a routine has as many reads as its counts say
 
@@ -36,15 +37,6 @@ read-count (Simple.Convert op d s) k vs = refl
 read-count (Simple.Compute op d s t) k vs = refl
 read-count (Simple.Read d a i) k vs = omega arith
 read-count (Simple.Write a i s) k vs = refl
-
-reads-append : (cs ds : List Simple) → readVariables (cs ++ ds) ≡ readVariables cs ++ readVariables ds
-unfolding readVariables
-reads-append [] ds = refl
-reads-append (Simple.Set d x ∷ cs) ds = reads-append cs ds
-reads-append (Simple.Convert op d s ∷ cs) ds = reads-append cs ds
-reads-append (Simple.Compute op d s t ∷ cs) ds = reads-append cs ds
-reads-append (Simple.Read d a i ∷ cs) ds = ap (λ (vs : List ℕ). d ∷ vs) (reads-append cs ds)
-reads-append (Simple.Write a i s ∷ cs) ds = reads-append cs ds
 
 reads-length : (cs ds : List Simple) → length (readVariables (cs ++ ds)) ≡ length (readVariables cs) + length (readVariables ds)
 reads-length cs ds = ap length (reads-append cs ds) ∙ length-append (readVariables cs) (readVariables ds)

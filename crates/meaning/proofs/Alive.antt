@@ -29,7 +29,7 @@ use Rattle.wires.specs.declared.Claim.{Claim}
 use Rattle.lead.specs.declared.Target.{Target}
 use Rattle.meaning.proofs.Claimed.{simple-claims, fork-claims, arm-claims}
 use Rattle.meaning.proofs.Dead.{Deadens, arm-dead}
-use Rattle.meaning.proofs.Fitting.{Fit}
+use Rattle.inputs.proofs.Fitting.{Fit}
 use Rattle.meaning.proofs.Forks.{Runs, Arms, fork-alive}
 use Rattle.meaning.proofs.Numbers.{Elsewhere, accesses-grow, misses}
 use Rattle.meaning.proofs.Simples.{alive-through, simple-alive}

@@ -44,7 +44,7 @@ use Rattle.wires.specs.declared.Claim.{Claim}
 use Rattle.lead.specs.declared.Target.{Target}
 use Rattle.meaning.proofs.Alive.{arm-alive}
 use Rattle.meaning.proofs.Claimed.{MadeBy, made-by, arm-claims, arm-settled}
-use Rattle.meaning.proofs.Fitting.{Fitting, fitting}
+use Rattle.inputs.proofs.Fitting.{Fitting, fitting}
 use Rattle.meaning.proofs.Formed.{whole-formed}
 use Rattle.meaning.proofs.Numbers.{Elsewhere}
 use Rattle.meaning.proofs.Simples.{Alive}

@@ -5,7 +5,6 @@ pub mod Gates
 pub mod Dead
 pub mod Numbers
 pub mod Claimed
-pub mod Fitting
 pub mod Wired
 pub mod Formed
 pub mod Worth

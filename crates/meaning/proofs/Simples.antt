@@ -51,7 +51,7 @@ use Rattle.indexes.specs.Index.{top, passing, claim}
 use Rattle.meaning.specs.Faithful.{bitsOfList}
 use Rattle.wires.specs.declared.Claim.{Claim}
 use Rattle.lead.specs.declared.Target.{Target}
-use Rattle.meaning.proofs.Fitting.{FitSimple}
+use Rattle.inputs.proofs.Fitting.{FitSimple}
 use Rattle.meaning.proofs.Gates.{access-lit, access-above}
 use Rattle.meaning.proofs.Sides.{Entered, within, outside, inside-says, side-says}
 use Rattle.meaning.proofs.Stretches.{access-by}

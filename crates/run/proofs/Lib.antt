@@ -7,3 +7,4 @@ mod Admitting
 mod Bench
 pub mod Arriving
 pub mod Outside
+pub mod Words

@@ -1,4 +1,4 @@
--- An accepted input list: the word of each parameter and of each read fits the variable that takes it. Assumes nothing.
+-- An accepted input list: each word fits the variable that takes it. Assumes nothing.
 use mathlib.Core.Path.{_≡_, refl, sym, ap, subst, _∙_}
 use mathlib.Core.List.{List, [], _∷_, _++_, append-assoc, append-nil}
 use mathlib.Core.Logic.{_⊎_, inl, inr}
@@ -21,11 +21,11 @@ use Rattle.faults.specs.declared.Counts.{Counts}
 use Rattle.command.specs.declared.Simple.{Simple}
 use Rattle.routine.proofs.Accepted.{decoded}
 use Rattle.routine.proofs.Views.{induction}
 use Rattle.inputs.specs.Inputs.{variablesFrom, readBefore, readVariables, firstGreat, listed}
 use Rattle.inputs.specs.declared.Listed.{Listed}
 
 -- the words of a text's reads, and then those of another's
-reads-append : (xs ys : List Simple) → readVariables (xs ++ ys) ≡ readVariables xs ++ readVariables ys
+pub reads-append : (xs ys : List Simple) → readVariables (xs ++ ys) ≡ readVariables xs ++ readVariables ys
 unfolding readVariables
 reads-append [] ys = refl
 reads-append (Simple.Set d c ∷ xs) ys = reads-append xs ys
