@@ -18,10 +18,11 @@ use Rattle.routine.specs.Decode.{routine, decode, noCounts}
 use Rattle.routine.specs.Inner.Stands.{Stands}
 use Rattle.header.specs.declared.Header.{Header}
 use Rattle.faults.specs.declared.Counts.{Counts}
+use Rattle.command.specs.Command.{touches}
 use Rattle.command.specs.declared.Simple.{Simple}
 use Rattle.routine.proofs.Accepted.{decoded}
 use Rattle.routine.proofs.Views.{induction}
-use Rattle.inputs.specs.Inputs.{variablesFrom, readBefore, readVariables, firstGreat, listed}
+use Rattle.inputs.specs.Inputs.{variablesFrom, readFirst, readVariables, firstGreat, listed}
 use Rattle.inputs.specs.declared.Listed.{Listed}
 
 -- the words of a text's reads, and then those of another's
@@ -85,7 +86,7 @@ module _ (bs ins : List ℕ) where
     abbrev Good : Counts → List ℕ → Type 0
     Good k vs = firstGreat bs ins (inputNumber h k) vs ≡ Listed.Accepted
 
-    simple-fit : (c : Simple) (k : Counts) (vs : List ℕ) → Good k (readBefore c vs) → FitSimple c k × Good (after c k) vs
+    simple-fit : (c : Simple) (k : Counts) (vs : List ℕ) → Good k (readFirst (touches c) vs) → FitSimple c k × Good (after c k) vs
     simple-fit (Simple.Set d c) k vs e = (tt, e)
     simple-fit (Simple.Convert op d s) k vs e = (tt, e)
     simple-fit (Simple.Compute op d s t) k vs e = (tt, e)
@@ -94,7 +95,7 @@ module _ (bs ins : List ℕ) where
         (p .0, subst (λ (m : ℕ). firstGreat bs ins m vs ≡ Listed.Accepted) (add-assoc (given h) (k .reads) 1) (p .1))
     simple-fit (Simple.Write array i s) k vs e = (tt, e)
 
-    before-append : (c : Simple) (xs ys : List ℕ) → readBefore c xs ++ ys ≡ readBefore c (xs ++ ys)
+    before-append : (c : Simple) (xs ys : List ℕ) → readFirst (touches c) xs ++ ys ≡ readFirst (touches c) (xs ++ ys)
     before-append (Simple.Set d c) xs ys = refl
     before-append (Simple.Convert op d s) xs ys = refl
     before-append (Simple.Compute op d s t) xs ys = refl

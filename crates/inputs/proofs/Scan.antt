@@ -9,7 +9,7 @@ use lib.Dec.{ltb, eqb}
 use borrow.Author.Tests.{ne-eqb}
 use Rattle.slices.specs.Bytes.{entry, word}
 use Rattle.header.specs.Header.{width, firstCommand, between}
-use Rattle.command.specs.Command.{sizeOf, sizeBy, sizeOfSimple, commandBy, commandOf, commandAt}
+use Rattle.command.specs.Command.{sizeOf, sizeBy, sizeOfSimple, commandBy, commandOf, commandAt, touches}
 use Rattle.faults.specs.Step.{after}
 use Rattle.faults.specs.Inputs.{given, inputNumber, inputCount}
 use Rattle.routine.specs.Routine.{Arm, textOf}
@@ -24,14 +24,14 @@ use Rattle.command.proofs.Sizes.{size-pos, size-by, not-cut}
 use Rattle.routine.proofs.Accepted.{decoded, commands-are}
 use Rattle.routine.proofs.Text.{Text, over, closes, forks, steps, text}
 use Rattle.routine.proofs.Views.{induction}
-use Rattle.inputs.specs.Inputs.{readBefore, readVariables, firstGreat}
+use Rattle.inputs.specs.Inputs.{readFirst, readVariables, firstGreat}
 use Rattle.inputs.specs.declared.Listed.{Listed}
 use Rattle.inputs.proofs.Lists.{great-next, great-here}
 use Rattle.inputs.proofs.Fitting.{reads-append}
 
 -- ---- a routine has as many reads as its counts say
 
-read-count : (c : Simple) (k : Counts) (vs : List ℕ) → after c k .reads + length vs ≡ k .reads + length (readBefore c vs)
+read-count : (c : Simple) (k : Counts) (vs : List ℕ) → after c k .reads + length vs ≡ k .reads + length (readFirst (touches c) vs)
 read-count (Simple.Set d x) k vs = refl
 read-count (Simple.Convert op d s) k vs = refl
 read-count (Simple.Compute op d s t) k vs = refl
@@ -63,7 +63,7 @@ abbrev readsOf : Command → List ℕ → List ℕ
 readsOf Command.Missing vs = vs
 readsOf (Command.Close mark) vs = vs
 readsOf (Command.If c) vs = vs
-readsOf (Command.Simple c) vs = readBefore c vs
+readsOf (Command.Simple c) vs = readFirst (touches c) vs
 
 none-of : (b₁ b₂ b₃ b₅ b₆ b₇ : Bool) (op a b c k : ℕ) (vs : List ℕ)
     → readsOf (cond b₁ (Command.Simple (Simple.Set a k)) (cond b₂ (Command.Simple (Simple.Convert op a b)) (cond b₃ (Command.Simple (Simple.Compute op a b c))
