@@ -63,20 +63,23 @@ converted-below op v w a e p = go (eqb op 2) (eqb op 6) (eqb op 7) (eqb op 8) e
     wide true q = lt-of-lt-of-le p (pow-mono {i = w} {j = v} (let z = eqb-true v w q in omega arith))
     wide false q = lt-of-lt-of-le p (pow-mono {i = w} {j = v} (let z = ltb-true w v q in omega arith))
 
-    go : (b₂ b₆ b₇ b₈ : Bool) → cond b₂ (eqb v w) (cond b₆ (ltb v w) (ltb w v)) ≡ true → cond b₆ (cut v a) (cond b₇ a (cond b₈ (signExtend v w a) a)) < 2 ^ v
-    go b₂ true b₇ b₈ q = mod-lt a (pow-pos v)
-    go b₂ false true b₈ q = wide b₂ q
-    go b₂ false false true q = extend-below v w a
-    go b₂ false false false q = wide b₂ q
+    go : (b₂ b₆ b₇ b₈ : Bool) → cond b₂ (eqb v w) (cond b₆ (ltb v w) (ltb w v)) ≡ true
+        → cond b₂ a (cond b₆ (cut v a) (cond b₇ a (cond b₈ (signExtend v w a) 0))) < 2 ^ v
+    go true b₆ b₇ b₈ q = wide true q
+    go false true b₇ b₈ q = mod-lt a (pow-pos v)
+    go false false true b₈ q = wide false q
+    go false false false true q = extend-below v w a
+    go false false false false q = pow-pos v
 
 computed-below : (op w a b : ℕ) → computed op w a b < 2 ^ w
 unfolding computed
-computed-below op w a b = go (eqb op 3) (eqb op 4)
+computed-below op w a b = go (eqb op 3) (eqb op 4) (eqb op 5)
   where
-    go : (b₃ b₄ : Bool) → cond b₃ (add w a b) (cond b₄ (subtract w a b) (multiply w a b)) < 2 ^ w
-    go true b₄ = add-below w a b
-    go false true = subtract-below w a b
-    go false false = multiply-below w a b
+    go : (b₃ b₄ b₅ : Bool) → cond b₃ (add w a b) (cond b₄ (subtract w a b) (cond b₅ (multiply w a b) 0)) < 2 ^ w
+    go true b₄ b₅ = add-below w a b
+    go false true b₅ = subtract-below w a b
+    go false false true = multiply-below w a b
+    go false false false = pow-pos w
 
 -- ---- the state
 
