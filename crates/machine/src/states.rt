@@ -36,6 +36,14 @@ fn converted_by(op: u8, v: u8, w: u8, a: u32) -> u32
     }
 }
 
+// The value of variable s as it goes into variable d.
+fn converted_in(bytes: &[u8], op: u8, d: u8, s: u8, a: u32) -> u32
+    requires { ⌜ (width (now bytes) d ≤ 32) × (1 ≤ width (now bytes) s) × (width (now bytes) s ≤ 32) ⌝ }
+    ensures { λ r. ⌜ r ≡ converted op (width (now (bytes .entry)) d) (width (now (bytes .entry)) s) a ⌝ }
+{
+    converted_by(op, width_of(bytes, d), width_of(bytes, s), a)
+}
+
 // The sum, the difference or the product.
 fn computed_by(op: u8, w: u8, a: u32, b: u32) -> u32
     requires { ⌜ w ≤ 32 ⌝ }
@@ -136,31 +144,6 @@ impl State {
         signed::reading(width_of(bytes, i), self.values[v])
     }
 
-    // The state after a read with the index in variable i: stopped, or with the input word of its number in variable d.
-    fn reading(
-        mut self,
-        bytes: &[u8],
-        h: Header,
-        inputs: &[u32],
-        d: u8,
-        array: u8,
-        i: u8,
-        k: Counts,
-    ) -> State
-        requires { ⌜ (d < 32) × (i < 32) × (1 ≤ width (now bytes) i) × (width (now bytes) i ≤ 32) ⌝ }
-        ensures { λ r. ⌜ r ≡ carry (now (bytes .entry)) (now (inputs .entry)) h (Simple.Read d array i) k self ⌝ }
-    {
-        let index = self.index(bytes, i);
-        match lies_at(size_of_array(bytes, h, array), index) {
-            Lies::Inside => {
-                let to = d as usize;
-                self.values[to] = entry_at(inputs, input_number(h, k));
-                self
-            }
-            Lies::Outside(side) => self.stopped(accesses_of(k), index, side),
-        }
-    }
-
     // The state after a write with the index in variable i: stopped, or as it was.
     fn writing(self, bytes: &[u8], h: Header, array: u8, i: u8, k: Counts) -> State
         requires { ⌜ (i < 32) × (1 ≤ width (now bytes) i) × (width (now bytes) i ≤ 32) ⌝ }
@@ -187,9 +170,7 @@ impl State {
             Simple::Convert { op, d, s } => {
                 let to = d as usize;
                 let a = s as usize;
-                let v = width_of(bytes, d);
-                let w = width_of(bytes, s);
-                self.values[to] = converted_by(op, v, w, self.values[a]);
+                self.values[to] = converted_in(bytes, op, d, s, self.values[a]);
             }
             Simple::Compute { op, d, s, t } => {
                 let to = d as usize;
@@ -198,7 +179,17 @@ impl State {
                 let w = width_of(bytes, d);
                 self.values[to] = computed_by(op, w, self.values[a], self.values[b]);
             }
-            Simple::Read { d, array, i } => return self.reading(bytes, h, inputs, d, array, i, k),
+            Simple::Read { d, array, i } => {
+                let to = d as usize;
+                let a = i as usize;
+                let index = signed::reading(width_of(bytes, i), self.values[a]);
+                match lies_at(size_of_array(bytes, h, array), index) {
+                    Lies::Inside => {
+                        self.values[to] = entry_at(inputs, input_number(h, k));
+                    }
+                    Lies::Outside(side) => return self.stopped(accesses_of(k), index, side),
+                }
+            }
             Simple::Write { array, i, s: _ } => return self.writing(bytes, h, array, i, k),
         }
         self
