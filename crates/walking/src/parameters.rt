@@ -3,6 +3,7 @@ use crate::Walk;
 use arithmetic::input_words::input_bits;
 use arithmetic::input_words::take_inputs;
 use faults::Counts;
+use faults::words::given_of;
 use header::Header;
 use header::width_of;
 use netlist::Net;
@@ -25,9 +26,10 @@ pub fn begin(lits: &mut [u32], n: Net, bytes: &[u8], h: Header) -> Net
     requires { ⌜ Fine (now bytes) h ⌝ }
     ensures { λ r. ⌜ Begun (now (bytes .entry)) n (given h) (now (lits .exit)) r ⌝ }
 {
+    let count = given_of(h);
     let mut net = n;
     let mut p = 0;
-    while p < h.parameters {
+    while p < count {
         let w = width_of(bytes, p) as usize;
         let bits = input_bits(net.next);
         net = take_inputs(net, w);
