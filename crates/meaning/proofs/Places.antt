@@ -1,35 +1,16 @@
 -- The places of the literals: what was put for a variable is found there again, and the places of other variables stay. Assumes nothing.
-use mathlib.Core.Path.{_≡_, refl, sym, ap, _∙_}
-use mathlib.Core.List.{List, [], _∷_}
+use mathlib.Core.Path.{_≡_, sym, _∙_}
+use mathlib.Core.List.{List}
 use mathlib.Core.Logic.{_⊎_, inl, inr, _≢_}
-use Prim.Native.Nat.{ℕ, zero, suc, _+_, _-_, _*_, _<_, _≤_}
-use native.Mathlib.Nat.{add-zero, add-suc, suc-add}
+use Prim.Native.Nat.{ℕ, _+_, _-_, _*_, _<_, _≤_}
 use native.Mathlib.Omega.{arith}
-use lib.ListN.{length, getD, set, length-set}
-use lib.Seq.{sets, length-sets, getD-set-same, getD-set-other, getD-take, getD-drop}
+use lib.ListN.{length, getD}
+use lib.Seq.{length-sets, getD-take, getD-drop}
 use Rattle.header.specs.Header.{width}
 use Rattle.arithmetic.specs.Bits.{Bits, tabulate}
 use Rattle.arithmetic.proofs.Values.{order, length-tabulate, getD-tabulate}
 use Rattle.wires.specs.Wires.{bitsIn, bitsPut}
-
--- ---- a list laid over another, from place i on
-
-pub sets-before : (vs l : List ℕ) (i j : ℕ) → j < i → getD (sets l i vs) j 0 ≡ getD l j 0
-sets-before [] l i j h = refl
-sets-before (v ∷ vs) l i j h = sets-before vs (set l i v) (suc i) j (omega arith) ∙ getD-set-other l i j v 0 (λ e. omega arith)
-
-pub sets-after : (vs l : List ℕ) (i j : ℕ) → i + length vs ≤ j → getD (sets l i vs) j 0 ≡ getD l j 0
-sets-after [] l i j h = refl
-sets-after (v ∷ vs) l i j h = sets-after vs (set l i v) (suc i) j (omega arith) ∙ getD-set-other l i j v 0 (λ e. omega arith)
-
-pub sets-inside : (vs l : List ℕ) (i j : ℕ) → j < length vs → i + j < length l → getD (sets l i vs) (i + j) 0 ≡ getD vs j 0
-sets-inside [] l i j h k = absurd (omega arith)
-sets-inside (v ∷ vs) l i zero h k =
-    ap (λ (n : ℕ). getD (sets (set l i v) (suc i) vs) n 0) (add-zero i)
-    ∙ sets-before vs (set l i v) (suc i) i (omega arith) ∙ getD-set-same l i v 0 (omega arith)
-sets-inside (v ∷ vs) l i (suc j) h k =
-    ap (λ (n : ℕ). getD (sets (set l i v) (suc i) vs) n 0) (add-suc i j ∙ sym (suc-add i j))
-    ∙ sets-inside vs (set l i v) (suc i) j (omega arith) (omega (arith, length-set l i v))
+use Rattle.wires.proofs.Overlay.{sets-after, sets-before, sets-inside}
 
 -- ---- the places of a variable
 

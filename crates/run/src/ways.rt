@@ -11,6 +11,7 @@ use faults::Counts;
 use faults::steps::accesses_of;
 use faults::steps::counts_after;
 use faults::steps::counts_after_if;
+use faults::steps::no_counts;
 use faults::words::given_of;
 use header::Header;
 use header::first_command;
@@ -221,11 +222,7 @@ pub fn follow(routine: &[u8], inputs: &[u32], decisions: &[u8], goal: Goal, h: H
     ensures { λ r. ⌜ r .course ≡ courseTo (now (decisions .entry)) goal (runOf (now (routine .entry)) (now (inputs .entry)) h (commandsIn (now (routine .entry))) .events) ⌝ }
     ensures { λ r. ⌜ (settled (r .course) ≡ false → r .state ≡ runOf (now (routine .entry)) (now (inputs .entry)) h (commandsIn (now (routine .entry))) .state) ⌝ }
 {
-    let none = Counts {
-        ifs: 0,
-        reads: 0,
-        writes: 0,
-    };
+    let none = no_counts();
     let begun = State::begin(inputs, given_of(h));
     let start = way(first_command(h), none, begun, Course::Passing);
     follow_arm(routine, inputs, decisions, goal, h, 0, 0x00, start)

@@ -2,7 +2,7 @@
 use crate::Walk;
 use arithmetic::input_words::input_bits;
 use arithmetic::input_words::take_inputs;
-use faults::Counts;
+use faults::steps::no_counts;
 use faults::words::given_of;
 use header::Header;
 use header::width_of;
@@ -43,13 +43,10 @@ pub fn begin(lits: &mut [u32], n: Net, bytes: &[u8], h: Header) -> Net
 pub fn first_walk(next: usize, net: Net) -> Walk
     ensures { λ r. ⌜ r ≡ beginning next net ⌝ }
 {
+    let counts = no_counts();
     Walk {
         next,
-        counts: Counts {
-            ifs: 0,
-            reads: 0,
-            writes: 0,
-        },
+        counts,
         net,
         reach: Reach {
             arrival: 2,

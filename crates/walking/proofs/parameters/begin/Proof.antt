@@ -84,7 +84,7 @@ loop-again c =
       omega (arith, c .before .before .before .before .before .before .before .before .before .loop-test .taken),
       parameter-made (now (a .bytes)) (a .n) (l .net) _ (l .p) _ e (l .inv .1) t,
       parameter-wired (now (a .bytes)) (a .n) (l .net) _ (l .p) _ e (l .inv .1) t (p .1 .0 .1) _ _ (l .inv .2)
-      (stored (now (a .bytes)) (a .h) (l .p) _ _ (p .1 .1) (omega (arith, p .1 .1 .parameters, g, c .before .before .before .before .before .before .before .before .before .loop-test .taken)) (c .before .before .before .before .place-of .ensures) (c .before .before .before .before .before .before .before .before .width-of .ensures) (l .lits) (ap length (l .inv .2) ∙ parameters-length (now (a .bytes)) (l .p)) _ (c .before .before .before .before .before .before .before .input-bits .ensures) _ (c .before .before .store-bits .ensures)),
+          (stored (now (a .bytes)) (a .h) (l .p) _ _ (p .1 .1) (omega (arith, p .1 .1 .parameters, g, c .before .before .before .before .before .before .before .before .before .loop-test .taken)) (c .before .before .before .before .place-of .ensures) (c .before .before .before .before .before .before .before .before .width-of .ensures) (l .lits) (ap length (l .inv .2) ∙ parameters-length (now (a .bytes)) (l .p)) _ (c .before .before .before .before .before .before .before .input-bits .ensures) _ (c .before .before .store-bits .ensures)),
     )
 
 same-length : tie.Need-same-length Inv-loop μ-loop
