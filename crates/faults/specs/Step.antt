@@ -4,7 +4,7 @@ use mathlib.Core.List.{List}
 use mathlib.Core.Bool.{Bool, true, false, cond, not, _&&_}
 use lib.Dec.{ltb, leb, eqb}
 use Rattle.slices.specs.Guard.{unless}
-use Rattle.header.specs.Header.{width}
+use Rattle.header.specs.Header.{width, between}
 use Rattle.command.specs.Command.{touches}
 use Rattle.header.specs.declared.Header.{Header}
 use Rattle.command.specs.declared.Condition.{Condition}
@@ -25,7 +25,11 @@ inRange bs h (Simple.Write array i s) = ltb array (h .arrays) && ltb i (h .varia
 
 -- the widths of d and s: equal for copy, d narrower for cut, d wider for the extensions
 abbrev pub converts : (op d s : ℕ) → Bool
-converts op d s = cond (eqb op 0x02) (eqb d s) (cond (eqb op 0x06) (ltb d s) (ltb s d))
+converts op d s =
+    cond (eqb op 0x02) (eqb d s)
+    (cond (eqb op 0x06) (ltb d s)
+    (cond (between 0x07 0x08 op) (ltb s d)
+    false))
 
 -- the widths are as the command asks
 unfoldable pub widthsFit : List ℕ → Simple → Bool

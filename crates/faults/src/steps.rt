@@ -29,7 +29,8 @@ fn converts_widths(op: u8, d: u8, s: u8) -> bool
     match op {
         0x02 => d == s,
         0x06 => d < s,
-        _ => s < d,
+        0x07..=0x08 => s < d,
+        _ => false,
     }
 }
 

@@ -12,7 +12,7 @@ use Rattle.slices.specs.Bytes.{entry}
 use Rattle.bitvec.specs.Word.{add, subtract, multiply, cut, zeroExtend}
 use Rattle.bitvec.specs.Signed.{signed, signExtend}
 use Rattle.bitvec.specs.declared.Whole.{Whole}
-use Rattle.header.specs.Header.{width, arraySize}
+use Rattle.header.specs.Header.{width, arraySize, between}
 use Rattle.faults.specs.Step.{accesses, converts, widthsFit}
 use Rattle.faults.specs.Inputs.{inputNumber}
 use Rattle.faults.specs.Inner.Sound.{Sound, Fine}
@@ -67,20 +67,24 @@ nothing-worth ρ o w = value-zero ρ (nothing .bits) w (λ j l. lit-false ρ o)
 pub convert-word : (ρ : Assign) → ρ 1 ≡ true → (op v w : ℕ) (a : Bits) → 0 < w → converts op v w ≡ true
     → value ρ (conversion op a w) v ≡ converted op v w (value ρ a w)
 unfolding converted conversion
-convert-word ρ o op v w a z = pick (eqb op 0x02) (eqb op 0x06) (eqb op 0x07) (eqb op 0x08)
+convert-word ρ o op v w a z = pick (eqb op 0x02) (eqb op 0x06) (eqb op 0x07) (eqb op 0x08) (between 0x07 0x08 op)
   where
     x : ℕ
     x = value ρ a w
 
+    wider : (m : Bool) → cond m (ltb w v) false ≡ true → w ≤ v
+    wider true q = let y = ltb-true w v q in omega arith
+    wider false q = let y : _≡_ {A = ℕ} 0 1 = cc in absurd (omega arith)
+
     -- copy keeps the width, cut makes narrower, and the others make wider
-    pick : (b c d e : Bool) → cond b (eqb v w) (cond c (ltb v w) (ltb w v)) ≡ true
+    pick : (b c d e m : Bool) → cond b (eqb v w) (cond c (ltb v w) (cond m (ltb w v) false)) ≡ true
         → value ρ (cond b (extend a w 3) (cond c (extend a w 3) (cond d (extend a w 3) (cond e (extend a w (top a w)) (nothing .bits))))) v
         ≡ cond b x (cond c (cut v x) (cond d (zeroExtend x) (cond e (signExtend v w x) 0)))
-    pick true c d e q = let y = eqb-true v w q in zero-extend-word ρ a w v (omega arith) o
-    pick false true d e q = let y = ltb-true v w q in cut-word ρ a w 3 v (omega arith)
-    pick false false true e q = let y = ltb-true w v q in zero-extend-word ρ a w v (omega arith) o
-    pick false false false true q = let y = ltb-true w v q in sign-extend-word ρ a w v z (omega arith)
-    pick false false false false q = nothing-worth ρ o v
+    pick true c d e m q = let y = eqb-true v w q in zero-extend-word ρ a w v (omega arith) o
+    pick false true d e m q = let y = ltb-true v w q in cut-word ρ a w 3 v (omega arith)
+    pick false false true e m q = zero-extend-word ρ a w v (wider m q) o
+    pick false false false true m q = sign-extend-word ρ a w v z (wider m q)
+    pick false false false false m q = nothing-worth ρ o v
 
 -- ---- sum, difference, product
 

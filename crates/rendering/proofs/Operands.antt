@@ -9,7 +9,7 @@ use native.Mathlib.Nat.{lt-of-lt-of-le}
 use lib.Pow.{pow-mono}
 use lib.ListN.{length}
 use lib.Dec.{ltb, eqb}
-use borrow.Author.Tests.{lt-ltb, eq-eqb, ne-eqb, ltb-true, eqb-true, eqb-false}
+use borrow.Author.Tests.{lt-ltb, eq-eqb, ne-eqb, ltb-true, eqb-true, eqb-false, le-leb}
 use Rattle.header.specs.Header.{width}
 use Rattle.faults.specs.Step.{inRange, converts, widthsFit}
 use Rattle.faults.specs.Inner.Sound.{Sound, SoundIf}
@@ -36,7 +36,7 @@ converts-says op w x (inr l) t = by (eqb op 6) refl
     by true e = inr (inl (eqb-true _ _ e, ltb-true _ _ (simp (ne-eqb op 2 (λ q. omega arith), e) at t)))
     by false e =
         let n = eqb-false op 6 e in
-        inr (inr (record { low = above n; high = l .high }, ltb-true _ _ (simp (ne-eqb op 2 (λ q. omega arith), e) at t)))
+        inr (inr (record { low = above n; high = l .high }, ltb-true _ _ (simp (ne-eqb op 2 (λ q. omega arith), e, le-leb 7 op (above n), le-leb op 8 (l .high)) at t)))
       where
         above : (op ≡ 6 → ⊥) → 7 ≤ op
         above n = omega arith
@@ -44,7 +44,7 @@ converts-says op w x (inr l) t = by (eqb op 6) refl
 pub converts-holds : (op w x : ℕ) → Converts op w x → converts op w x ≡ true
 converts-holds op w x (inl e) = simp (eq-eqb op 2 (e .0), eq-eqb w x (e .1))
 converts-holds op w x (inr (inl e)) = simp (ne-eqb op 2 (λ q. omega arith), eq-eqb op 6 (e .0), lt-ltb w x (e .1))
-converts-holds op w x (inr (inr e)) = simp (ne-eqb op 2 (λ q. omega arith), ne-eqb op 6 (λ q. omega arith), lt-ltb x w (e .1))
+converts-holds op w x (inr (inr e)) = simp (ne-eqb op 2 (λ q. omega (arith, e .0 .low)), ne-eqb op 6 (λ q. omega (arith, e .0 .low)), le-leb 7 op (e .0 .low), le-leb op 8 (e .0 .high), lt-ltb x w (e .1))
 
 converts-kind : (op w x : ℕ) → Converts op w x → (op ≡ 0x02) ⊎ Between 0x06 0x08 op
 converts-kind op w x (inl e) = inl (e .0)

@@ -14,7 +14,7 @@ use Rattle.bitvec.specs.Word.{add, subtract, multiply, cut}
 use Rattle.bitvec.specs.Signed.{signExtend}
 use Rattle.bitvec.specs.declared.Whole.{Whole}
 use Rattle.bitvec.proofs.Laws.{add-below, subtract-below, multiply-below, extend-below}
-use Rattle.header.specs.Header.{width, arraySize, firstCommand}
+use Rattle.header.specs.Header.{width, arraySize, firstCommand, between}
 use Rattle.header.specs.declared.Header.{Header}
 use Rattle.command.specs.declared.Condition.{Condition}
 use Rattle.command.specs.declared.Simple.{Simple}
@@ -56,20 +56,20 @@ below-zeros (suc n) (suc j) m p = below-zeros n j m p
 
 converted-below : (op v w a : ℕ) → converts op v w ≡ true → a < 2 ^ w → converted op v w a < 2 ^ v
 unfolding converted
-converted-below op v w a e p = go (eqb op 2) (eqb op 6) (eqb op 7) (eqb op 8) e
+converted-below op v w a e p = go (eqb op 2) (eqb op 6) (eqb op 7) (eqb op 8) (between 0x07 0x08 op) e
   where
-    -- a copy has the same width, an extension a greater one
-    wide : (b : Bool) → cond b (eqb v w) (ltb w v) ≡ true → a < 2 ^ v
-    wide true q = lt-of-lt-of-le p (pow-mono {i = w} {j = v} (let z = eqb-true v w q in omega arith))
-    wide false q = lt-of-lt-of-le p (pow-mono {i = w} {j = v} (let z = ltb-true w v q in omega arith))
+    -- an extension has a greater width
+    wider : (m : Bool) → cond m (ltb w v) false ≡ true → a < 2 ^ v
+    wider true q = lt-of-lt-of-le p (pow-mono {i = w} {j = v} (let z = ltb-true w v q in omega arith))
+    wider false q = let z : _≡_ {A = ℕ} 0 1 = cc in absurd (omega arith)
 
-    go : (b₂ b₆ b₇ b₈ : Bool) → cond b₂ (eqb v w) (cond b₆ (ltb v w) (ltb w v)) ≡ true
+    go : (b₂ b₆ b₇ b₈ m : Bool) → cond b₂ (eqb v w) (cond b₆ (ltb v w) (cond m (ltb w v) false)) ≡ true
         → cond b₂ a (cond b₆ (cut v a) (cond b₇ a (cond b₈ (signExtend v w a) 0))) < 2 ^ v
-    go true b₆ b₇ b₈ q = wide true q
-    go false true b₇ b₈ q = mod-lt a (pow-pos v)
-    go false false true b₈ q = wide false q
-    go false false false true q = extend-below v w a
-    go false false false false q = pow-pos v
+    go true b₆ b₇ b₈ m q = lt-of-lt-of-le p (pow-mono {i = w} {j = v} (let z = eqb-true v w q in omega arith))
+    go false true b₇ b₈ m q = mod-lt a (pow-pos v)
+    go false false true b₈ m q = wider m q
+    go false false false true m q = extend-below v w a
+    go false false false false m q = pow-pos v
 
 computed-below : (op w a b : ℕ) → computed op w a b < 2 ^ w
 unfolding computed
