@@ -11,9 +11,9 @@ use Rattle.header.specs.declared.Header.{Header}
 use Rattle.faults.specs.declared.Counts.{Counts}
 use Rattle.routine.specs.Routine.{Arm}
 use Rattle.routine.specs.Decode.{Decoded, rejected, routine, decode}
-use Rattle.machine.specs.Side.{sideOf}
+use Rattle.machine.specs.Side.{isOn}
 use Rattle.machine.specs.State.{lies}
-use Rattle.machine.specs.declared.Lies.{Lies}
+use Rattle.machine.proofs.Sides.{on-side}
 use Rattle.run.specs.Answer.{ranBy}
 use Rattle.inputs.specs.Inputs.{listed}
 use Rattle.run.specs.Run.{runOf}
@@ -50,9 +50,9 @@ use Rattle.judgement.specs.Judging.{byProof, byWitness, byRoutine, judge
 use Rattle.judgement.specs.declared.Judged.{Judged}
 
 -- the same index in the same array
-lies-same : (bs : List ℕ) (h : Header) (array₁ array : ℕ) (index₁ index : Whole) → array₁ ≡ array → index₁ ≡ index → (l : Lies)
-    → lies (arraySize bs h array) index ≡ l → lies (arraySize bs h array₁) index₁ ≡ l
-lies-same bs h array₁ array index₁ index p q l e = rw (p, q) e
+on-same : (side : ℕ) (bs : List ℕ) (h : Header) (array₁ array : ℕ) (index₁ index : Whole) → array₁ ≡ array → index₁ ≡ index
+    → isOn side (lies (arraySize bs h array) index) ≡ true → isOn side (lies (arraySize bs h array₁) index₁) ≡ true
+on-same side bs h array₁ array index₁ index p q e = rw (p, q) e
 
 -- ---- clauses that nothing satisfies
 
@@ -109,7 +109,7 @@ module _ (bs r : List ℕ) (h : Header) (a : Arm) (k : Counts) (d : decode bs �
   -- every accepted input list whose run arrives has its index outside
   outside : (ins : List ℕ) → listed bs ins h a k ≡ Listed.Accepted → (array₁ : ℕ) (index₁ : Whole)
       → course ds (t .access) (runOf bs ins h a .events) ≡ Course.Arrived array₁ index₁
-      → lies (arraySize bs h array₁) index₁ ≡ Lies.Outside (sideOf (t .side))
+      → isOn (t .side) (lies (arraySize bs h array₁) index₁) ≡ true
   unfolding clausesOfAll
   outside ins ok array₁ index₁ e =
       let ρ : Assign = claim .solution ins ok in
@@ -121,19 +121,20 @@ module _ (bs r : List ℕ) (h : Header) (a : Arm) (k : Counts) (d : decode bs �
   finding : Finding bs ds (witnessIn r h k) h a k (t .access) (t .side) array index
   finding = record {
     accepted = s .accepted;
-    goes = goes ds (t .access) bs h _ _ _ array index (ends bs h (witnessIn r h k) a) (s .arrived) (s .outside);
+    goes = goes ds (t .access) bs h _ _ _ array index (ends bs h (witnessIn r h k) a) (s .arrived) (on-side (t .side) _ (s .outside) .outside);
     comes = comes ds (t .access) _ array index (s .arrived);
     every = λ ins ok way array₁ index₁ c. stops ins ok way array₁ index₁ c;
   }
     where
       stops : (ins : List ℕ) → listed bs ins h a k ≡ Listed.Accepted → goesWay ds (t .access) (runOf bs ins h a .events) ≡ true
           → (array₁ : ℕ) (index₁ : Whole) → Comes (t .access) array₁ index₁ (runOf bs ins h a .events)
-          → StopsOutside bs h (t .access) (sideOf (t .side)) array₁ index₁ (runOf bs ins h a)
+          → StopsOutside bs h (t .access) (t .side) array₁ index₁ (runOf bs ins h a)
       stops ins ok way array₁ index₁ c =
           let z = arrives ds (t .access) (c .before) array₁ index₁ (c .after) (sym (ap (goesWay ds (t .access)) (c .there)) ∙ way) in
           let l = outside ins ok (z .array) (z .index) (ap (course ds (t .access)) (c .there) ∙ z .there) in
-          let n = same ds (t .access) bs h (runOf bs ins h a .state .outcome) (sideOf (t .side)) (c .before) array₁ index₁ (c .after) (z .array) (z .index) (subst (λ es. Ends bs h es (runOf bs ins h a .state .outcome)) (c .there) (ends bs h ins a)) (z .there) l in
-          record { stops = ap ranBy (n .2); outside = lies-same bs h array₁ (z .array) index₁ (z .index) (n .0) (n .1) _ l }
+          let o = on-side (t .side) (lies (arraySize bs h (z .array)) (z .index)) l in
+          let n = same ds (t .access) bs h (runOf bs ins h a .state .outcome) (o .on) (c .before) array₁ index₁ (c .after) (z .array) (z .index) (subst (λ es. Ends bs h es (runOf bs ins h a .state .outcome)) (c .there) (ends bs h ins a)) (z .there) (o .outside) in
+          record { on = o .on; named = o .named; stops = ap ranBy (n .2); outside = on-same (t .side) bs h array₁ (z .array) index₁ (z .index) (n .0) (n .1) l }
 
 -- ---- the whole
 

@@ -9,9 +9,8 @@ use Rattle.header.specs.declared.Header.{Header}
 use Rattle.faults.specs.declared.Counts.{Counts}
 use Rattle.routine.specs.Routine.{Arm}
 use Rattle.routine.specs.Decode.{routine, decode}
-use Rattle.machine.specs.Side.{sideOf}
+use Rattle.machine.specs.Side.{sideNumber, isOn}
 use Rattle.machine.specs.State.{lies}
-use Rattle.machine.specs.declared.Lies.{Lies}
 use Rattle.machine.specs.declared.Side.{Side}
 use Rattle.run.specs.Answer.{ranBy}
 use Rattle.inputs.specs.Inputs.{listed}
@@ -22,10 +21,12 @@ use Rattle.run.specs.Goes.{goesWay, Comes}
 use Rattle.witness.specs.Lead.{decisionsIn, witnessIn}
 use Rattle.judgement.specs.declared.Judged.{Judged}
 
--- the run stops at the access, with the index, which lies outside the array, on the side
-pub record StopsOutside (bs : List ℕ) (h : Header) (access : ℕ) (side : Side) (array : ℕ) (index : Whole) (x : Stretch) : Type 0 where
-  pub stops : ranBy (x .state .outcome) ≡ Ran.Stopped access index side
-  pub outside : lies (arraySize bs h array) index ≡ Lies.Outside side
+-- the run stops at the access, with the index, which lies outside the array, on the side of the number
+pub record StopsOutside (bs : List ℕ) (h : Header) (access side array : ℕ) (index : Whole) (x : Stretch) : Type 0 where
+  pub on : Side
+  pub named : sideNumber on ≡ side
+  pub stops : ranBy (x .state .outcome) ≡ Ran.Stopped access index on
+  pub outside : isOn side (lies (arraySize bs h array) index) ≡ true
 
 -- a finding: the access, on the side, overflows on the way of the decisions; the witness goes there
 pub record Finding (bs ds witness : List ℕ) (h : Header) (a : Arm) (k : Counts) (access side array : ℕ) (index : Whole) : Type 0 where
@@ -34,7 +35,7 @@ pub record Finding (bs ds witness : List ℕ) (h : Header) (a : Arm) (k : Counts
   pub comes : Comes access array index (runOf bs witness h a .events)
   pub every : (ins : List ℕ) → listed bs ins h a k ≡ Listed.Accepted → goesWay ds access (runOf bs ins h a .events) ≡ true
       → (array₁ : ℕ) (index₁ : Whole) → Comes access array₁ index₁ (runOf bs ins h a .events)
-      → StopsOutside bs h access (sideOf side) array₁ index₁ (runOf bs ins h a)
+      → StopsOutside bs h access side array₁ index₁ (runOf bs ins h a)
 
 -- the bytes are a routine, and what the report says of it is a finding
 pub record Found (bs r : List ℕ) (access side array : ℕ) (index : Whole) : Type 0 where

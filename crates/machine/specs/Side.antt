@@ -1,5 +1,8 @@
--- The two sides of an array, and their numbers.
-use Prim.Native.Nat.{ℕ, zero, suc}
+-- The two sides of an array, their numbers, and an index on one of them.
+use Prim.Native.Nat.{ℕ}
+use mathlib.Core.Bool.{Bool, false}
+use lib.Dec.{eqb}
+use Rattle.machine.specs.declared.Lies.{Lies}
 use Rattle.machine.specs.declared.Side.{Side}
 use Rattle.machine.specs.declared.Side.the-variants.{Below, Above}
 
@@ -8,7 +11,7 @@ abbrev pub sideNumber : Side → ℕ
 sideNumber Below = 0
 sideNumber Above = 1
 
--- the side of a number
-abbrev pub sideOf : ℕ → Side
-sideOf zero = Below
-sideOf (suc n) = Above
+-- an index lies on the side of a number: outside, and there
+abbrev pub isOn : (side : ℕ) → Lies → Bool
+isOn side Lies.Inside = false
+isOn side (Lies.Outside on) = eqb side (sideNumber on)

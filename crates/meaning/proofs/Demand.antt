@@ -21,10 +21,10 @@ use Rattle.routine.proofs.Accepted.{decoded}
 use Rattle.faults.proofs.Fine.{fine}
 use Rattle.inputs.specs.Inputs.{listed}
 use Rattle.machine.specs.State as state
+use Rattle.machine.specs.Side.{isOn}
 use Rattle.machine.specs.State.{lies}
 use Rattle.run.specs.Run.{runOf}
 use Rattle.inputs.specs.declared.Listed.{Listed}
-use Rattle.machine.specs.declared.Lies.{Lies}
 use Rattle.machine.specs.declared.State.{State}
 use Rattle.run.specs.declared.Course.{Course}
 use Rattle.netlist.specs.declared.Node.{Node}
@@ -38,7 +38,6 @@ use Rattle.wiring.specs.Command.{Stretch}
 use Rattle.wires.specs.Wires.{Wires, isMade}
 use Rattle.meaning.specs.Walk.{armOf}
 use Rattle.meaning.specs.Translation.{parameterNodes, start, whole}
-use Rattle.machine.specs.Side.{sideOf}
 use Rattle.meaning.specs.Faithful.{bitsOfList, Solves, courseOf, Arrives, Faithful}
 use Rattle.wires.specs.declared.Claim.{Claim}
 use Rattle.lead.specs.declared.Target.{Target}
@@ -67,17 +66,17 @@ module _ (bs : List ℕ) (h : Header) (f : Fine bs h) (t : Target) (ds : List �
 
   -- the same array and the same index
   lies-same : (side₁ array₁ : ℕ) (index₁ : Whole) (array : ℕ) (index : Whole) → side₁ ≡ side → Course.Arrived array₁ index₁ ≡ Course.Arrived array index
-      → (lit ρ side₁ ≡ true) ↔ (lies (arraySize bs h array₁) index₁ ≡ Lies.Outside (sideOf (t .side)))
-      → (lit ρ side ≡ true) ↔ (lies (arraySize bs h array) index ≡ Lies.Outside (sideOf (t .side)))
+      → (lit ρ side₁ ≡ true) ↔ (isOn (t .side) (lies (arraySize bs h array₁) index₁) ≡ true)
+      → (lit ρ side ≡ true) ↔ (isOn (t .side) (lies (arraySize bs h array) index) ≡ true)
   lies-same side₁ array₁ index₁ array index e p q =
       let a : array₁ ≡ array = cc in
       let i : index₁ ≡ index = cc in
-      subst (λ (z : ℕ). (lit ρ z ≡ true) ↔ (lies (arraySize bs h array) index ≡ Lies.Outside (sideOf (t .side)))) e
-      (subst (λ (z : Whole). (lit ρ side₁ ≡ true) ↔ (lies (arraySize bs h array) z ≡ Lies.Outside (sideOf (t .side)))) i
-      (subst (λ (z : ℕ). (lit ρ side₁ ≡ true) ↔ (lies (arraySize bs h z) index₁ ≡ Lies.Outside (sideOf (t .side)))) a q))
+      subst (λ (z : ℕ). (lit ρ z ≡ true) ↔ (isOn (t .side) (lies (arraySize bs h array) index) ≡ true)) e
+      (subst (λ (z : Whole). (lit ρ side₁ ≡ true) ↔ (isOn (t .side) (lies (arraySize bs h array) z) ≡ true)) i
+      (subst (λ (z : ℕ). (lit ρ side₁ ≡ true) ↔ (isOn (t .side) (lies (arraySize bs h z) index₁) ≡ true)) a q))
 
   lies-says : (c : Course) (r : State) → Tally bs h f t ds ρ w c r → (array : ℕ) (index : Whole) → c ≡ Course.Arrived array index
-      → (lit ρ side ≡ true) ↔ (lies (arraySize bs h array) index ≡ Lies.Outside (sideOf (t .side)))
+      → (lit ρ side ≡ true) ↔ (isOn (t .side) (lies (arraySize bs h array) index) ≡ true)
   lies-says c r (through e l p u v) array index z = not-both true refl (ap isMade (sym made ∙ e))
   lies-says c r (lost e l p) array index z = not-both true refl (ap isMade (sym made ∙ e))
   lies-says c r (missed e l p) array index z = absurd (elsewhere c p (record { array = array; index = index; there = z }))

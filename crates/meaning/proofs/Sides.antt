@@ -8,6 +8,7 @@ use native.Mathlib.Omega.{arith}
 use lib.Dec.{ltb, leb}
 use Rattle.bitvec.specs.Signed.{signed}
 use Rattle.bitvec.specs.declared.Whole.{Whole}
+use Rattle.machine.specs.Side.{isOn}
 use Rattle.machine.specs.State.{lies}
 use Rattle.machine.specs.declared.Lies.{Lies}
 use Rattle.machine.specs.declared.Side.{Side}
@@ -20,7 +21,6 @@ use Rattle.comparison.specs.Access.{above}
 use Rattle.arithmetic.proofs.Values.{not-less, value, value-lt, top-value}
 use Rattle.comparison.proofs.Access.{above-value}
 use Rattle.indexes.specs.Index.{top, claim}
-use Rattle.machine.specs.Side.{sideOf}
 
 -- not negative and below the size, at or above it, or negative: p says that the index is not negative, q that it is not below the size
 abbrev pub placed : (p q : Bool) → Lies
@@ -45,12 +45,12 @@ entered-placed true true = outside Above refl refl
 entered-placed true false = within refl refl
 entered-placed false q = outside Below refl refl
 
-below-placed : (p q : Bool) → (not p ≡ true) ↔ (placed p q ≡ Lies.Outside Below)
+below-placed : (p q : Bool) → (not p ≡ true) ↔ (isOn 0 (placed p q) ≡ true)
 below-placed true true = ((λ e. let z : _≡_ {A = ℕ} 0 1 = cc in absurd (omega arith)), (λ e. let z : _≡_ {A = ℕ} 0 1 = cc in absurd (omega arith)))
 below-placed true false = ((λ e. let z : _≡_ {A = ℕ} 0 1 = cc in absurd (omega arith)), (λ e. let z : _≡_ {A = ℕ} 0 1 = cc in absurd (omega arith)))
 below-placed false q = ((λ e. refl), (λ e. refl))
 
-above-placed : (p q : Bool) → ((p && q) ≡ true) ↔ (placed p q ≡ Lies.Outside Above)
+above-placed : (p q : Bool) → ((p && q) ≡ true) ↔ (isOn 1 (placed p q) ≡ true)
 above-placed true true = ((λ e. refl), (λ e. refl))
 above-placed true false = ((λ e. let z : _≡_ {A = ℕ} 0 1 = cc in absurd (omega arith)), (λ e. let z : _≡_ {A = ℕ} 0 1 = cc in absurd (omega arith)))
 above-placed false q = ((λ e. let z : _≡_ {A = ℕ} 0 1 = cc in absurd (omega arith)), (λ e. let z : _≡_ {A = ℕ} 0 1 = cc in absurd (omega arith)))
@@ -76,7 +76,7 @@ module _ (ins : Inputs) (ρ : Assign) (o : ρ 1 ≡ true) (a : Bits) (size w : �
 
   -- the literal of the side
   pub side-says : (side g : ℕ) → side ≤ 1 → Models ins ρ g (claim side g a size w .nodes)
-      → (lit ρ (claim side g a size w .lit) ≡ true) ↔ (lies size (signed w index) ≡ Lies.Outside (sideOf side))
+      → (lit ρ (claim side g a size w .lit) ≡ true) ↔ (isOn side (lies size (signed w index)) ≡ true)
   unfolding claim
   side-says zero g l m = rw (lies-says, top-says) (below-placed natural (leb size index))
   side-says (suc zero) g l m = rw (lies-says, above-value ins ρ g a size w z o m) (above-placed natural (leb size index))

@@ -10,10 +10,10 @@ use Rattle.bitvec.specs.declared.Whole.{Whole}
 use Rattle.header.specs.Header.{arraySize}
 use Rattle.faults.specs.Inner.Sound.{Fine}
 use Rattle.header.specs.declared.Header.{Header}
+use Rattle.machine.specs.Side.{isOn}
 use Rattle.machine.specs.State.{lies}
 use Rattle.run.specs.Run as run
 use Rattle.run.specs.Inner.Walker.{isOver}
-use Rattle.machine.specs.declared.Lies.{Lies}
 use Rattle.machine.specs.declared.Outcome.{Outcome}
 use Rattle.machine.specs.declared.State.{State}
 use Rattle.run.specs.Course.{course}
@@ -22,7 +22,6 @@ use Rattle.cnf.specs.Meaning.{Assign, lit}
 use Rattle.wiring.specs.Command.{Stretch, after}
 use Rattle.wires.specs.Wires.{Wires, isMade}
 use Rattle.meaning.specs.Walk.{andThen}
-use Rattle.machine.specs.Side.{sideOf}
 use Rattle.wires.specs.declared.Claim.{Claim}
 use Rattle.lead.specs.declared.Target.{Target}
 use Rattle.meaning.proofs.Claimed.{open-of}
@@ -55,7 +54,7 @@ module _ (bs : List ℕ) (h : Header) (fine : Fine bs h) (t : Target) (ds : List
     missed : isMade (w .claim) ≡ true → lit ρ (w .arrival) ≡ false → Elsewhere c → Tally w c r
     -- the run came to the named access, arrival there is true, and the side literal tells the side
     here : (side array : ℕ) (index : Whole) → w .claim ≡ Claim.Made (w .arrival) side → lit ρ (w .arrival) ≡ true → c ≡ Course.Arrived array index
-        → (lit ρ side ≡ true) ↔ (lies (arraySize bs h array) index ≡ Lies.Outside (sideOf (t .side))) → Tally w c r
+        → (lit ρ side ≡ true) ↔ (isOn (t .side) (lies (arraySize bs h array) index) ≡ true) → Tally w c r
 
   -- the same of two stretches
   abbrev pub Tallies : Stretch → run.Stretch → Type 0

@@ -12,10 +12,10 @@ use Rattle.routine.specs.Routine.{Arm}
 use Rattle.header.specs.declared.Header.{Header}
 use Rattle.faults.specs.declared.Counts.{Counts}
 use Rattle.inputs.specs.Inputs.{listed}
+use Rattle.machine.specs.Side.{isOn}
 use Rattle.machine.specs.State.{lies}
 use Rattle.run.specs.Run.{runOf}
 use Rattle.inputs.specs.declared.Listed.{Listed}
-use Rattle.machine.specs.declared.Lies.{Lies}
 use Rattle.run.specs.Course.{course}
 use Rattle.run.specs.declared.Course.{Course}
 use Rattle.arithmetic.specs.Input.{bitsOfWord}
@@ -24,7 +24,6 @@ use Rattle.cnf.specs.Meaning.{Assign, lit, sat}
 use Rattle.netlist.specs.Meaning.{Inputs, Extends, Agree}
 use Rattle.wiring.specs.Command.{Stretch}
 use Rattle.meaning.specs.Translation.{whole}
-use Rattle.machine.specs.Side.{sideOf}
 use Rattle.wires.specs.declared.Claim.{Claim}
 use Rattle.lead.specs.declared.Target.{Target}
 
@@ -61,4 +60,4 @@ pub record Faithful (bs : List ℕ) (t : Target) (ds : List ℕ) (h : Header) (a
       → (lit ρ arrival ≡ true) ↔ Arrives (courseOf bs t ds h a ins)
   pub lies : (ins : List ℕ) → listed bs ins h a k ≡ Listed.Accepted → (ρ : Assign) → Solves ins (whole bs t ds h a) ρ
       → (array : ℕ) (index : Whole) → courseOf bs t ds h a ins ≡ Course.Arrived array index
-      → (lit ρ side ≡ true) ↔ (lies (arraySize bs h array) index ≡ Lies.Outside (sideOf (t .side)))
+      → (lit ρ side ≡ true) ↔ (isOn (t .side) (lies (arraySize bs h array) index) ≡ true)

@@ -1,25 +1,22 @@
 -- What a witness that stands has. Assumes nothing.
-use mathlib.Core.Path.{_≡_, refl, sym, ap, _∙_}
+use mathlib.Core.Path.{_≡_, refl, ap, _∙_}
 use mathlib.Core.List.{List}
 use mathlib.Core.Bool.{Bool, true, false, cond}
 use Prim.Native.Nat.{ℕ}
 use native.Mathlib.Omega.{arith}
-use borrow.Author.Tests.{eqb-true}
 use Rattle.bitvec.specs.declared.Whole.{Whole}
 use Rattle.header.specs.Header.{arraySize}
 use Rattle.header.specs.declared.Header.{Header}
 use Rattle.faults.specs.declared.Counts.{Counts}
 use Rattle.routine.specs.Routine.{Arm}
-use Rattle.machine.specs.Side.{sideOf}
+use Rattle.machine.specs.Side.{isOn}
 use Rattle.machine.specs.State.{lies}
-use Rattle.machine.specs.declared.Lies.{Lies}
-use Rattle.machine.specs.declared.Side.the-variants.{Below, Above}
 use Rattle.inputs.specs.Inputs.{listed}
 use Rattle.inputs.specs.declared.Listed.{Listed}
 use Rattle.run.specs.declared.Course.{Course}
 use Rattle.lead.specs.declared.Target.{Target}
 use Rattle.witness.specs.Lead.{witnessIn, leadOf}
-use Rattle.witness.specs.Witness.{isOn, byCourse, byListed, witnessCourse, byOpened, witnessOf}
+use Rattle.witness.specs.Witness.{byCourse, byListed, witnessCourse, byOpened, witnessOf}
 use Rattle.witness.specs.declared.Opened.{Opened}
 use Rattle.witness.specs.declared.Refusal.{Refusal}
 use Rattle.witness.specs.declared.Witness.{Witness}
@@ -29,13 +26,7 @@ pub record Stood (bs r : List ℕ) (h : Header) (a : Arm) (k : Counts) (t : Targ
   pub opens : leadOf r h k ≡ Opened.Opens t
   pub accepted : listed bs (witnessIn r h k) h a k ≡ Listed.Accepted
   pub arrived : witnessCourse bs r h a k t ≡ Course.Arrived array index
-  pub outside : lies (arraySize bs h array) index ≡ Lies.Outside (sideOf (t .side))
-
--- an index on the side of a number lies outside, on that side
-on-side : (side : ℕ) (l : Lies) → isOn side l ≡ true → l ≡ Lies.Outside (sideOf side)
-on-side side Lies.Inside e = let z : _≡_ {A = ℕ} 0 1 = cc in absurd (omega arith)
-on-side side (Lies.Outside Below) e = ap (λ (n : ℕ). Lies.Outside (sideOf n)) (sym (eqb-true side 0 e))
-on-side side (Lies.Outside Above) e = ap (λ (n : ℕ). Lies.Outside (sideOf n)) (sym (eqb-true side 1 e))
+  pub outside : isOn (t .side) (lies (arraySize bs h array) index) ≡ true
 
 module _ (bs r : List ℕ) (h : Header) (a : Arm) (k : Counts) (t : Target) (array : ℕ) (index : Whole) where
   module _ (u : Target) where
@@ -51,7 +42,7 @@ module _ (bs r : List ℕ) (h : Header) (a : Arm) (k : Counts) (t : Target) (arr
 
     -- 13 and 14
     by-course : (x : Course) → byCourse bs h u x ≡ Witness.Stands t array index
-        → (u ≡ t) × (x ≡ Course.Arrived array index) × (lies (arraySize bs h array) index ≡ Lies.Outside (sideOf (t .side)))
+        → (u ≡ t) × (x ≡ Course.Arrived array index) × (isOn (t .side) (lies (arraySize bs h array) index) ≡ true)
     unfolding byCourse
     by-course (Course.Astray number) e = let z : _≡_ {A = ℕ} 0 1 = cc in absurd (omega arith)
     by-course Course.Passing e = let z : _≡_ {A = ℕ} 0 1 = cc in absurd (omega arith)
@@ -59,7 +50,7 @@ module _ (bs r : List ℕ) (h : Header) (a : Arm) (k : Counts) (t : Target) (arr
         let p = by-side (isOn (u .side) (lies (arraySize bs h array₁) index₁)) array₁ index₁ e in
         let q : array₁ ≡ array = let z = p .2 in cc in
         let s : index₁ ≡ index = let z = p .2 in cc in
-        (p .1, p .2, rw (← p .1, ← q, ← s) (on-side (u .side) (lies (arraySize bs h array₁) index₁) (p .0)))
+        (p .1, p .2, rw (← p .1, ← q, ← s) (p .0))
 
     -- 10
     by-list : (x : Course) (l : Listed) → byListed bs r h u x l ≡ Witness.Stands t array index

@@ -1,17 +1,14 @@
 -- The witness: its input list is accepted, and its run goes the report's way, comes to the named access, and has its index there on the side.
 use Prim.Native.Nat.{ℕ}
 use mathlib.Core.List.{List}
-use mathlib.Core.Bool.{Bool, false}
 use lib.ListN.{length}
-use lib.Dec.{eqb}
 use Rattle.slices.specs.Guard.{unless}
 use Rattle.header.specs.Header.{arraySize}
 use Rattle.header.specs.declared.Header.{Header}
 use Rattle.faults.specs.declared.Counts.{Counts}
 use Rattle.routine.specs.Routine.{Arm}
-use Rattle.machine.specs.Side.{sideNumber}
+use Rattle.machine.specs.Side.{isOn}
 use Rattle.machine.specs.State.{lies}
-use Rattle.machine.specs.declared.Lies.{Lies}
 use Rattle.inputs.specs.Inputs.{listed}
 use Rattle.run.specs.Run.{runOf}
 use Rattle.inputs.specs.declared.Listed.{Listed}
@@ -22,11 +19,6 @@ use Rattle.witness.specs.Lead.{decisionsIn, witnessIn, leadOf}
 use Rattle.witness.specs.declared.Refusal.{Refusal}
 use Rattle.witness.specs.declared.Opened.{Opened}
 use Rattle.witness.specs.declared.Witness.{Witness}
-
--- an index lies on the side of a number
-abbrev pub isOn : (side : ℕ) → Lies → Bool
-isOn side Lies.Inside = false
-isOn side (Lies.Outside s) = eqb side (sideNumber s)
 
 -- 13 or 14, then 15
 unfoldable pub byCourse : List ℕ → Header → Target → Course → Witness

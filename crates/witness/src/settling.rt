@@ -20,8 +20,9 @@ ghost use lib.ListN.{length};
 ghost use Rattle.routine.specs.Decode.{commandsIn};
 ghost use Rattle.routine.specs.Inner.Known.{Counted};
 ghost use Rattle.faults.specs.Inputs.{inputCount};
+ghost use Rattle.machine.specs.Side.{isOn};
 ghost use Rattle.witness.specs.Lead.{proofAt};
-ghost use Rattle.witness.specs.Witness.{isOn, byCourse, byOpened};
+ghost use Rattle.witness.specs.Witness.{byCourse, byOpened};
 ghost use Rattle.witness.specs.declared.Opened.{Opened};
 
 // Whether an index lies on the side of a number.
