@@ -18,11 +18,9 @@ use Rattle.run.specs.Answer.{ranBy}
 use Rattle.inputs.specs.Inputs.{listed}
 use Rattle.run.specs.Run.{runOf}
 use Rattle.inputs.specs.declared.Listed.{Listed}
-use Rattle.run.proofs.Outside.{Ends, ends}
-use Rattle.run.specs.Course.{course}
+use Rattle.run.proofs.Outside.{Ends, ends-at, ends}
 use Rattle.run.specs.Goes.{goesWay, Comes}
-use Rattle.run.specs.declared.Course.{Course}
-use Rattle.run.proofs.Arriving.{comes, goes, same, arrives}
+use Rattle.run.proofs.Arriving.{arrival}
 use Rattle.cnf.specs.Clause.{Clause}
 use Rattle.cnf.specs.Meaning.{Assign, lit, satClause, sat}
 use Rattle.netlist.specs.Node.{clausesOf}
@@ -48,11 +46,6 @@ use Rattle.proving.specs.declared.Refusal.{Refusal}
 use Rattle.judgement.specs.Demand.{StopsOutside, Finding, Found, Demand3}
 use Rattle.judgement.specs.Judging.{byProof, byWitness, byRoutine, judgement}
 use Rattle.judgement.specs.declared.Judged.{Judged}
-
--- the same index in the same array
-on-same : (side : ℕ) (bs : List ℕ) (h : Header) (array₁ array : ℕ) (index₁ index : Whole) → array₁ ≡ array → index₁ ≡ index
-    → isOn side (lies (arraySize bs h array) index) ≡ true → isOn side (lies (arraySize bs h array₁) index₁) ≡ true
-on-same side bs h array₁ array index₁ index p q e = rw (p, q) e
 
 -- ---- clauses that nothing satisfies
 
@@ -106,35 +99,37 @@ module _ (bs r : List ℕ) (h : Header) (a : Arm) (k : Counts) (d : decode bs �
   claim : Faithful bs t ds h a k
   claim = let l = lets r h k t _ (sym (s .opens)) refl .range in faithful bs t ds h a k d (l .access) (l .side) (l .decisions)
 
-  -- every accepted input list whose run arrives has its index outside
-  outside : (ins : List ℕ) → listed bs ins h a k ≡ Listed.Accepted → (array₁ : ℕ) (index₁ : Whole)
-      → course ds (t .access) (runOf bs ins h a .events) ≡ Course.Arrived array₁ index₁
+  -- every accepted input list whose run goes the way and comes to the access has its index on the side
+  outside : (ins : List ℕ) → listed bs ins h a k ≡ Listed.Accepted → goesWay ds (t .access) (runOf bs ins h a .events) ≡ true
+      → (array₁ : ℕ) (index₁ : Whole) → Comes (t .access) array₁ index₁ (runOf bs ins h a .events)
       → isOn (t .side) (lies (arraySize bs h array₁) index₁) ≡ true
   unfolding clausesOfAll
-  outside ins ok array₁ index₁ e =
+  outside ins ok way array₁ index₁ there =
       let ρ : Assign = claim .solution ins ok in
       let y = claim .solves ins ok in
-      let come : lit ρ (claim .arrival) ≡ true = claim .arrives ins ok ρ y .1 (record { array = array₁; index = index₁; there = e }) in
+      let come : lit ρ (claim .arrival) ≡ true = claim .arrives ins ok ρ y .1 (record { array = array₁; index = index₁; goes = way; comes = there }) in
       let none : sat ρ (clausesOf 1 (x .nodes) ++ lastClauses (Claim.Made (claim .arrival) (claim .side))) ≡ false = rw (claim .claims) at (unsatisfied ρ) in
-      claim .lies ins ok ρ y array₁ index₁ e .0 (side-true ρ (claim .arrival) (claim .side) (clausesOf 1 (x .nodes)) none (y .satisfies) come)
+      claim .lies ins ok ρ y way array₁ index₁ there .0 (side-true ρ (claim .arrival) (claim .side) (clausesOf 1 (x .nodes)) none (y .satisfies) come)
 
   finding : Finding bs ds (witnessIn r h k) h a k (t .access) (t .side) array index
-  finding = record {
-    accepted = s .accepted;
-    goes = goes ds (t .access) bs h _ _ _ array index (ends bs h (witnessIn r h k) a) (s .arrived) (on-side (t .side) _ (s .outside) .outside);
-    comes = comes ds (t .access) _ array index (s .arrived);
-    every = λ ins ok way array₁ index₁ c. stops ins ok way array₁ index₁ c;
-  }
+  finding =
+      let witness = arrival bs (witnessIn r h k) ds h a k d (t .access) array index .0 (s .arrived) in
+      record {
+        accepted = s .accepted;
+        goes = witness .0;
+        comes = witness .1;
+        every = λ ins ok way array₁ index₁ there. stops ins ok way array₁ index₁ there;
+      }
     where
       stops : (ins : List ℕ) → listed bs ins h a k ≡ Listed.Accepted → goesWay ds (t .access) (runOf bs ins h a .events) ≡ true
           → (array₁ : ℕ) (index₁ : Whole) → Comes (t .access) array₁ index₁ (runOf bs ins h a .events)
           → StopsOutside bs h (t .access) (t .side) array₁ index₁ (runOf bs ins h a)
-      stops ins ok way array₁ index₁ c =
-          let z = arrives ds (t .access) (c .before) array₁ index₁ (c .after) (sym (ap (goesWay ds (t .access)) (c .there)) ∙ way) in
-          let l = outside ins ok (z .array) (z .index) (ap (course ds (t .access)) (c .there) ∙ z .there) in
-          let o = on-side (t .side) (lies (arraySize bs h (z .array)) (z .index)) l in
-          let n = same ds (t .access) bs h (runOf bs ins h a .state .outcome) (o .on) (c .before) array₁ index₁ (c .after) (z .array) (z .index) (subst (λ es. Ends bs h es (runOf bs ins h a .state .outcome)) (c .there) (ends bs h ins a)) (z .there) (o .outside) in
-          record { on = o .on; named = o .named; stops = ap ranBy (n .2); outside = on-same (t .side) bs h array₁ (z .array) index₁ (z .index) (n .0) (n .1) l }
+      stops ins ok way array₁ index₁ there =
+          let l = outside ins ok way array₁ index₁ there in
+          let o = on-side (t .side) (lies (arraySize bs h array₁) index₁) l in
+          let e = subst (λ es. Ends bs h es (runOf bs ins h a .state .outcome)) (there .there) (ends bs h ins a) in
+          let n = ends-at bs h (there .before) (t .access) array₁ index₁ (there .after) (runOf bs ins h a .state .outcome) e (o .on) (o .outside) in
+          record { on = o .on; named = o .named; stops = ap ranBy (n .1); outside = l }
 
 -- ---- the whole
 

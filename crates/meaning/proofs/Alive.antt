@@ -31,7 +31,8 @@ use Rattle.meaning.proofs.Claimed.{simple-claims, fork-claims, arm-clai
 use Rattle.meaning.proofs.Dead.{Deadens, arm-dead}
 use Rattle.inputs.proofs.Fitting.{Fit}
 use Rattle.meaning.proofs.Forks.{Runs, Arms, fork-alive}
-use Rattle.meaning.proofs.Numbers.{Elsewhere, accesses-grow, misses}
+use Rattle.run.proofs.Ordered.{accesses-grow}
+use Rattle.meaning.proofs.Numbers.{Elsewhere, misses}
 use Rattle.meaning.proofs.Simples.{alive-through, simple-alive}
 use Rattle.faults.proofs.Tests.{not-both}
 use Rattle.meaning.proofs.Stretches.{then-by, arm-length}

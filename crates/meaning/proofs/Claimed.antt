@@ -21,7 +21,7 @@ use Rattle.meaning.specs.Walk.{andThen, forked, armOf}
 use Rattle.branching.specs.Branch.{joined}
 use Rattle.wires.specs.declared.Claim.{Claim}
 use Rattle.lead.specs.declared.Target.{Target}
-use Rattle.meaning.proofs.Numbers.{after-grows, accesses-grow}
+use Rattle.run.proofs.Ordered.{after-grows, accesses-grow}
 use Rattle.faults.proofs.Tests.{not-both}
 use Rattle.meaning.proofs.Stretches.{then-by, access-by, fork-by, firstFrom, firstWires, firstOf, secondFrom, secondWires, secondOf}
 

@@ -23,7 +23,10 @@ use Rattle.inputs.specs.Inputs.{listed}
 use Rattle.machine.specs.State as state
 use Rattle.machine.specs.Side.{isOn}
 use Rattle.machine.specs.State.{lies}
-use Rattle.run.specs.Run.{runOf}
+use Rattle.run.specs.Run.{Event, runOf}
+use Rattle.run.specs.Course.{course}
+use Rattle.run.specs.Goes.{goesWay, Comes, Reaches}
+use Rattle.run.proofs.Arriving.{arrival}
 use Rattle.inputs.specs.declared.Listed.{Listed}
 use Rattle.machine.specs.declared.State.{State}
 use Rattle.run.specs.declared.Course.{Course}
@@ -38,7 +41,7 @@ use Rattle.wiring.specs.Command.{Stretch}
 use Rattle.wires.specs.Wires.{Wires, isMade}
 use Rattle.meaning.specs.Walk.{armOf}
 use Rattle.meaning.specs.Translation.{parameterNodes, start, whole}
-use Rattle.meaning.specs.Faithful.{bitsOfList, Solves, courseOf, Arrives, Faithful}
+use Rattle.meaning.specs.Faithful.{bitsOfList, Solves, Faithful}
 use Rattle.wires.specs.declared.Claim.{Claim}
 use Rattle.lead.specs.declared.Target.{Target}
 use Rattle.meaning.proofs.Alive.{arm-alive}
@@ -54,15 +57,21 @@ use Rattle.meaning.proofs.Worth.{parameters-worth}
 -- ---- what a tally with the claim made says
 
 module _ (bs : List ℕ) (h : Header) (f : Fine bs h) (t : Target) (ds : List ℕ) (ρ : Assign) (w : Wires) (side : ℕ)
-    (made : w .claim ≡ Claim.Made (w .arrival) side) where
-  elsewhere : (c : Course) → Elsewhere c → Arrives c → ⊥
-  elsewhere c e a = subst Elsewhere (a .there) e
+    (made : w .claim ≡ Claim.Made (w .arrival) side) (es : List Event)
+    (same : (array : ℕ) (index : Whole) → (course ds (t .access) es ≡ Course.Arrived array index) ↔ ((goesWay ds (t .access) es ≡ true) × Comes (t .access) array index es)) where
+  abbrev c : Course
+  c = course ds (t .access) es
 
-  arrives-says : (c : Course) (r : State) → Tally bs h f t ds ρ w c r → (lit ρ (w .arrival) ≡ true) ↔ Arrives c
-  arrives-says c r (through e l p u v) = not-both true refl (ap isMade (sym made ∙ e))
-  arrives-says c r (lost e l p) = not-both true refl (ap isMade (sym made ∙ e))
-  arrives-says c r (missed e l p) = ((λ q. not-both (lit ρ (w .arrival)) q l), (λ a. absurd (elsewhere c p a)))
-  arrives-says c r (here side₁ array index e l p q) = ((λ z. record { array = array; index = index; there = p }), (λ a. l))
+  elsewhere : (array : ℕ) (index : Whole) → Elsewhere c → goesWay ds (t .access) es ≡ true → Comes (t .access) array index es → ⊥
+  elsewhere array index e way there = subst Elsewhere (same array index .1 (way, there)) e
+
+  arrives-says : (r : State) → Tally bs h f t ds ρ w c r → (lit ρ (w .arrival) ≡ true) ↔ Reaches ds (t .access) es
+  arrives-says r (through e l p u v) = not-both true refl (ap isMade (sym made ∙ e))
+  arrives-says r (lost e l p) = not-both true refl (ap isMade (sym made ∙ e))
+  arrives-says r (missed e l p) = ((λ q. not-both (lit ρ (w .arrival)) q l), (λ a. absurd (elsewhere (a .array) (a .index) p (a .goes) (a .comes))))
+  arrives-says r (here side₁ array index e l p q) =
+      let b = same array index .0 p in
+      ((λ z. record { array = array; index = index; goes = b .0; comes = b .1 }), (λ a. l))
 
   -- the same array and the same index
   lies-same : (side₁ array₁ : ℕ) (index₁ : Whole) (array : ℕ) (index : Whole) → side₁ ≡ side → Course.Arrived array₁ index₁ ≡ Course.Arrived array index
@@ -75,14 +84,14 @@ module _ (bs : List ℕ) (h : Header) (f : Fine bs h) (t : Target) (ds : List �
       (subst (λ (z : Whole). (lit ρ side₁ ≡ true) ↔ (isOn (t .side) (lies (arraySize bs h array) z) ≡ true)) i
       (subst (λ (z : ℕ). (lit ρ side₁ ≡ true) ↔ (isOn (t .side) (lies (arraySize bs h z) index₁) ≡ true)) a q))
 
-  lies-says : (c : Course) (r : State) → Tally bs h f t ds ρ w c r → (array : ℕ) (index : Whole) → c ≡ Course.Arrived array index
+  lies-says : (r : State) → Tally bs h f t ds ρ w c r → goesWay ds (t .access) es ≡ true → (array : ℕ) (index : Whole) → Comes (t .access) array index es
       → (lit ρ side ≡ true) ↔ (isOn (t .side) (lies (arraySize bs h array) index) ≡ true)
-  lies-says c r (through e l p u v) array index z = not-both true refl (ap isMade (sym made ∙ e))
-  lies-says c r (lost e l p) array index z = not-both true refl (ap isMade (sym made ∙ e))
-  lies-says c r (missed e l p) array index z = absurd (elsewhere c p (record { array = array; index = index; there = z }))
-  lies-says c r (here side₁ array₁ index₁ e l p q) array index z =
+  lies-says r (through e l p u v) way array index there = not-both true refl (ap isMade (sym made ∙ e))
+  lies-says r (lost e l p) way array index there = not-both true refl (ap isMade (sym made ∙ e))
+  lies-says r (missed e l p) way array index there = absurd (elsewhere array index p way there)
+  lies-says r (here side₁ array₁ index₁ e l p q) way array index there =
       let y : side₁ ≡ side = cc in
-      lies-same side₁ array₁ index₁ array index y (sym p ∙ z) q
+      lies-same side₁ array₁ index₁ array index y (sym p ∙ same array index .1 (way, there)) q
 
 -- ---- the whole
 
@@ -157,11 +166,16 @@ module _ (bs : List ℕ) (t : Target) (ds : List ℕ) (h : Header) (a : Arm) (k 
         worth = parameters-worth bs h ok ρ ins truth (given h) (ok .parameters) (fits .parameters) (parts .0);
       }
 
-      tally : Tally bs h ok t ds ρ (x .wires) (courseOf bs t ds h a ins) (runOf bs ins h a .state)
+      tally : Tally bs h ok t ds ρ (x .wires) (course ds (t .access) (runOf bs ins h a .events)) (runOf bs ins h a .state)
       unfolding runOf
       tally =
           arm-alive bs ins h ok t ds ρ truth side few a 0 0 (firstCommand h) noCounts (length bs) k stands (fits .reads) (omega arith) g (start bs (given h))
           (state.start ins (given h)) (parts .1) alive
+
+  -- its course arrived just where it goes the way and comes to the access
+  same : (ins : List ℕ) (array : ℕ) (index : Whole) → (course ds (t .access) (runOf bs ins h a .events) ≡ Course.Arrived array index)
+      ↔ ((goesWay ds (t .access) (runOf bs ins h a .events) ≡ true) × Comes (t .access) array index (runOf bs ins h a .events))
+  same ins = arrival bs ins ds h a k is (t .access)
 
   all-parts : Faithful bs t ds h a k
   unfolding whole
@@ -174,8 +188,8 @@ module _ (bs : List ℕ) (t : Target) (ds : List ℕ) (h : Header) (a : Arm) (k 
     only = λ ins e ρ σ p q v l m.
         satisfied-iff (bitsOfList ins) ρ (whole bs t ds h a .nodes) formed .0 (p .satisfies, p .extends) v l m
         ∙ sym (satisfied-iff (bitsOfList ins) σ (whole bs t ds h a .nodes) formed .0 (q .satisfies, q .extends) v l m);
-    arrives = λ ins e ρ p. arrives-says bs h ok t ds ρ (x .wires) (made .side) claims (courseOf bs t ds h a ins) (runOf bs ins h a .state) (tally ins e ρ p);
-    lies = λ ins e ρ p. lies-says bs h ok t ds ρ (x .wires) (made .side) claims (courseOf bs t ds h a ins) (runOf bs ins h a .state) (tally ins e ρ p);
+    arrives = λ ins e ρ p. arrives-says bs h ok t ds ρ (x .wires) (made .side) claims (runOf bs ins h a .events) (same ins) (runOf bs ins h a .state) (tally ins e ρ p);
+    lies = λ ins e ρ p. lies-says bs h ok t ds ρ (x .wires) (made .side) claims (runOf bs ins h a .events) (same ins) (runOf bs ins h a .state) (tally ins e ρ p);
   }
 
 -- a claim on an access that the routine has, on a side that there is, by decisions that there are

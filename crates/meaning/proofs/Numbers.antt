@@ -1,13 +1,12 @@
--- The numbers of the accesses: an arm has those from the counts before it up to the counts after it. So a run over an arm whose numbers are all
--- greater does not come to the named access. Assumes nothing.
-use mathlib.Core.Path.{_≡_, refl, sym, subst}
+-- A run over an arm whose accesses all have greater numbers does not come to the named access. Assumes nothing.
+use mathlib.Core.Path.{sym, subst}
 use mathlib.Core.List.{List, [], _∷_}
 use mathlib.Core.Bool.{cond}
-use Prim.Native.Nat.{ℕ, _+_, _<_, _≤_}
+use Prim.Native.Nat.{ℕ, _+_, _<_}
 use native.Mathlib.Omega.{arith}
 use borrow.Author.Tests.{ne-eqb}
 use Rattle.bitvec.specs.declared.Whole.{Whole}
-use Rattle.faults.specs.Step.{accesses, after, oneIf}
+use Rattle.faults.specs.Step.{accesses, oneIf}
 use Rattle.routine.specs.Routine.{Arm}
 use Rattle.routine.specs.Inner.Stands.{Stands}
 use Rattle.header.specs.declared.Header.{Header}
@@ -16,13 +15,12 @@ use Rattle.command.specs.declared.Simple.{Simple}
 use Rattle.routine.proofs.Views.{induction}
 use Rattle.machine.specs.State.{take, holds, carry}
 use Rattle.run.specs.Run as run
-use Rattle.run.specs.Run.{took, came, unlessStopped, eventsAt, runArm}
-use Rattle.machine.specs.declared.Outcome.{Outcome}
-use Rattle.machine.specs.declared.Side.{Side}
+use Rattle.run.specs.Run.{took, came, eventsAt, runArm}
 use Rattle.machine.specs.declared.State.{State}
 use Rattle.run.specs.Course.{keeps, courseTo, course}
 use Rattle.run.specs.declared.Course.{Course}
 use Rattle.run.proofs.Laws.{onward, course-append}
+use Rattle.run.proofs.Ordered.{run-then-by, after-grows, accesses-grow}
 use Rattle.meaning.proofs.Stretches.{by-cond}
 
 -- ---- a course that goes on
@@ -38,33 +36,7 @@ elsewhere-then (Course.Astray number) y p q = tt
 elsewhere-then Course.Passing y p q = q
 elsewhere-then (Course.Arrived array index) y p q = p
 
--- ---- a run that goes on
-
--- it stopped, or it goes on
-pub run-then-by : (Q : run.Stretch → Type 0) (x : run.Stretch) (go : State → run.Stretch) → (x .state .outcome ≡ Outcome.Going → Q (run.after (x .events) (go (x .state))))
-    → ((access : ℕ) (index : Whole) (side : Side) → x .state .outcome ≡ Outcome.Stopped access index side → Q x) → Q (run.andThen x go)
-run-then-by Q x go p q = pick (x .state .outcome) refl
-  where
-    pick : (u : Outcome) → x .state .outcome ≡ u → Q (unlessStopped u (x .events) (x .state) go)
-    pick Outcome.Going e = p e
-    pick (Outcome.Stopped access index side) e = q access index side e
-
 -- ---- the numbers
-
-pub after-grows : (c : Simple) (k : Counts) → accesses k ≤ accesses (after c k)
-after-grows (Simple.Set d x) k = omega arith
-after-grows (Simple.Convert op d s) k = omega arith
-after-grows (Simple.Compute op d s t) k = omega arith
-after-grows (Simple.Read d a i) k = omega arith
-after-grows (Simple.Write a i s) k = omega arith
-
-pub accesses-grow : (bs : List ℕ) (h : Header) (a : Arm) (depth close at : ℕ) (k : Counts) (end : ℕ) (k₁ : Counts) → Stands bs h depth close at k a end k₁
-    → accesses k ≤ accesses k₁
-accesses-grow bs h =
-    induction bs h (λ depth close at k a end k₁. accesses k ≤ accesses k₁)
-    (λ depth close at k mark e l. omega arith)
-    (λ depth close at k c rest end k₁ v go. omega (arith, after-grows c k))
-    (λ depth close at k c first second rest end k₁ v go₁ go₂ go₃. omega arith)
 
 module _ (bs ins : List ℕ) (h : Header) (ds : List ℕ) (access : ℕ) where
   -- the run over x does not come to the access

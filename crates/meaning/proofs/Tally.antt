@@ -26,7 +26,8 @@ use Rattle.wires.specs.declared.Claim.{Claim}
 use Rattle.lead.specs.declared.Target.{Target}
 use Rattle.meaning.proofs.Claimed.{open-of}
 use Rattle.run.proofs.Laws.{onward, course-append}
-use Rattle.meaning.proofs.Numbers.{Elsewhere, elsewhere-then, run-then-by}
+use Rattle.run.proofs.Ordered.{run-then-by}
+use Rattle.meaning.proofs.Numbers.{Elsewhere, elsewhere-then}
 use Rattle.faults.proofs.Tests.{not-both}
 use Rattle.meaning.proofs.Worth.{Worth}
 

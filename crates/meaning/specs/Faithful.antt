@@ -16,8 +16,7 @@ use Rattle.machine.specs.Side.{isOn}
 use Rattle.machine.specs.State.{lies}
 use Rattle.run.specs.Run.{runOf}
 use Rattle.inputs.specs.declared.Listed.{Listed}
-use Rattle.run.specs.Course.{course}
-use Rattle.run.specs.declared.Course.{Course}
+use Rattle.run.specs.Goes.{goesWay, Comes, Reaches}
 use Rattle.arithmetic.specs.Input.{bitsOfWord}
 use Rattle.netlist.specs.Node.{clausesOf}
 use Rattle.cnf.specs.Meaning.{Assign, lit, sat}
@@ -36,18 +35,8 @@ pub record Solves (ins : List ℕ) (x : Stretch) (ρ : Assign) : Type 0 where
   pub satisfies : sat ρ (clausesOf 1 (x .nodes)) ≡ true
   pub extends : Extends (bitsOfList ins) ρ 1 (x .nodes)
 
--- the course of the run of an input list
-abbrev pub courseOf : (bs : List ℕ) → Target → (ds : List ℕ) → Header → Arm → (ins : List ℕ) → Course
-courseOf bs t ds h a ins = course ds (t .access) (runOf bs ins h a .events)
-
--- the run comes to the named access by the decisions
-pub record Arrives (x : Course) : Type 0 where
-  pub array : ℕ
-  pub index : Whole
-  pub there : x ≡ Course.Arrived array index
-
 -- For each accepted input list just one assignment, on the variables, extends it and satisfies the clauses before the last two. There the arrival literal
--- is true exactly when the run comes to the named access by the decisions, and then the side literal exactly when the index lies on that side.
+-- is true exactly when the run goes the way of the decisions and comes to the named access, and then the side literal exactly when the index lies on the side.
 pub record Faithful (bs : List ℕ) (t : Target) (ds : List ℕ) (h : Header) (a : Arm) (k : Counts) : Type 0 where
   pub arrival : ℕ
   pub side : ℕ
@@ -57,7 +46,7 @@ pub record Faithful (bs : List ℕ) (t : Target) (ds : List ℕ) (h : Header) (a
   pub only : (ins : List ℕ) → listed bs ins h a k ≡ Listed.Accepted → (ρ σ : Assign) → Solves ins (whole bs t ds h a) ρ → Solves ins (whole bs t ds h a) σ
       → Agree ρ σ (1 + length (whole bs t ds h a .nodes))
   pub arrives : (ins : List ℕ) → listed bs ins h a k ≡ Listed.Accepted → (ρ : Assign) → Solves ins (whole bs t ds h a) ρ
-      → (lit ρ arrival ≡ true) ↔ Arrives (courseOf bs t ds h a ins)
+      → (lit ρ arrival ≡ true) ↔ Reaches ds (t .access) (runOf bs ins h a .events)
   pub lies : (ins : List ℕ) → listed bs ins h a k ≡ Listed.Accepted → (ρ : Assign) → Solves ins (whole bs t ds h a) ρ
-      → (array : ℕ) (index : Whole) → courseOf bs t ds h a ins ≡ Course.Arrived array index
+      → goesWay ds (t .access) (runOf bs ins h a .events) ≡ true → (array : ℕ) (index : Whole) → Comes (t .access) array index (runOf bs ins h a .events)
       → (lit ρ side ≡ true) ↔ (isOn (t .side) (lies (arraySize bs h array) index) ≡ true)

@@ -1,33 +1,23 @@
--- What the course says of the way and of coming to the access, where an access outside is the last that a run comes to. Assumes nothing.
-use mathlib.Core.Path.{_≡_, refl, ap}
+-- A course that arrived, and a run that goes the way and comes to the access, are the same. Assumes nothing.
+use mathlib.Core.Path.{_≡_, refl, sym, ap, subst, _∙_}
+use mathlib.Core.Logic.{_↔_}
 use mathlib.Core.List.{List, [], _∷_, _++_}
 use mathlib.Core.Bool.{Bool, true, false, cond, _&&_}
-use Prim.Native.Nat.{ℕ}
+use Prim.Native.Nat.{ℕ, _+_, _<_, _≤_}
 use native.Mathlib.Omega.{arith}
 use lib.Dec.{eqb}
-use borrow.Author.Tests.{eq-eqb, eqb-true}
+use borrow.Author.Tests.{eq-eqb, ne-eqb, eqb-true, lt-ltb}
 use Rattle.bitvec.specs.declared.Whole.{Whole}
-use Rattle.header.specs.Header.{arraySize}
 use Rattle.header.specs.declared.Header.{Header}
-use Rattle.machine.specs.State.{lies}
-use Rattle.machine.specs.declared.Lies.{Lies}
-use Rattle.machine.specs.declared.Outcome.{Outcome}
-use Rattle.machine.specs.declared.Side.{Side}
-use Rattle.run.specs.Run.{Event, took, came}
-use Rattle.run.proofs.Outside.{Ends}
+use Rattle.faults.specs.Step.{accesses}
+use Rattle.faults.specs.declared.Counts.{Counts}
+use Rattle.routine.specs.Routine.{Arm}
+use Rattle.routine.specs.Decode.{routine, decode}
+use Rattle.run.specs.Run.{Event, took, came, runOf}
+use Rattle.run.proofs.Ordered.{Ordered, ordered}
 use Rattle.run.specs.Course.{keeps, courseTo, course}
 use Rattle.run.specs.Goes.{goesWay, Comes}
 use Rattle.run.specs.declared.Course.{Course}
-
--- a course that arrived
-pub record Arrived (x : Course) : Type 0 where
-  pub array : ℕ
-  pub index : Whole
-  pub there : x ≡ Course.Arrived array index
-
-never : (es : List Event) (e : Event) (fs : List Event) → es ++ e ∷ fs ≡ [] → ⊥
-never [] e fs z = let y : _≡_ {A = ℕ} 0 1 = cc in absurd (omega arith)
-never (g ∷ gs) e fs z = let y : _≡_ {A = ℕ} 0 1 = cc in absurd (omega arith)
 
 module _ (ds : List ℕ) (access : ℕ) where
   -- an if that the course went on from
@@ -37,7 +27,7 @@ module _ (ds : List ℕ) (access : ℕ) where
   kept false number array index x e = let z : _≡_ {A = ℕ} 0 1 = cc in absurd (omega arith)
 
   -- a course that arrived came to the access
-  pub comes : (es : List Event) (array : ℕ) (index : Whole) → course ds access es ≡ Course.Arrived array index → Comes access array index es
+  comes : (es : List Event) (array : ℕ) (index : Whole) → course ds access es ≡ Course.Arrived array index → Comes access array index es
   unfolding courseTo
   comes [] array index e = let z : _≡_ {A = ℕ} 0 1 = cc in absurd (omega arith)
   comes (took number arm before ∷ es) array index e =
@@ -55,63 +45,63 @@ module _ (ds : List ℕ) (access : ℕ) where
           let x = go q in
           record { before = came number array₁ index₁ ∷ x .before; after = x .after; there = ap (λ l. came number array₁ index₁ ∷ l) (x .there) }
 
-  module _ (bs : List ℕ) (h : Header) (o : Outcome) (side : Side) where
-    -- with an index outside, it went the way: nothing comes after
-    pub goes : (es : List Event) (array : ℕ) (index : Whole) → Ends bs h es o → course ds access es ≡ Course.Arrived array index
-        → lies (arraySize bs h array) index ≡ Lies.Outside side → goesWay ds access es ≡ true
-    unfolding courseTo goesWay
-    goes [] array index n e l = refl
-    goes (took number arm before ∷ es) array index n e l =
-        let q = kept (keeps ds access number arm before) number array index (course ds access es) e in
-        rw (q .0) (goes es array index n (q .1) l)
-    goes (came number array₁ index₁ ∷ es) array index n e l = pick (λ q. goes es array index (n .1) q l) (eqb number access) e
-      where
-        pick : (course ds access es ≡ Course.Arrived array index → goesWay ds access es ≡ true) → (b : Bool)
-            → cond b (Course.Arrived array₁ index₁) (course ds access es) ≡ Course.Arrived array index → goesWay ds access es ≡ true
-        pick go true q =
-            let a : array₁ ≡ array = cc in
-            let i : index₁ ≡ index = cc in
-            rw (n .0 side (rw (a, i) l) .0) refl
-        pick go false q = go q
+  -- no if that stands after the access matters
+  later : (n m : ℕ) (es : List Event) → access < n → Ordered n m es → goesWay ds access es ≡ true
+  unfolding goesWay
+  later n m [] l o = refl
+  later n m (took number arm before ∷ es) l o = rw (lt-ltb access before (omega (arith, o .0))) (later before m es (omega (arith, o .0)) (o .1))
+  later n m (came number array index ∷ es) l o = later (number + 1) m es (omega (arith, o .0)) (o .1)
 
-    -- the access that a run comes to is the one at which the course arrived, and there the run stopped
-    pub same : (es : List Event) (array₁ : ℕ) (index₁ : Whole) (fs : List Event) (array : ℕ) (index : Whole) → Ends bs h (es ++ came access array₁ index₁ ∷ fs) o
-        → course ds access (es ++ came access array₁ index₁ ∷ fs) ≡ Course.Arrived array index → lies (arraySize bs h array) index ≡ Lies.Outside side
-        → (array₁ ≡ array) × (index₁ ≡ index) × (o ≡ Outcome.Stopped access index₁ side)
-    unfolding courseTo
-    same [] array₁ index₁ fs array index n e l =
-        let q : Course.Arrived array₁ index₁ ≡ Course.Arrived array index = rw (eq-eqb access access refl) at e in
-        let a : array₁ ≡ array = cc in
-        let i : index₁ ≡ index = cc in
-        (a, i, n .0 side (rw (a, i) l) .1)
-    same (took number arm before ∷ es) array₁ index₁ fs array index n e l =
-        same es array₁ index₁ fs array index n (kept (keeps ds access number arm before) number array index _ e .1) l
-    same (came number array₂ index₂ ∷ es) array₁ index₁ fs array index n e l = pick (λ q. same es array₁ index₁ fs array index (n .1) q l) (eqb number access) e
-      where
-        Same : Type 0
-        Same = (array₁ ≡ array) × (index₁ ≡ index) × (o ≡ Outcome.Stopped access index₁ side)
-
-        pick : (course ds access (es ++ came access array₁ index₁ ∷ fs) ≡ Course.Arrived array index → Same) → (b : Bool)
-            → cond b (Course.Arrived array₂ index₂) (course ds access (es ++ came access array₁ index₁ ∷ fs)) ≡ Course.Arrived array index → Same
-        pick go true q =
-            let a : array₂ ≡ array = cc in
-            let i : index₂ ≡ index = cc in
-            absurd (never es (came access array₁ index₁) fs (n .0 side (rw (a, i) l) .0))
-        pick go false q = go q
-
-  -- a run that goes the way and comes to the access has a course that arrived
-  pub arrives : (es : List Event) (array : ℕ) (index : Whole) (fs : List Event) → goesWay ds access (es ++ came access array index ∷ fs) ≡ true
-      → Arrived (course ds access (es ++ came access array index ∷ fs))
+  -- a course that arrived went the way
+  goes : (n m : ℕ) (es : List Event) (array : ℕ) (index : Whole) → Ordered n m es → course ds access es ≡ Course.Arrived array index → goesWay ds access es ≡ true
   unfolding courseTo goesWay
-  arrives [] array index fs e = rw (eq-eqb access access refl) (record { array = array; index = index; there = refl })
-  arrives (took number arm before ∷ es) array index fs e = pick (arrives es array index fs) (keeps ds access number arm before) e
+  goes n m [] array index o e = refl
+  goes n m (took number arm before ∷ es) array index o e =
+      let q = kept (keeps ds access number arm before) number array index (course ds access es) e in
+      rw (q .0) (goes before m es array index (o .1) (q .1))
+  goes n m (came number array₁ index₁ ∷ es) array index o e =
+      pick (λ q. goes (number + 1) m es array index (o .1) q) (λ l. later (number + 1) m es l (o .1)) (eqb number access) refl e
     where
-      pick : (goesWay ds access (es ++ came access array index ∷ fs) ≡ true → Arrived (course ds access (es ++ came access array index ∷ fs))) → (b : Bool)
-          → b && goesWay ds access (es ++ came access array index ∷ fs) ≡ true → Arrived (cond b (course ds access (es ++ came access array index ∷ fs)) (Course.Astray number))
+      pick : (course ds access es ≡ Course.Arrived array index → goesWay ds access es ≡ true) → (access < number + 1 → goesWay ds access es ≡ true) → (b : Bool)
+          → eqb number access ≡ b → cond b (Course.Arrived array₁ index₁) (course ds access es) ≡ Course.Arrived array index → goesWay ds access es ≡ true
+      pick go past true n q = let z = eqb-true number access n in past (omega arith)
+      pick go past false n q = go q
+
+  -- the access comes no earlier than what is come to before it
+  no-earlier : (n m : ℕ) (es : List Event) (array : ℕ) (index : Whole) (fs : List Event) → Ordered n m (es ++ came access array index ∷ fs) → n ≤ access
+  no-earlier n m [] array index fs o = o .0
+  no-earlier n m (took number arm before ∷ es) array index fs o =
+      let l = no-earlier before m es array index fs (o .1) in
+      omega (arith, o .0)
+  no-earlier n m (came number array₁ index₁ ∷ es) array index fs o =
+      let l = no-earlier (number + 1) m es array index fs (o .1) in
+      omega (arith, o .0)
+
+  -- a run that goes the way and comes to the access has a course that arrived there
+  arrives : (n m : ℕ) (es : List Event) (array : ℕ) (index : Whole) (fs : List Event) → Ordered n m (es ++ came access array index ∷ fs)
+      → goesWay ds access (es ++ came access array index ∷ fs) ≡ true → course ds access (es ++ came access array index ∷ fs) ≡ Course.Arrived array index
+  unfolding courseTo goesWay
+  arrives n m [] array index fs o e = rw (eq-eqb access access refl) refl
+  arrives n m (took number arm before ∷ es) array index fs o e = pick (arrives before m es array index fs (o .1)) (keeps ds access number arm before) e
+    where
+      pick : (goesWay ds access (es ++ came access array index ∷ fs) ≡ true → course ds access (es ++ came access array index ∷ fs) ≡ Course.Arrived array index)
+          → (b : Bool) → b && goesWay ds access (es ++ came access array index ∷ fs) ≡ true
+          → cond b (course ds access (es ++ came access array index ∷ fs)) (Course.Astray number) ≡ Course.Arrived array index
       pick go true q = go q
       pick go false q = let y : _≡_ {A = ℕ} 0 1 = cc in absurd (omega arith)
-  arrives (came number array₁ index₁ ∷ es) array index fs e = pick (arrives es array index fs e) (eqb number access)
-    where
-      pick : Arrived (course ds access (es ++ came access array index ∷ fs)) → (b : Bool) → Arrived (cond b (Course.Arrived array₁ index₁) (course ds access (es ++ came access array index ∷ fs)))
-      pick go true = record { array = array₁; index = index₁; there = refl }
-      pick go false = go
+  arrives n m (came number array₁ index₁ ∷ es) array index fs o e =
+      let l = no-earlier (number + 1) m es array index fs (o .1) in
+      rw (ne-eqb number access (λ z. omega arith)) (arrives (number + 1) m es array index fs (o .1) e)
+
+-- of the run of a routine, whatever the index
+pub arrival : (bs ins ds : List ℕ) (h : Header) (a : Arm) (k : Counts) → decode bs ≡ routine h a k → (access array : ℕ) (index : Whole)
+    → (course ds access (runOf bs ins h a .events) ≡ Course.Arrived array index)
+    ↔ ((goesWay ds access (runOf bs ins h a .events) ≡ true) × Comes access array index (runOf bs ins h a .events))
+arrival bs ins ds h a k d access array index = (
+  (λ e. (goes ds access 0 (accesses k) _ array index (ordered bs ins h a k d) e, comes ds access _ array index e)),
+  (λ p.
+      let c = p .1 in
+      ap (course ds access) (c .there)
+      ∙ arrives ds access 0 (accesses k) (c .before) array index (c .after)
+      (subst (Ordered 0 (accesses k)) (c .there) (ordered bs ins h a k d)) (sym (ap (goesWay ds access) (c .there)) ∙ p .0)),
+)

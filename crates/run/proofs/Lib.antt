@@ -5,6 +5,7 @@ mod Parting
 mod Wholes
 mod Admitting
 mod Bench
+pub mod Ordered
 pub mod Arriving
 pub mod Outside
 pub mod Words

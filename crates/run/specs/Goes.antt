@@ -18,3 +18,10 @@ pub record Comes (access array : ℕ) (index : Whole) (es : List Event) : Type 0
   pub before : List Event
   pub after : List Event
   pub there : es ≡ before ++ came access array index ∷ after
+
+-- the run goes the way, and comes to the access in some array, with some index
+pub record Reaches (ds : List ℕ) (access : ℕ) (es : List Event) : Type 0 where
+  pub array : ℕ
+  pub index : Whole
+  pub goes : goesWay ds access es ≡ true
+  pub comes : Comes access array index es

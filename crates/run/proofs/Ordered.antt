@@ -1,0 +1,123 @@
+-- What a run comes to stands in the order of the text: the accesses come with growing numbers, and an if that it comes to after an access has this one
+-- before it. Assumes nothing.
+use mathlib.Core.Path.{_≡_, refl}
+use mathlib.Core.List.{List, [], _∷_, _++_}
+use mathlib.Core.Bool.{Bool, true, false, cond}
+use Prim.Native.Nat.{ℕ, _+_, _≤_}
+use native.Mathlib.Omega.{arith}
+use lib.ListN.{length}
+use Rattle.bitvec.specs.declared.Whole.{Whole}
+use Rattle.header.specs.Header.{firstCommand}
+use Rattle.header.specs.declared.Header.{Header}
+use Rattle.faults.specs.Step.{accesses, after, oneIf}
+use Rattle.faults.specs.Inputs.{given}
+use Rattle.faults.specs.declared.Counts.{Counts}
+use Rattle.command.specs.declared.Simple.{Simple}
+use Rattle.routine.specs.Routine.{Arm}
+use Rattle.routine.specs.Decode.{routine, decode, noCounts}
+use Rattle.routine.specs.Inner.Stands.{Stands}
+use Rattle.routine.proofs.Accepted.{decoded}
+use Rattle.routine.proofs.Views.{induction}
+use Rattle.machine.specs.State.{start, take, holds, carry}
+use Rattle.machine.specs.declared.Outcome.{Outcome}
+use Rattle.machine.specs.declared.Side.{Side}
+use Rattle.machine.specs.declared.State.{State}
+use Rattle.run.specs.Run as run
+use Rattle.run.specs.Run.{Event, took, came, Stretch, unlessStopped, andThen, eventsAt, runArm, runOf}
+
+-- a run stopped, or it goes on
+pub run-then-by : (Q : Stretch → Type 0) (x : Stretch) (go : State → Stretch) → (x .state .outcome ≡ Outcome.Going → Q (run.after (x .events) (go (x .state))))
+    → ((access : ℕ) (index : Whole) (side : Side) → x .state .outcome ≡ Outcome.Stopped access index side → Q x) → Q (andThen x go)
+run-then-by Q x go p q = pick (x .state .outcome) refl
+  where
+    pick : (u : Outcome) → x .state .outcome ≡ u → Q (unlessStopped u (x .events) (x .state) go)
+    pick Outcome.Going e = p e
+    pick (Outcome.Stopped access index side) e = q access index side e
+
+-- ---- the numbers of the accesses: an arm has those from the counts before it up to the counts after it
+
+pub after-grows : (c : Simple) (k : Counts) → accesses k ≤ accesses (after c k)
+after-grows (Simple.Set d x) k = omega arith
+after-grows (Simple.Convert op d s) k = omega arith
+after-grows (Simple.Compute op d s t) k = omega arith
+after-grows (Simple.Read d a i) k = omega arith
+after-grows (Simple.Write a i s) k = omega arith
+
+pub accesses-grow : (bs : List ℕ) (h : Header) (a : Arm) (depth close at : ℕ) (k : Counts) (end : ℕ) (k₁ : Counts) → Stands bs h depth close at k a end k₁
+    → accesses k ≤ accesses k₁
+accesses-grow bs h =
+    induction bs h (λ depth close at k a end k₁. accesses k ≤ accesses k₁)
+    (λ depth close at k mark e l. omega arith)
+    (λ depth close at k c rest end k₁ v go. omega (arith, after-grows c k))
+    (λ depth close at k c first second rest end k₁ v go₁ go₂ go₃. omega arith)
+
+-- ---- the events in order
+
+-- from the access n up to the access m: each if stands where the accesses before it are those so far, and each access comes once
+abbrev pub Ordered : (n m : ℕ) → List Event → Type 0
+Ordered n m [] = n ≤ m
+Ordered n m (took number arm before ∷ es) = (n ≤ before) × Ordered before m es
+Ordered n m (came access array index ∷ es) = (n ≤ access) × Ordered (access + 1) m es
+
+-- from an earlier access on
+earlier : (n₁ n m : ℕ) (es : List Event) → n₁ ≤ n → Ordered n m es → Ordered n₁ m es
+earlier n₁ n m [] l o = omega arith
+earlier n₁ n m (took number arm before ∷ es) l o = (omega (arith, o .0), o .1)
+earlier n₁ n m (came access array index ∷ es) l o = (omega (arith, o .0), o .1)
+
+-- up to a later one
+longer : (n m m₁ : ℕ) (es : List Event) → m ≤ m₁ → Ordered n m es → Ordered n m₁ es
+longer n m m₁ [] l o = omega arith
+longer n m m₁ (took number arm before ∷ es) l o = (o .0, longer before m m₁ es l (o .1))
+longer n m m₁ (came access array index ∷ es) l o = (o .0, longer (access + 1) m m₁ es l (o .1))
+
+ordered-append : (n m l : ℕ) (es fs : List Event) → Ordered n m es → Ordered m l fs → Ordered n l (es ++ fs)
+ordered-append n m l [] fs o p = earlier n m l fs o p
+ordered-append n m l (took number arm before ∷ es) fs o p = (o .0, ordered-append before m l es fs (o .1) p)
+ordered-append n m l (came access array index ∷ es) fs o p = (o .0, ordered-append (access + 1) m l es fs (o .1) p)
+
+ordered-then : (n m l : ℕ) (x : Stretch) (go : State → Stretch) → m ≤ l → Ordered n m (x .events) → ((s : State) → Ordered m l (go s .events))
+    → Ordered n l (andThen x go .events)
+ordered-then n m l x go f o p =
+    run-then-by (λ (z : Stretch). Ordered n l (z .events)) x go
+    (λ e. ordered-append n m l (x .events) (go (x .state) .events) o (p (x .state)))
+    (λ a i s e. longer n m l (x .events) f o)
+
+ordered-simple : (bs : List ℕ) (c : Simple) (k : Counts) (s : State) → Ordered (accesses k) (accesses (after c k)) (eventsAt bs c k s)
+ordered-simple bs (Simple.Set d x) k s = omega arith
+ordered-simple bs (Simple.Convert op d a) k s = omega arith
+ordered-simple bs (Simple.Compute op d a b) k s = omega arith
+ordered-simple bs (Simple.Read d array i) k s = (omega arith, omega arith)
+ordered-simple bs (Simple.Write array i a) k s = (omega arith, omega arith)
+
+ordered-cond : (n m : ℕ) (b : Bool) (x y : Stretch) → Ordered n m (x .events) → Ordered n m (y .events) → Ordered n m (cond b x y .events)
+ordered-cond n m true x y o p = o
+ordered-cond n m false x y o p = p
+
+module _ (bs ins : List ℕ) (h : Header) where
+  ordered-arm : (a : Arm) (depth close at : ℕ) (k : Counts) (end : ℕ) (k₁ : Counts) → Stands bs h depth close at k a end k₁
+      → (s : State) → Ordered (accesses k) (accesses k₁) (runArm bs ins h a s .events)
+  unfolding runArm
+  ordered-arm =
+      induction bs h (λ depth close at k a end k₁. (s : State) → Ordered (accesses k) (accesses k₁) (runArm bs ins h a s .events))
+      (λ depth close at k mark e l s. omega arith)
+      (λ depth close at k c rest end k₁ v go s.
+      ordered-then (accesses k) (accesses (after c k)) (accesses k₁) (record { events = eventsAt bs c k s; state = carry bs ins h c k s }) (runArm bs ins h rest)
+      (accesses-grow bs h rest depth close _ (after c k) end k₁ (v .stands)) (ordered-simple bs c k s) go)
+      (λ depth close at k c first second rest end k₁ v go₁ go₂ go₃ s.
+      let g₁ = accesses-grow bs h first (depth + 1) 12 (at + 4) (oneIf k) (v .else) (v .k₂) (v .stands-first) in
+      let g₂ = accesses-grow bs h second (depth + 1) 13 (v .else) (v .k₂) (v .next) (v .k₃) (v .stands-second) in
+      let x = runArm bs ins h first (take s (k .ifs) 0) in
+      let y = runArm bs ins h second (take s (k .ifs) 1) in
+      ordered-then (accesses k) (accesses (v .k₃)) (accesses k₁)
+      (cond (holds bs c s) (run.after (took (k .ifs) 0 (accesses k) ∷ []) x) (run.after (took (k .ifs) 1 (accesses k) ∷ []) y)) (runArm bs ins h rest)
+      (accesses-grow bs h rest depth close (v .next) (v .k₃) end k₁ (v .stands))
+      (ordered-cond (accesses k) (accesses (v .k₃)) (holds bs c s) (run.after (took (k .ifs) 0 (accesses k) ∷ []) x) (run.after (took (k .ifs) 1 (accesses k) ∷ []) y)
+      (omega arith, longer (accesses k) (accesses (v .k₂)) (accesses (v .k₃)) (x .events) g₂ (go₁ (take s (k .ifs) 0)))
+      (omega arith, earlier (accesses k) (accesses (v .k₂)) (accesses (v .k₃)) (y .events) g₁ (go₂ (take s (k .ifs) 1))))
+      go₃)
+
+  -- the run of a routine
+  pub ordered : (a : Arm) (k : Counts) → decode bs ≡ routine h a k → Ordered 0 (accesses k) (runOf bs ins h a .events)
+  unfolding runOf
+  ordered a k e = ordered-arm a 0 0 (firstCommand h) noCounts (length bs) k (decoded bs h a k e .stands) (start ins (given h))
