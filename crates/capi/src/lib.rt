@@ -6,6 +6,8 @@ use replies::fill_prove;
 use replies::fill_run;
 use replies::fill_translate;
 ghost use mathlib.Core.List.{[], _∷_};
+ghost use Rattle.lead.specs.Lead.{targetOf};
+ghost use Rattle.meaning.specs.Faithful.{Demand2};
 ghost use Rattle.interface.specs.Left.{Leaves, checkLeaves, runLeaves, translateLeaves, proveLeaves, judgeLeaves, Finds, alikeLeaves};
 
 // Checks a routine.
@@ -48,6 +50,7 @@ pub extern "C" fn pellet_translate(
     answer: &mut [u64],
 ) -> u8
     ensures { λ r. ⌜ Leaves (translateLeaves (now (routine .entry)) access side (now (decisions .entry)) (now (words .entry)) (now (starts .entry)) (now (answer .entry))) (now (words .exit) ∷ now (starts .exit) ∷ []) (now (answer .exit)) r ⌝ }
+    ensures { λ r. ⌜ Demand2 (now (routine .entry)) (targetOf access side) (now (decisions .entry)) ⌝ }
 {
     if answer.len() < 8 {
         return 255;

@@ -27,10 +27,13 @@ use Rattle.netlist.specs.Node.{clausesOf}
 use Rattle.netlist.proofs.Literals.{lit-opp}
 use Rattle.netlist.proofs.Truth.{sat-append}
 use Rattle.lead.specs.declared.Target.{Target}
-use Rattle.meaning.specs.Faithful.{Faithful}
+use Rattle.lead.proofs.Leads.{admission-by}
+use Rattle.meaning.specs.Faithful.{Faithful, Demand2}
 use Rattle.meaning.specs.Translation.{whole, lastClauses, clausesOfAll, sizeOf}
-use Rattle.meaning.proofs.Demand.{faithful}
+use Rattle.meaning.proofs.Demand as translation
 use Rattle.progress.specs.Check.{checkProof}
+use Rattle.progress.specs.State.{Limits}
+use Rattle.proof.specs.Sound.{Refutes}
 use Rattle.proof.proofs.Soundness.{sound}
 use Rattle.step.specs.declared.Verdict.{Verdict}
 use Rattle.wiring.specs.Command.{Stretch}
@@ -89,7 +92,8 @@ module _ (steps hints : ℕ) where
 
 module _ (bs r : List ℕ) (h : Header) (a : Arm) (k : Counts) (d : decode bs ≡ routine h a k) (t : Target) (array : ℕ) (index : Whole)
     (s : Stood bs r h a k t array index)
-    (unsatisfied : (σ : Assign) → sat σ (clausesOfAll (whole bs t (decisionsIn r k) h a)) ≡ false) where
+    (translated : Demand2 bs t (decisionsIn r k)) (v : Verdict) (refuted : Refutes (clausesOfAll (whole bs t (decisionsIn r k) h a)) v)
+    (steps hints : ℕ) (closed : v ≡ Verdict.Accepted steps hints) where
   abbrev ds : List ℕ
   ds = decisionsIn r k
 
@@ -97,7 +101,7 @@ module _ (bs r : List ℕ) (h : Header) (a : Arm) (k : Counts) (d : decode bs �
   x = whole bs t ds h a
 
   claim : Faithful bs t ds h a k
-  claim = let l = lets r h k t _ (sym (s .opens)) refl .range in faithful bs t ds h a k d (l .access) (l .side) (l .decisions)
+  claim = translated .holds h a k (admission-by bs t ds h a k d (lets r h k t _ (sym (s .opens)) refl .admits a))
 
   -- every accepted input list whose run goes the way and comes to the access has its index on the side
   outside : (ins : List ℕ) → listed bs ins h a k ≡ Listed.Accepted → goesWay ds (t .access) (runOf bs ins h a .events) ≡ true
@@ -108,7 +112,7 @@ module _ (bs r : List ℕ) (h : Header) (a : Arm) (k : Counts) (d : decode bs �
       let ρ : Assign = claim .solution ins ok in
       let y = claim .solves ins ok in
       let come : lit ρ (claim .arrival) ≡ true = claim .arrives ins ok ρ y .1 (record { array = array₁; index = index₁; goes = way; comes = there }) in
-      let none : sat ρ (clausesOf 1 (x .nodes) ++ lastClauses (Claim.Made (claim .arrival) (claim .side))) ≡ false = rw (claim .claims) at (unsatisfied ρ) in
+      let none : sat ρ (clausesOf 1 (x .nodes) ++ lastClauses (Claim.Made (claim .arrival) (claim .side))) ≡ false = rw (claim .claims) at (refuted .none steps hints closed ρ) in
       claim .lies ins ok ρ y way array₁ index₁ there .0 (side-true ρ (claim .arrival) (claim .side) (clausesOf 1 (x .nodes)) none (y .satisfies) come)
 
   finding : Finding bs ds (witnessIn r h k) h a k (t .access) (t .side) array index
@@ -133,7 +137,9 @@ module _ (bs r : List ℕ) (h : Header) (a : Arm) (k : Counts) (d : decode bs �
 
 -- ---- the whole
 
-module _ (bs r : List ℕ) (m : Room) (access side array size : ℕ) (index : Whole) (steps hints : ℕ) where
+module _ (bs r : List ℕ) (m : Room) (translated : (t : Target) (ds : List ℕ) → Demand2 bs t ds)
+    (refuted : (cs : List Clause) (L : Limits) (from : ℕ) → Refutes cs (checkProof cs L r from .verdict))
+    (access side array size : ℕ) (index : Whole) (steps hints : ℕ) where
   abbrev Says : Judged → Type 0
   Says j = j ≡ Judged.Accepted access side array size index steps hints
 
@@ -155,9 +161,11 @@ module _ (bs r : List ℕ) (m : Room) (access side array size : ℕ) (index : Wh
     by-witness (Witness.Refused refusal) is e = let z : _≡_ {A = ℕ} 0 1 = cc in absurd (omega arith)
     by-witness (Witness.Stands t array₁ index₁) is e =
         let p = by-proof h t array₁ index₁ (provedBy r (proofAt h k) m h k (whole bs t (decisionsIn r k) h a)) e in
-        let v = verdict-was steps hints r (proofAt h k) m h k (whole bs t (decisionsIn r k) h a) (p .4) in
-        let none = sound (clausesOfAll (whole bs t (decisionsIn r k) h a)) (limitsIn m (whole bs t (decisionsIn r k) h a)) r (proofAt h k) .none steps hints v in
-        rw (← p .0, ← p .1, ← p .2, ← p .3) (finding bs r h a k d t array₁ index₁ (stood bs r h a k t array₁ index₁ is) none)
+        let x = whole bs t (decisionsIn r k) h a in
+        let v = verdict-was steps hints r (proofAt h k) m h k x (p .4) in
+        rw (← p .0, ← p .1, ← p .2, ← p .3)
+        (finding bs r h a k d t array₁ index₁ (stood bs r h a k t array₁ index₁ is) (translated t (decisionsIn r k)) _
+        (refuted (clausesOfAll x) (limitsIn m x) (proofAt h k)) steps hints v)
 
   by-decoded : (x : Decoded) → decode bs ≡ x → Says (byRoutine bs r m x) → Found bs r access side array index
   by-decoded (rejected refusal) d e = let z : _≡_ {A = ℕ} 0 1 = cc in absurd (omega arith)
@@ -168,8 +176,13 @@ module _ (bs r : List ℕ) (m : Room) (access side array size : ℕ) (index : Wh
   unfolding judgement
   holds e = by-decoded (decode bs) refl e
 
+-- demand 3 follows from what `translate` promises of every admitted claim and from what the proof's check promises of every verdict
+pub follows : (bs r : List ℕ) (m : Room) → ((t : Target) (ds : List ℕ) → Demand2 bs t ds)
+    → ((cs : List Clause) (L : Limits) (from : ℕ) → Refutes cs (checkProof cs L r from .verdict)) → Demand3 bs r (judgement bs r m)
+follows bs r m translated refuted = record {
+  holds = λ access side array size index steps hints e. holds bs r m translated refuted access side array size index steps hints e;
+}
+
 -- whatever is judged so
 pub demand : (bs r : List ℕ) (m : Room) (j : Judged) → j ≡ judgement bs r m → Demand3 bs r j
-demand bs r m j is = record {
-  holds = λ access side array size index steps hints e. holds bs r m access side array size index steps hints (sym is ∙ e);
-}
+demand bs r m j is = subst (Demand3 bs r) (sym is) (follows bs r m (translation.demand bs) (λ cs L from. sound cs L r from))

@@ -1,5 +1,5 @@
 -- Whether there is a claim to translate, from what the parts answered. Assumes nothing.
-use mathlib.Core.Path.{_≡_, refl, sym, _∙_}
+use mathlib.Core.Path.{_≡_, refl, sym, ap, subst, _∙_}
 use mathlib.Core.List.{List}
 use mathlib.Core.Bool.{Bool, true, false, cond}
 use Prim.Native.Nat.{ℕ, zero, suc, _+_, _*_, _<_, _≤_}
@@ -87,6 +87,17 @@ module _ (t : Target) (ds : List ℕ) (h : Header) (a : Arm) (k : Counts) (h₁ 
         decisions = decisions-fine ds (eqb-true _ _ (u .0));
       }
 
+-- the tree does not matter to 11 and 12
+pub lead-admits : (t : Target) (ds : List ℕ) (h : Header) (k : Counts) (r : Admitted) → r ≡ admittedLead t ds h k → (h₁ : Header) → r ≡ Admitted.Translates h₁
+    → (a : Arm) → byLead t ds h a k ≡ translates h a k
+unfolding admittedLead unless
+lead-admits t ds h k r is h₁ e a =
+    let p = passed (eqb (length ds) (k .ifs)) _ _ h₁ (sym is ∙ e) in
+    let q = passed (ltb (t .access) (accesses k)) _ _ h₁ (p .1) in
+    let s = passed (leb (t .side) 1) _ _ h₁ (q .1) in
+    let u = passed (eqb (firstOdd ds) (length ds)) _ _ h₁ (s .1) in
+    rw (p .0, q .0, s .0, u .0) refl
+
 pub in-range : (t : Target) (ds : List ℕ) (h : Header) (k : Counts) (r : Admitted) → r ≡ admittedLead t ds h k → (h₁ : Header) → r ≡ Admitted.Translates h₁
     → InRange t ds k
 unfolding admittedLead
@@ -148,6 +159,18 @@ module _ (bs : List ℕ) (t : Target) (ds : List ℕ) where
   of-admission : Of (admission bs t ds)
   unfolding admission
   of-admission = of-routine (decode bs) refl
+
+  -- the routine of an admitted claim, and its range
+  pub admitted-range : (h : Header) (a : Arm) (k : Counts) → admission bs t ds ≡ translates h a k → (decode bs ≡ routine h a k) × InRange t ds k
+  unfolding admission
+  admitted-range h a k e =
+      let d : decode bs ≡ routine h a k = subst Of e of-admission in
+      (d, lead-range t ds h a k h (ap withoutTree (rw d at e)))
+
+  -- a claim on a routine is admitted where 11 and 12 let it through
+  pub admission-by : (h : Header) (a : Arm) (k : Counts) → decode bs ≡ routine h a k → byLead t ds h a k ≡ translates h a k → admission bs t ds ≡ translates h a k
+  unfolding admission
+  admission-by h a k d e = rw d e
 
   admits-by : (h : Header) (x : Admission) → admission bs t ds ≡ x → Of x → withoutTree x ≡ Admitted.Translates h → Admits bs t ds h
   admits-by h (refused refusal) e o q = let z : _≡_ {A = ℕ} 0 1 = cc in absurd (omega arith)

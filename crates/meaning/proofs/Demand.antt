@@ -41,9 +41,10 @@ use Rattle.wiring.specs.Command.{Stretch}
 use Rattle.wires.specs.Wires.{Wires, isMade}
 use Rattle.meaning.specs.Walk.{armOf}
 use Rattle.meaning.specs.Translation.{parameterNodes, start, whole}
-use Rattle.meaning.specs.Faithful.{bitsOfList, Solves, Faithful}
+use Rattle.meaning.specs.Faithful.{bitsOfList, Solves, Faithful, Demand2}
 use Rattle.wires.specs.declared.Claim.{Claim}
 use Rattle.lead.specs.declared.Target.{Target}
+use Rattle.lead.proofs.Leads.{admitted-range}
 use Rattle.meaning.proofs.Alive.{arm-alive}
 use Rattle.meaning.proofs.Claimed.{MadeBy, made-by, arm-claims, arm-settled}
 use Rattle.inputs.proofs.Fitting.{Fitting, fitting}
@@ -193,6 +194,12 @@ module _ (bs : List ℕ) (t : Target) (ds : List ℕ) (h : Header) (a : Arm) (k 
   }
 
 -- a claim on an access that the routine has, on a side that there is, by decisions that there are
-pub faithful : (bs : List ℕ) (t : Target) (ds : List ℕ) (h : Header) (a : Arm) (k : Counts) → decode bs ≡ routine h a k → t .access < accesses k → t .side ≤ 1
+faithful : (bs : List ℕ) (t : Target) (ds : List ℕ) (h : Header) (a : Arm) (k : Counts) → decode bs ≡ routine h a k → t .access < accesses k → t .side ≤ 1
     → ((n : ℕ) → entry ds n ≤ 2) → Faithful bs t ds h a k
 faithful = all-parts
+
+-- of every admitted claim
+pub demand : (bs : List ℕ) (t : Target) (ds : List ℕ) → Demand2 bs t ds
+demand bs t ds = record {
+  holds = λ h a k e. let x = admitted-range bs t ds h a k e in faithful bs t ds h a k (x .0) (x .1 .access) (x .1 .side) (x .1 .decisions);
+}

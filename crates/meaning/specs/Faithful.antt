@@ -24,6 +24,7 @@ use Rattle.netlist.specs.Meaning.{Inputs, Extends, Agree}
 use Rattle.wiring.specs.Command.{Stretch}
 use Rattle.meaning.specs.Translation.{whole}
 use Rattle.wires.specs.declared.Claim.{Claim}
+use Rattle.lead.specs.Lead.{translates, admission}
 use Rattle.lead.specs.declared.Target.{Target}
 
 -- the bits of an input list: word n, bit j
@@ -50,3 +51,7 @@ pub record Faithful (bs : List ℕ) (t : Target) (ds : List ℕ) (h : Header) (a
   pub lies : (ins : List ℕ) → listed bs ins h a k ≡ Listed.Accepted → (ρ : Assign) → Solves ins (whole bs t ds h a) ρ
       → goesWay ds (t .access) (runOf bs ins h a .events) ≡ true → (array : ℕ) (index : Whole) → Comes (t .access) array index (runOf bs ins h a .events)
       → (lit ρ side ≡ true) ↔ (isOn (t .side) (lies (arraySize bs h array) index) ≡ true)
+
+-- the translation of every claim that is admitted is faithful, whether or not it fits in the buffers
+pub record Demand2 (bs : List ℕ) (t : Target) (ds : List ℕ) : Type 0 where
+  pub holds : (h : Header) (a : Arm) (k : Counts) → admission bs t ds ≡ translates h a k → Faithful bs t ds h a k

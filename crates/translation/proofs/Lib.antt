@@ -1,5 +1,4 @@
 -- What the proofs of several functions use.
 mod Admitting
-mod Answered
 mod Making
 mod Storing

@@ -6,19 +6,13 @@ use mathlib.Core.Bool.{cond}
 use lib.Seq.{sets}
 use lib.Dec.{leb}
 use Rattle.slices.specs.Lent.{usable}
-use Rattle.header.specs.declared.Header.{Header}
-use Rattle.faults.specs.declared.Counts.{Counts}
-use Rattle.routine.specs.Routine.{Arm}
-use Rattle.routine.specs.Decode.{routine, decode}
 use Rattle.cnf.specs.Clause.{flatten, offsets}
 use Rattle.lead.specs.Lead.{Admission, refused, translates, admission}
 use Rattle.lead.specs.declared.Target.{Target}
 use Rattle.wiring.specs.Command.{Stretch}
 use Rattle.meaning.specs.Translation.{whole, clausesOfAll, sizeOf}
-use Rattle.meaning.specs.Faithful.{Faithful}
 use Rattle.translation.specs.declared.Buffer.{Buffer}
 use Rattle.translation.specs.declared.Refusal.{Refusal}
-use Rattle.meaning.specs.declared.Size.{Size}
 use Rattle.translation.specs.declared.Translated.{Translated}
 
 -- the answer, and both buffers
@@ -48,7 +42,3 @@ answer bs t ds words starts = answerBy bs t ds words starts (admission bs t ds)
 -- the answer is r, and the buffers became words₁ and starts₁
 pub record Answers (bs : List ℕ) (t : Target) (ds words starts words₁ starts₁ : List ℕ) (r : Translated) : Type 0 where
   pub equal : _≡_ {A = Answer} (record { translated = r; words = words₁; starts = starts₁ }) (answer bs t ds words starts)
-
--- demand 2, of what `translate` made
-pub record Demand2 (bs : List ℕ) (t : Target) (ds : List ℕ) (r : Translated) : Type 0 where
-  pub holds : (size : Size) → r ≡ Translated.Made size → (h : Header) (a : Arm) (k : Counts) → decode bs ≡ routine h a k → Faithful bs t ds h a k

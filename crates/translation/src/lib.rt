@@ -6,7 +6,8 @@ use lead::Target;
 use lead::admit;
 use meaning::Size;
 ghost use Rattle.lead.specs.Lead.{targetOf};
-ghost use Rattle.translation.specs.Answer.{Answers, Demand2};
+ghost use Rattle.meaning.specs.Faithful.{Demand2};
+ghost use Rattle.translation.specs.Answer.{Answers};
 
 // A lent buffer of a translation.
 pub enum Buffer {
@@ -37,7 +38,7 @@ pub fn translate(
     starts: &mut [u32],
 ) -> Translated
     ensures { λ r. ⌜ Answers (now (routine .entry)) (targetOf access side) (now (decisions .entry)) (now (words .entry)) (now (starts .entry)) (now (words .exit)) (now (starts .exit)) r ⌝ }
-    ensures { λ r. ⌜ Demand2 (now (routine .entry)) (targetOf access side) (now (decisions .entry)) r ⌝ }
+    ensures { λ r. ⌜ Demand2 (now (routine .entry)) (targetOf access side) (now (decisions .entry)) ⌝ }
 {
     let t = Target { access, side };
     match admit(routine, t, decisions) {

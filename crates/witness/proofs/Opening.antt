@@ -9,10 +9,11 @@ use lib.Dec.{leb}
 use borrow.Author.Tests.{le-leb, leb-true}
 use Rattle.header.specs.declared.Header.{Header}
 use Rattle.faults.specs.declared.Counts.{Counts}
-use Rattle.lead.specs.Lead.{admittedLead}
+use Rattle.lead.specs.Lead.{translates, byLead, admittedLead}
 use Rattle.lead.specs.declared.Admitted.{Admitted}
 use Rattle.lead.specs.declared.Target.{Target}
-use Rattle.lead.proofs.Leads.{InRange, in-range}
+use Rattle.lead.proofs.Leads.{lead-admits}
+use Rattle.routine.specs.Routine.{Arm}
 use Rattle.routine.specs.Decode.{IsRoutine}
 use Rattle.routine.specs.Inner.Known.{Counted}
 use Rattle.routine.proofs.Accepted.{decoded}
@@ -43,20 +44,20 @@ pub record Lets (r : List ℕ) (h : Header) (k : Counts) (t : Target) : Type 0 w
   pub short : length r ≤ 16777216
   pub long : proofAt h k ≤ length r
   pub target : t ≡ targetIn r
-  pub range : InRange t (decisionsIn r k) k
+  pub admits : (a : Arm) → byLead t (decisionsIn r k) h a k ≡ translates h a k
 
 module _ (r : List ℕ) (h : Header) (k : Counts) (t : Target) where
   admitted-by : (x : Admitted) → x ≡ admittedLead (targetIn r) (decisionsIn r k) h k → byAdmitted (targetIn r) x ≡ Opened.Opens t
-      → (t ≡ targetIn r) × InRange (targetIn r) (decisionsIn r k) k
+      → (t ≡ targetIn r) × ((a : Arm) → byLead (targetIn r) (decisionsIn r k) h a k ≡ translates h a k)
   admitted-by (Admitted.Refused refusal) is e = let z : _≡_ {A = ℕ} 0 1 = cc in absurd (omega arith)
-  admitted-by (Admitted.Translates h₁) is e = (cc, in-range (targetIn r) (decisionsIn r k) h k (Admitted.Translates h₁) is h₁ refl)
+  admitted-by (Admitted.Translates h₁) is e = (cc, lead-admits (targetIn r) (decisionsIn r k) h k (Admitted.Translates h₁) is h₁ refl)
 
   let-by : (b c : Bool) → leb (length r) 16777216 ≡ b → leb (proofAt h k) (length r) ≡ c
       → cond b (cond c (byAdmitted (targetIn r) (admittedLead (targetIn r) (decisionsIn r k) h k)) (Opened.Refused (Refusal.Cut (length r)))) (Opened.Refused (Refusal.Cut (length r))) ≡ Opened.Opens t
       → Lets r h k t
   let-by true true p q e =
       let x = admitted-by (admittedLead (targetIn r) (decisionsIn r k) h k) refl e in
-      record { short = leb-true _ _ p; long = leb-true _ _ q; target = x .0; range = rw (x .0) (x .1) }
+      record { short = leb-true _ _ p; long = leb-true _ _ q; target = x .0; admits = rw (x .0) (x .1) }
   let-by true false p q e = let z : _≡_ {A = ℕ} 0 1 = cc in absurd (omega arith)
   let-by false c p q e = let z : _≡_ {A = ℕ} 0 1 = cc in absurd (omega arith)
 

@@ -1,4 +1,5 @@
 use Rattle.interface.proofs.Leaving.{translate-leaves, short}
+use Rattle.meaning.proofs.Demand.{demand}
 use borrow.Author.Tests.{lt-ltb, le-ltb}
 use Rattle.interface.specs.Left.{translateLeaves}
 use borrow.Author.Needs.{needs}
@@ -7,7 +8,7 @@ use Rattle.capi.proofs.pellet_translate.Tie as tie
 
 returns : tie.Need-returns
 unfolding translateLeaves
-returns c = short _ _ _ _ (lt-ltb _ _ (c .if1 .taken))
+returns c = (short _ _ _ _ (lt-ltb _ _ (c .if1 .taken)), demand _ _ _)
 
 translate-requires : tie.Need-translate-requires
 translate-requires c κs = search needs
@@ -26,7 +27,9 @@ same-length-3 c = search needs
 
 returns-2 : tie.Need-returns-2
 unfolding translateLeaves
-returns-2 c = translate-leaves _ _ _ _ _ _ _ _ _ _ _ (c .before .before .fill-translate .ensures) (c .before .before .before .before .before .before .before .before .translate .ensures .0) (le-ltb _ _ (c .before .before .before .before .before .before .before .before .before .before .before .if1 .left))
+returns-2 c =
+    let t = c .before .before .before .before .before .before .before .before .translate in
+    (translate-leaves _ _ _ _ _ _ _ _ _ _ _ (c .before .before .fill-translate .ensures) (t .ensures .0) (le-ltb _ _ (c .before .before .before .before .before .before .before .before .before .before .before .if1 .left)), t .ensures .1)
 
 pub pellet-translate-spec : {M : Type 1} → statement M
 pellet-translate-spec =

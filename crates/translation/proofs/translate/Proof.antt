@@ -1,7 +1,7 @@
 use borrow.Author.Needs.{needs}
 use Rattle.translation.proofs.Admitting.{refuses, fits}
 use Rattle.lead.proofs.Leads.{is-routine-by}
-use Rattle.translation.proofs.Answered.{demand}
+use Rattle.meaning.proofs.Demand.{demand}
 use Rattle.translation.proofs.translate.Statement.{statement}
 use Rattle.translation.proofs.translate.Tie as tie
 
@@ -20,7 +20,7 @@ fit-requires c κs = is-routine-by _ _ _ _ (c .before .before .before .before .b
 returns : tie.Need-returns
 returns c =
     let x = refuses _ _ _ _ _ _ (c .before .before .before .admit .ensures) _ (c .before .refusal .given .1) in
-    (x, demand _ _ _ _ _ _ _ _ x)
+    (x, demand _ _ _)
 
 same-length : tie.Need-same-length
 same-length c = search needs
@@ -32,7 +32,7 @@ returns-2 : tie.Need-returns-2
 returns-2 c =
     let f = c .before .before .before .before in
     let x = fits _ _ _ _ _ _ (f .before .before .before .before .before .before .admit .ensures) _ (f .before .before .before .before .h .given .1) _ _ _ (f .fit .ensures) in
-    (x, demand _ _ _ _ _ _ _ _ x)
+    (x, demand _ _ _)
 
 pub translate-spec : {M : Type 1} → statement M
 translate-spec =
