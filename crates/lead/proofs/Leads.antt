@@ -98,11 +98,6 @@ lead-admits t ds h k r is h₁ e a =
     let u = passed (eqb (firstOdd ds) (length ds)) _ _ h₁ (s .1) in
     rw (p .0, q .0, s .0, u .0) refl
 
-pub in-range : (t : Target) (ds : List ℕ) (h : Header) (k : Counts) (r : Admitted) → r ≡ admittedLead t ds h k → (h₁ : Header) → r ≡ Admitted.Translates h₁
-    → InRange t ds k
-unfolding admittedLead
-in-range t ds h k r is h₁ e = lead-range t ds h done k h₁ (sym is ∙ e)
-
 -- ---- what `admit` answers
 
 -- a test that two admissions have in common hides no difference of their trees
