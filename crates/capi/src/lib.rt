@@ -7,7 +7,7 @@ use replies::fill_run;
 use replies::fill_translate;
 ghost use mathlib.Core.List.{[], _∷_};
 ghost use Rattle.lead.specs.Lead.{targetOf};
-ghost use Rattle.meaning.specs.Faithful.{Demand2};
+ghost use Rattle.translation_meaning.specs.Faithful.{Demand2};
 ghost use Rattle.interface.specs.Left.{Leaves, checkLeaves, runLeaves, translateLeaves, proveLeaves, judgeLeaves, Finds, alikeLeaves};
 
 // Checks a routine.

@@ -1,8 +1,8 @@
 // Whether two reports on one routine are alike.
-use faults::Counts;
-use header::Header;
 use lead::Target;
 use routine::Checked;
+use routine_faults::Counts;
+use routine_header::Header;
 use witness::Opened;
 use witness::Refusal;
 use witness::leads::open;

@@ -3,13 +3,13 @@ use Prim.Native.Nat.{ℕ}
 use mathlib.Core.List.{List, [], _∷_}
 use mathlib.Core.Bool.{Bool, cond}
 use Rattle.bitvec.specs.declared.Whole.{Whole}
-use Rattle.header.specs.Header.{firstCommand}
-use Rattle.header.specs.declared.Header.{Header}
-use Rattle.faults.specs.Step.{accesses}
-use Rattle.faults.specs.declared.Counts.{Counts}
-use Rattle.machine.specs.Side.{sideNumber}
-use Rattle.machine.specs.declared.Side.{Side}
-use Rattle.meaning.specs.declared.Size.{Size}
+use Rattle.routine_header.specs.Header.{firstCommand}
+use Rattle.routine_header.specs.declared.Header.{Header}
+use Rattle.routine_faults.specs.Step.{accesses}
+use Rattle.routine_faults.specs.declared.Counts.{Counts}
+use Rattle.run_machine.specs.Side.{sideNumber}
+use Rattle.run_machine.specs.declared.Side.{Side}
+use Rattle.translation_meaning.specs.declared.Size.{Size}
 
 -- 1 if a whole number is negative
 abbrev pub isNegative : Whole → ℕ

@@ -1,17 +1,17 @@
 // What is written into the lent `answer`, which has at least 8 entries: numbers as its entries. Those that are not named are left alone.
 use bitvec::Whole;
-use faults::Counts;
-use faults::steps::accesses_of;
-use header::Header;
-use header::first_command;
-use machine::Side;
-use meaning::Size;
+use routine_faults::Counts;
+use routine_faults::steps::accesses_of;
+use routine_header::Header;
+use routine_header::first_command;
+use run_machine::Side;
+use translation_meaning::Size;
 ghost use mathlib.Core.Path.{_≡_};
 ghost use Prim.Native.Nat.{_≤_};
 ghost use mathlib.Core.List.{[], _∷_};
 ghost use lib.ListN.{length, set};
 ghost use lib.Seq.{sets};
-ghost use Rattle.machine.specs.Side.{sideNumber};
+ghost use Rattle.run_machine.specs.Side.{sideNumber};
 ghost use Rattle.entries.specs.Entry.{isNegative, magnitude, answerNumber, countsOf, stoppedOf, sizesOf, judgedOf};
 
 fn wide8(x: u8) -> u64

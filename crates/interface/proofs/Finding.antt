@@ -6,7 +6,7 @@ use Prim.Native.Nat.{ℕ, _≤_}
 use native.Mathlib.Omega.{arith}
 use lib.ListN.{length}
 use lib.Dec.{ltb}
-use Rattle.faults.specs.declared.Fault.{Fault}
+use Rattle.routine_faults.specs.declared.Fault.{Fault}
 use Rattle.refusals.specs.Routine as routine
 use Rattle.routine.specs.declared.Refusal as unread
 use Rattle.refusals.specs.Lead as lead

@@ -6,18 +6,18 @@ use Prim.Native.Nat.{ℕ, _+_}
 use native.Mathlib.Omega.{arith}
 use lib.Dec.{leb}
 use Rattle.bitvec.specs.declared.Whole.{Whole}
-use Rattle.header.specs.Header.{arraySize}
-use Rattle.header.specs.declared.Header.{Header}
-use Rattle.faults.specs.declared.Counts.{Counts}
+use Rattle.routine_header.specs.Header.{arraySize}
+use Rattle.routine_header.specs.declared.Header.{Header}
+use Rattle.routine_faults.specs.declared.Counts.{Counts}
 use Rattle.routine.specs.Routine.{Arm}
 use Rattle.routine.specs.Decode.{Decoded, rejected, routine, decode}
-use Rattle.machine.specs.Side.{isOn}
-use Rattle.machine.specs.State.{lies}
-use Rattle.machine.proofs.Sides.{on-side}
+use Rattle.run_machine.specs.Side.{isOn}
+use Rattle.run_machine.specs.State.{lies}
+use Rattle.run_machine.proofs.Sides.{on-side}
 use Rattle.run.specs.Answer.{ranBy}
-use Rattle.inputs.specs.Inputs.{listed}
+use Rattle.run_inputs.specs.Inputs.{listed}
 use Rattle.run.specs.Run.{runOf}
-use Rattle.inputs.specs.declared.Listed.{Listed}
+use Rattle.run_inputs.specs.declared.Listed.{Listed}
 use Rattle.run.proofs.Outside.{Ends, ends-at, ends}
 use Rattle.run.specs.Goes.{goesWay, Comes}
 use Rattle.run.proofs.Arriving.{arrival}
@@ -28,16 +28,16 @@ use Rattle.netlist.proofs.Literals.{lit-opp}
 use Rattle.netlist.proofs.Truth.{sat-append}
 use Rattle.lead.specs.declared.Target.{Target}
 use Rattle.lead.proofs.Leads.{admission-by}
-use Rattle.meaning.specs.Faithful.{Faithful, Demand2}
-use Rattle.meaning.specs.Translation.{whole, lastClauses, clausesOfAll, sizeOf}
-use Rattle.meaning.proofs.Demand as translation
+use Rattle.translation_meaning.specs.Faithful.{Faithful, Demand2}
+use Rattle.translation_meaning.specs.Translation.{whole, lastClauses, clausesOfAll, sizeOf}
+use Rattle.translation_meaning.proofs.Demand as translation
 use Rattle.progress.specs.Check.{checkProof}
 use Rattle.progress.specs.State.{Limits}
 use Rattle.proof.specs.Sound.{Refutes}
 use Rattle.proof.proofs.Soundness.{sound}
 use Rattle.step.specs.declared.Verdict.{Verdict}
-use Rattle.wiring.specs.Command.{Stretch}
-use Rattle.wires.specs.declared.Claim.{Claim}
+use Rattle.translation_command.specs.Command.{Stretch}
+use Rattle.translation_state.specs.declared.Claim.{Claim}
 use Rattle.witness.specs.Lead.{decisionsIn, witnessIn, proofAt}
 use Rattle.witness.specs.Witness.{witnessOf}
 use Rattle.witness.specs.declared.Witness.{Witness}

@@ -4,18 +4,18 @@ use mathlib.Core.Path.{_≡_}
 use mathlib.Core.List.{List}
 use mathlib.Core.Bool.{true}
 use Rattle.bitvec.specs.declared.Whole.{Whole}
-use Rattle.header.specs.Header.{arraySize}
-use Rattle.header.specs.declared.Header.{Header}
-use Rattle.faults.specs.declared.Counts.{Counts}
+use Rattle.routine_header.specs.Header.{arraySize}
+use Rattle.routine_header.specs.declared.Header.{Header}
+use Rattle.routine_faults.specs.declared.Counts.{Counts}
 use Rattle.routine.specs.Routine.{Arm}
 use Rattle.routine.specs.Decode.{routine, decode}
-use Rattle.machine.specs.Side.{sideNumber, isOn}
-use Rattle.machine.specs.State.{lies}
-use Rattle.machine.specs.declared.Side.{Side}
+use Rattle.run_machine.specs.Side.{sideNumber, isOn}
+use Rattle.run_machine.specs.State.{lies}
+use Rattle.run_machine.specs.declared.Side.{Side}
 use Rattle.run.specs.Answer.{ranBy}
-use Rattle.inputs.specs.Inputs.{listed}
+use Rattle.run_inputs.specs.Inputs.{listed}
 use Rattle.run.specs.Run.{Stretch, runOf}
-use Rattle.inputs.specs.declared.Listed.{Listed}
+use Rattle.run_inputs.specs.declared.Listed.{Listed}
 use Rattle.run.specs.declared.Ran.{Ran}
 use Rattle.run.specs.Goes.{goesWay, Comes}
 use Rattle.witness.specs.Lead.{decisionsIn, witnessIn}

@@ -2,9 +2,9 @@
 use Prim.Native.Nat.{ℕ}
 use mathlib.Core.List.{List}
 use Rattle.bitvec.specs.declared.Whole.{Whole}
-use Rattle.header.specs.Header.{arraySize}
-use Rattle.header.specs.declared.Header.{Header}
-use Rattle.faults.specs.declared.Counts.{Counts}
+use Rattle.routine_header.specs.Header.{arraySize}
+use Rattle.routine_header.specs.declared.Header.{Header}
+use Rattle.routine_faults.specs.declared.Counts.{Counts}
 use Rattle.routine.specs.Routine.{Arm}
 use Rattle.routine.specs.Decode.{Decoded, rejected, routine, decode}
 use Rattle.lead.specs.declared.Refusal as lead
@@ -13,7 +13,7 @@ use Rattle.witness.specs.Lead.{decisionsIn, proofAt}
 use Rattle.witness.specs.Witness.{witnessOf}
 use Rattle.witness.specs.declared.Refusal as witness
 use Rattle.witness.specs.declared.Witness.{Witness}
-use Rattle.meaning.specs.Translation.{whole}
+use Rattle.translation_meaning.specs.Translation.{whole}
 use Rattle.proving.specs.Proving.{Room, provedBy}
 use Rattle.proving.specs.declared.Refusal.{Refusal}
 use Rattle.proving.specs.declared.Proved.{Proved}

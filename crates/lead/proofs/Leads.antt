@@ -9,11 +9,11 @@ use lib.Dec.{ltb, leb, eqb, lit<}
 use borrow.Author.Tests.{ltb-true, ltb-false, leb-true, eqb-true}
 use Rattle.slices.specs.Bytes.{entry}
 use Rattle.slices.specs.Guard.{unless}
-use Rattle.header.specs.Header.{firstBad}
-use Rattle.header.specs.declared.Header.{Header}
-use Rattle.faults.specs.Step.{accesses}
-use Rattle.faults.specs.declared.Counts.{Counts}
-use Rattle.faults.proofs.Fine.{all-ok}
+use Rattle.routine_header.specs.Header.{firstBad}
+use Rattle.routine_header.specs.declared.Header.{Header}
+use Rattle.routine_faults.specs.Step.{accesses}
+use Rattle.routine_faults.specs.declared.Counts.{Counts}
+use Rattle.routine_faults.proofs.Fine.{all-ok}
 use Rattle.routine.specs.Routine.{Arm, done}
 use Rattle.routine.specs.Decode.{Decoded, rejected, routine, decode, checked, IsRoutine}
 use Rattle.routine.specs.declared.Checked.{Checked}

@@ -5,10 +5,10 @@ use lib.ListN.{length}
 use lib.Dec.{ltb, leb, eqb}
 use Rattle.slices.specs.Bytes.{entry}
 use Rattle.slices.specs.Guard.{unless}
-use Rattle.header.specs.Header.{firstBad}
-use Rattle.header.specs.declared.Header.{Header}
-use Rattle.faults.specs.Step.{accesses}
-use Rattle.faults.specs.declared.Counts.{Counts}
+use Rattle.routine_header.specs.Header.{firstBad}
+use Rattle.routine_header.specs.declared.Header.{Header}
+use Rattle.routine_faults.specs.Step.{accesses}
+use Rattle.routine_faults.specs.declared.Counts.{Counts}
 use Rattle.routine.specs.Routine.{Arm, done}
 use Rattle.routine.specs.Decode.{Decoded, rejected, routine, decode}
 use Rattle.lead.specs.declared.Target.{Target}

@@ -1,9 +1,9 @@
 // The lead of a claim: an access, a side and a decision for each if. Whether a routine has such a claim: 1 to 8, then 11 and 12.
 
-use faults::Counts;
-use faults::steps::accesses_of;
-use header::Header;
 use routine::Checked;
+use routine_faults::Counts;
+use routine_faults::steps::accesses_of;
+use routine_header::Header;
 use slices::wide;
 ghost use mathlib.Core.Path.{_≡_};
 ghost use Rattle.lead.specs.Lead.{firstOdd, admittedLead};

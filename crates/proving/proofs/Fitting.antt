@@ -10,20 +10,20 @@ use lib.Seq.{sets, length-sets, length-take-le}
 use lib.Dec.{leb}
 use borrow.Author.Tests.{le-leb, lt-leb, leb-true}
 use Rattle.slices.specs.Lent.{usable}
-use Rattle.header.specs.declared.Header.{Header}
-use Rattle.faults.specs.declared.Counts.{Counts}
+use Rattle.routine_header.specs.declared.Header.{Header}
+use Rattle.routine_faults.specs.declared.Counts.{Counts}
 use Rattle.routine.specs.Routine.{Arm}
 use Rattle.routine.specs.Decode.{routine, decode}
 use Rattle.routine.specs.Inner.Known.{Counted}
 use Rattle.cnf.specs.Clause.{Clause, flatten, offsets}
-use Rattle.wiring.specs.Command.{Stretch}
+use Rattle.translation_command.specs.Command.{Stretch}
 use Rattle.lead.specs.declared.Target.{Target}
 use Rattle.translation.specs.Answer as answer
 use Rattle.translation.specs.Inner.Fitted.{Fitted}
-use Rattle.meaning.specs.Translation.{whole, clausesOfAll, sizeOf}
+use Rattle.translation_meaning.specs.Translation.{whole, clausesOfAll, sizeOf}
 use Rattle.translation.specs.declared.Buffer as translation
 use Rattle.translation.specs.declared.Refusal as translating
-use Rattle.meaning.specs.declared.Size.{Size}
+use Rattle.translation_meaning.specs.declared.Size.{Size}
 use Rattle.translation.specs.declared.Translated.{Translated}
 use Rattle.propagation.specs.Stored.{clausesOf}
 use Rattle.proof.specs.Answer as proof

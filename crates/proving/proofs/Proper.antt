@@ -4,10 +4,10 @@ use mathlib.Core.List.{List, [], _∷_, _++_}
 use Prim.Native.Nat.{ℕ, zero, suc, _+_, _/_, _<_, _≤_}
 use native.Mathlib.Omega.{arith}
 use lib.ListN.{length, getD}
-use Rattle.header.specs.Header.{firstCommand}
-use Rattle.header.specs.declared.Header.{Header}
-use Rattle.faults.specs.declared.Counts.{Counts}
-use Rattle.faults.proofs.Fine.{fine}
+use Rattle.routine_header.specs.Header.{firstCommand}
+use Rattle.routine_header.specs.declared.Header.{Header}
+use Rattle.routine_faults.specs.declared.Counts.{Counts}
+use Rattle.routine_faults.proofs.Fine.{fine}
 use Rattle.routine.specs.Routine.{Arm}
 use Rattle.routine.specs.Decode.{routine, decode, noCounts}
 use Rattle.routine.proofs.Accepted.{decoded}
@@ -15,10 +15,10 @@ use Rattle.cnf.specs.Clause.{Clause}
 use Rattle.netlist.specs.Node.{clausesOf}
 use Rattle.netlist.proofs.Formed.{before-opp}
 use Rattle.netlist.proofs.Within.{Within, AllWithin, within-append, nodes-within}
-use Rattle.wires.specs.declared.Claim.{Claim}
+use Rattle.translation_state.specs.declared.Claim.{Claim}
 use Rattle.lead.specs.declared.Target.{Target}
-use Rattle.meaning.specs.Translation.{whole, lastClauses, clausesOfAll}
-use Rattle.meaning.proofs.Formed.{whole-formed, whole-named}
+use Rattle.translation_meaning.specs.Translation.{whole, lastClauses, clausesOfAll}
+use Rattle.translation_meaning.proofs.Formed.{whole-formed, whole-named}
 use Rattle.proof.proofs.Laying.{Proper}
 
 -- ---- by number

@@ -3,10 +3,10 @@ use Prim.Native.Nat.{ℕ, _+_}
 use mathlib.Core.List.{List}
 use lib.Dec.{leb}
 use Rattle.slices.specs.Guard.{unless}
-use Rattle.header.specs.declared.Header.{Header}
-use Rattle.faults.specs.declared.Counts.{Counts}
-use Rattle.wiring.specs.Command.{Stretch}
-use Rattle.meaning.specs.Translation.{clausesOfAll, sizeOf}
+use Rattle.routine_header.specs.declared.Header.{Header}
+use Rattle.routine_faults.specs.declared.Counts.{Counts}
+use Rattle.translation_command.specs.Command.{Stretch}
+use Rattle.translation_meaning.specs.Translation.{clausesOfAll, sizeOf}
 use Rattle.progress.specs.State.{Limits}
 use Rattle.progress.specs.Check.{checkProof}
 use Rattle.step.specs.declared.Verdict.{Verdict}

@@ -1,14 +1,14 @@
 // The claim of a report, proved: 16, then the proof.
 
-use faults::Counts;
-use header::Header;
 use lead::Target;
-use meaning::Size;
 use proof::check_proof;
+use routine_faults::Counts;
+use routine_header::Header;
 use slices::zero_bytes;
 use step::Verdict;
 use translation::Translated;
 use translation::wholes::fit;
+use translation_meaning::Size;
 use witness::leads::proof_at;
 ghost use mathlib.Core.Path.{_≡_};
 ghost use Prim.Native.Nat.{_≤_};

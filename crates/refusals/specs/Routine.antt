@@ -2,7 +2,7 @@
 use Prim.Native.Nat.{ℕ}
 use Rattle.refusals.specs.declared.Row.{Row}
 use Rattle.refusals.specs.Row.{row}
-use Rattle.faults.specs.declared.Fault.{Fault}
+use Rattle.routine_faults.specs.declared.Fault.{Fault}
 use Rattle.routine.specs.declared.Refusal.{Refusal}
 
 -- rows 3 to 7

@@ -1,7 +1,7 @@
 // Refusals of a routine.
 use crate::Row;
-use faults::Fault;
 use routine::Refusal;
+use routine_faults::Fault;
 ghost use mathlib.Core.Path.{_≡_};
 ghost use Rattle.refusals.specs.Routine.{numberOfFault, rowOf};
 

@@ -1,14 +1,14 @@
 // What is said of a report: the routine, the witness, then the proof.
 use bitvec::Whole;
-use faults::Counts;
-use header::Header;
-use header::size_of_array;
 use judgement::Judged;
 use lead::Target;
 use proving::Proved;
 use proving::Refusal;
 use proving::prove;
 use routine::Checked;
+use routine_faults::Counts;
+use routine_header::Header;
+use routine_header::size_of_array;
 use witness::Witness;
 use witness::run_witness;
 ghost use mathlib.Core.Path.{_≡_};

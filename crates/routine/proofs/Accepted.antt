@@ -8,13 +8,13 @@ use lib.ListN.{length}
 use lib.Dec.{leb, eqb}
 use borrow.Author.Tests.{eqb-true, leb-true}
 use Rattle.slices.specs.Guard.{unless}
-use Rattle.header.specs.Header.{headerOf, firstCommand}
+use Rattle.routine_header.specs.Header.{headerOf, firstCommand}
 use Rattle.routine.specs.Routine.{Arm, Parsed, refused, parsed, arm}
 use Rattle.routine.specs.Decode.{Decoded, rejected, routine, noCounts, decodeArm, decodeHead, decode, commandsOf, commandsIn, answer, checked}
 use Rattle.routine.specs.Inner.Stands.{Stands}
-use Rattle.header.specs.declared.Header.{Header}
-use Rattle.header.specs.declared.Head.{Head}
-use Rattle.faults.specs.declared.Counts.{Counts}
+use Rattle.routine_header.specs.declared.Header.{Header}
+use Rattle.routine_header.specs.declared.Head.{Head}
+use Rattle.routine_faults.specs.declared.Counts.{Counts}
 use Rattle.routine.specs.declared.Refusal.{Refusal}
 use Rattle.routine.specs.declared.Checked.{Checked}
 

@@ -6,13 +6,13 @@ use Prim.Native.Nat.{ℕ}
 use lib.ListN.{length}
 use lib.Dec.{eqb}
 use Rattle.slices.specs.Guard.{unless}
-use Rattle.header.specs.Header.{firstCommand}
+use Rattle.routine_header.specs.Header.{firstCommand}
 use Rattle.routine.specs.Routine.{Arm, Parsed, refused, parsed, arm}
 use Rattle.routine.specs.Inner.Walk.{walked, walkArm}
 use Rattle.routine.specs.Decode.{Decoded, rejected, routine, noCounts, decodeArm, answer}
 use Rattle.routine.specs.Inner.Known.{checkedCommands}
-use Rattle.header.specs.declared.Header.{Header}
-use Rattle.faults.specs.declared.Counts.{Counts}
+use Rattle.routine_header.specs.declared.Header.{Header}
+use Rattle.routine_faults.specs.declared.Counts.{Counts}
 use Rattle.routine.specs.declared.Walked.{Walked}
 use Rattle.routine.specs.declared.Refusal.{Refusal}
 use Rattle.routine.specs.declared.Checked.{Checked}

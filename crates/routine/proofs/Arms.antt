@@ -8,21 +8,21 @@ use lib.ListN.{length}
 use lib.Dec.{leb, ltb, eqb}
 use borrow.Author.Tests.{leb-true, ltb-true, not-true}
 use Rattle.slices.specs.Guard.{unless}
-use Rattle.command.specs.Command.{sizeOf, sizeOfSimple, commandOf, commandAt}
-use Rattle.header.specs.Header.{width}
-use Rattle.faults.specs.Step.{inRange, widthsFit, tooMany, after, simpleStep, oneIf, conditionInRange, ifStep, stepOf}
+use Rattle.routine_command.specs.Command.{sizeOf, sizeOfSimple, commandOf, commandAt}
+use Rattle.routine_header.specs.Header.{width}
+use Rattle.routine_faults.specs.Step.{inRange, widthsFit, tooMany, after, simpleStep, oneIf, conditionInRange, ifStep, stepOf}
 use Rattle.routine.specs.Routine.{Parsed, refused, parsed, plain, fork, andThen, Reader, ifArms, armStep, stepAt, armBy, arm}
 use Rattle.routine.specs.Inner.Walk.{walked, walkArm, walkIf}
-use Rattle.faults.specs.Inner.Sound.{Sound, SoundIf}
-use Rattle.header.specs.declared.Header.{Header}
-use Rattle.command.specs.declared.Condition.{Condition}
-use Rattle.faults.specs.declared.Counts.{Counts}
-use Rattle.command.specs.declared.Simple.{Simple}
-use Rattle.command.specs.declared.Command.{Command}
-use Rattle.faults.specs.declared.Fault.{Fault}
-use Rattle.faults.specs.declared.Step.{Step}
+use Rattle.routine_faults.specs.Inner.Sound.{Sound, SoundIf}
+use Rattle.routine_header.specs.declared.Header.{Header}
+use Rattle.routine_command.specs.declared.Condition.{Condition}
+use Rattle.routine_faults.specs.declared.Counts.{Counts}
+use Rattle.routine_command.specs.declared.Simple.{Simple}
+use Rattle.routine_command.specs.declared.Command.{Command}
+use Rattle.routine_faults.specs.declared.Fault.{Fault}
+use Rattle.routine_faults.specs.declared.Step.{Step}
 use Rattle.routine.specs.declared.Walked.{Walked}
-use Rattle.command.proofs.Sizes.{size-pos, simple-size}
+use Rattle.routine_command.proofs.Sizes.{size-pos, simple-size}
 
 -- ---- a command that stands at an offset is whole
 

@@ -2,12 +2,12 @@
 use mathlib.Core.Path.{_≡_, refl}
 use mathlib.Core.List.{[], _∷_}
 use Rattle.slices.specs.Bytes.{half, word}
-use Rattle.header.specs.Header.{within, sizeOk, firstBad, headerOf}
-use Rattle.command.specs.Command.{commandBy, commandAt}
-use Rattle.faults.specs.Step.{inRange, widthsFit, tooMany, simpleStep, ifStep, stepOf}
+use Rattle.routine_header.specs.Header.{within, sizeOk, firstBad, headerOf}
+use Rattle.routine_command.specs.Command.{commandBy, commandAt}
+use Rattle.routine_faults.specs.Step.{inRange, widthsFit, tooMany, simpleStep, ifStep, stepOf}
 use Rattle.routine.specs.Routine.{armBy}
 use Rattle.routine.specs.Decode.{decode, checked}
-use Rattle.faults.specs.declared.Fault.{Fault}
+use Rattle.routine_faults.specs.declared.Fault.{Fault}
 use Rattle.routine.specs.declared.Refusal.{Refusal}
 use Rattle.routine.specs.declared.Checked.{Checked}
 

@@ -5,13 +5,13 @@ use mathlib.Core.Bool.{false}
 use Prim.Native.Nat.{ℕ, _≤_}
 use native.Mathlib.Omega.{arith}
 use borrow.Author.Tests.{leb-false}
-use Rattle.faults.specs.Step.{accesses, tooMany, after}
+use Rattle.routine_faults.specs.Step.{accesses, tooMany, after}
 use Rattle.routine.specs.Routine.{Arm}
 use Rattle.routine.specs.Decode.{routine, decode}
 use Rattle.routine.specs.Inner.Stands.{Stands}
-use Rattle.header.specs.declared.Header.{Header}
-use Rattle.faults.specs.declared.Counts.{Counts}
-use Rattle.command.specs.declared.Simple.{Simple}
+use Rattle.routine_header.specs.declared.Header.{Header}
+use Rattle.routine_faults.specs.declared.Counts.{Counts}
+use Rattle.routine_command.specs.declared.Simple.{Simple}
 use Rattle.routine.proofs.Views.{induction}
 use Rattle.routine.proofs.Accepted.{decoded}
 

@@ -5,21 +5,21 @@ use mathlib.Core.Bool.{false}
 use Prim.Native.Nat.{ℕ, _+_, _≤_, _<_}
 use native.Mathlib.Omega.{arith}
 use lib.ListN.{length}
-use Rattle.header.specs.Header.{firstCommand}
-use Rattle.command.specs.Command.{sizeOfSimple, sizeOf, commandAt}
-use Rattle.faults.specs.Step.{noCounts, tooMany, after, oneIf}
+use Rattle.routine_header.specs.Header.{firstCommand}
+use Rattle.routine_command.specs.Command.{sizeOfSimple, sizeOf, commandAt}
+use Rattle.routine_faults.specs.Step.{noCounts, tooMany, after, oneIf}
 use Rattle.routine.specs.Routine.{Arm}
 use Rattle.routine.specs.Decode.{routine, decode, IsRoutine}
 use Rattle.routine.specs.Access.{accessHere, orElse, accessAt}
 use Rattle.routine.specs.Inner.Stands.{Stands}
 use Rattle.routine.specs.Inner.Seeks.{Seeks}
-use Rattle.header.specs.declared.Header.{Header}
-use Rattle.command.specs.declared.Condition.{Condition}
-use Rattle.faults.specs.declared.Counts.{Counts}
-use Rattle.command.specs.declared.Simple.{Simple}
-use Rattle.command.specs.declared.Command.{Command}
+use Rattle.routine_header.specs.declared.Header.{Header}
+use Rattle.routine_command.specs.declared.Condition.{Condition}
+use Rattle.routine_faults.specs.declared.Counts.{Counts}
+use Rattle.routine_command.specs.declared.Simple.{Simple}
+use Rattle.routine_command.specs.declared.Command.{Command}
 use Rattle.routine.specs.declared.Access.{Access}
-use Rattle.command.proofs.Sizes.{simple-size, size-pos}
+use Rattle.routine_command.proofs.Sizes.{simple-size, size-pos}
 use Rattle.routine.proofs.Views.{induction}
 use Rattle.routine.proofs.Accepted.{decoded}
 

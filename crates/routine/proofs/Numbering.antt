@@ -7,17 +7,17 @@ use Prim.Native.Nat.{ℕ, _+_, _≤_, _<_}
 use native.Mathlib.Omega.{arith}
 use lib.Dec.{ltb, eqb}
 use borrow.Author.Tests.{ltb-true, ltb-false, eqb-true, eqb-false}
-use Rattle.command.specs.Command.{touches}
-use Rattle.faults.specs.Step.{noCounts, accesses, after, afterBy, oneIf}
+use Rattle.routine_command.specs.Command.{touches}
+use Rattle.routine_faults.specs.Step.{noCounts, accesses, after, afterBy, oneIf}
 use Rattle.routine.specs.Routine.{Arm, done, plain, fork}
 use Rattle.routine.specs.Decode.{routine, decode}
 use Rattle.routine.specs.Access.{accessBy, accessHere, orElse, accessAt}
 use Rattle.routine.specs.Inner.Stands.{Stands}
-use Rattle.header.specs.declared.Header.{Header}
-use Rattle.command.specs.declared.Condition.{Condition}
-use Rattle.command.specs.declared.Simple.{Simple}
-use Rattle.command.specs.declared.Touch.{Touch}
-use Rattle.faults.specs.declared.Counts.{Counts}
+use Rattle.routine_header.specs.declared.Header.{Header}
+use Rattle.routine_command.specs.declared.Condition.{Condition}
+use Rattle.routine_command.specs.declared.Simple.{Simple}
+use Rattle.routine_command.specs.declared.Touch.{Touch}
+use Rattle.routine_faults.specs.declared.Counts.{Counts}
 use Rattle.routine.specs.declared.Access.{Access}
 use Rattle.routine.proofs.Views.{induction}
 use Rattle.routine.proofs.Accepted.{decoded}

@@ -7,9 +7,9 @@ use Rattle.routine.specs.Routine.{Arm}
 use Rattle.routine.specs.Inner.Walk.{walked, walkArm}
 use Rattle.routine.specs.Inner.Stands.{Stands, SomeArm}
 use Rattle.routine.specs.Inner.Passes.{Passes}
-use Rattle.header.specs.declared.Header.{Header}
-use Rattle.faults.specs.declared.Counts.{Counts}
-use Rattle.faults.specs.declared.Fault.{Fault}
+use Rattle.routine_header.specs.declared.Header.{Header}
+use Rattle.routine_faults.specs.declared.Counts.{Counts}
+use Rattle.routine_faults.specs.declared.Fault.{Fault}
 use Rattle.routine.specs.declared.Walked.{Walked}
 
 module _ (bs : List ℕ) (h : Header) (depth close at : ℕ) (k : Counts) (w : Walked) (is : w ≡ walkArm bs h depth close at k) where

@@ -5,14 +5,14 @@ use mathlib.Core.Bool.{false}
 use Prim.Native.Nat.{ℕ, _+_, _*_, _-_, _≤_, _<_}
 use native.Mathlib.Omega.{arith}
 use lib.ListN.{length}
-use Rattle.header.specs.declared.Header.{Header}
-use Rattle.command.specs.Command.{sizeOfSimple, commandAt}
-use Rattle.faults.specs.Step.{tooMany, oneIf}
-use Rattle.faults.specs.Inner.Sound.{Sound, SoundIf}
-use Rattle.command.specs.declared.Condition.{Condition}
-use Rattle.faults.specs.declared.Counts.{Counts}
-use Rattle.command.specs.declared.Simple.{Simple}
-use Rattle.command.specs.declared.Command.{Command}
+use Rattle.routine_header.specs.declared.Header.{Header}
+use Rattle.routine_command.specs.Command.{sizeOfSimple, commandAt}
+use Rattle.routine_faults.specs.Step.{tooMany, oneIf}
+use Rattle.routine_faults.specs.Inner.Sound.{Sound, SoundIf}
+use Rattle.routine_command.specs.declared.Condition.{Condition}
+use Rattle.routine_faults.specs.declared.Counts.{Counts}
+use Rattle.routine_command.specs.declared.Simple.{Simple}
+use Rattle.routine_command.specs.declared.Command.{Command}
 use Rattle.routine.specs.Routine.{Arm}
 use Rattle.routine.specs.Inner.Stands.{SomeArm, SomeIf}
 use Rattle.routine.specs.Inner.Passes.{Passes}

@@ -6,17 +6,17 @@ use mathlib.Core.Bool.{false}
 use Prim.Native.Nat.{ℕ, _+_, _≤_, _<_}
 use native.Mathlib.Omega.{arith}
 use lib.ListN.{length}
-use Rattle.command.specs.Command.{sizeOfSimple, commandAt}
-use Rattle.faults.specs.Step.{tooMany, after, oneIf}
+use Rattle.routine_command.specs.Command.{sizeOfSimple, commandAt}
+use Rattle.routine_faults.specs.Step.{tooMany, after, oneIf}
 use Rattle.routine.specs.Routine.{Arm, Parsed, refused, parsed, done, plain, fork, andThen, armStep, stepAt, arm}
 use Rattle.routine.specs.Inner.Stands.{Stands}
-use Rattle.faults.specs.Inner.Sound.{Sound, SoundIf}
-use Rattle.header.specs.declared.Header.{Header}
-use Rattle.faults.specs.declared.Counts.{Counts}
-use Rattle.faults.specs.declared.Step.{Step}
-use Rattle.command.specs.declared.Simple.{Simple}
-use Rattle.command.specs.declared.Condition.{Condition}
-use Rattle.command.specs.declared.Command.{Command}
+use Rattle.routine_faults.specs.Inner.Sound.{Sound, SoundIf}
+use Rattle.routine_header.specs.declared.Header.{Header}
+use Rattle.routine_faults.specs.declared.Counts.{Counts}
+use Rattle.routine_faults.specs.declared.Step.{Step}
+use Rattle.routine_command.specs.declared.Simple.{Simple}
+use Rattle.routine_command.specs.declared.Condition.{Condition}
+use Rattle.routine_command.specs.declared.Command.{Command}
 use Rattle.routine.proofs.Arms.{Of, PlainOf, ForkOf, of-step, Fits, fits, Ahead, ahead, unroll}
 
 -- what is known of a command that stands at `at`, and of the rest of its arm

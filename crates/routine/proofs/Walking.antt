@@ -3,15 +3,15 @@
 use mathlib.Core.Path.{_≡_, refl, sym, _∙_}
 use mathlib.Core.List.{List}
 use Prim.Native.Nat.{ℕ, _+_}
-use Rattle.command.specs.Command.{sizeOfSimple, commandAt}
-use Rattle.faults.specs.Step.{after, oneIf}
+use Rattle.routine_command.specs.Command.{sizeOfSimple, commandAt}
+use Rattle.routine_faults.specs.Step.{after, oneIf}
 use Rattle.routine.specs.Routine.{Arm, done, plain, fork}
 use Rattle.routine.specs.Inner.Stands.{Stands}
-use Rattle.header.specs.declared.Header.{Header}
-use Rattle.command.specs.declared.Condition.{Condition}
-use Rattle.faults.specs.declared.Counts.{Counts}
-use Rattle.command.specs.declared.Simple.{Simple}
-use Rattle.command.specs.declared.Command.{Command}
+use Rattle.routine_header.specs.declared.Header.{Header}
+use Rattle.routine_command.specs.declared.Condition.{Condition}
+use Rattle.routine_faults.specs.declared.Counts.{Counts}
+use Rattle.routine_command.specs.declared.Simple.{Simple}
+use Rattle.routine_command.specs.declared.Command.{Command}
 use Rattle.routine.proofs.Views.{by-close, by-simple, by-if}
 
 -- what is left of the arm a

@@ -2,12 +2,12 @@
 use Prim.Native.Nat.{ℕ}
 use mathlib.Core.Bool.{cond}
 use lib.Dec.{eqb}
-use Rattle.command.specs.Command.{touches}
-use Rattle.faults.specs.Step.{accesses}
+use Rattle.routine_command.specs.Command.{touches}
+use Rattle.routine_faults.specs.Step.{accesses}
 use Rattle.routine.specs.Routine.{Arm, done, plain, fork}
-use Rattle.command.specs.declared.Simple.{Simple}
-use Rattle.command.specs.declared.Touch.{Touch}
-use Rattle.faults.specs.declared.Counts.{Counts}
+use Rattle.routine_command.specs.declared.Simple.{Simple}
+use Rattle.routine_command.specs.declared.Touch.{Touch}
+use Rattle.routine_faults.specs.declared.Counts.{Counts}
 use Rattle.routine.specs.declared.Access.{Access}
 
 -- the access that a command is after the counts k

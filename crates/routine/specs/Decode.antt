@@ -6,12 +6,12 @@ use mathlib.Core.Bool.{_&&_}
 use lib.ListN.{length}
 use lib.Dec.{leb, eqb}
 use Rattle.slices.specs.Guard.{unless}
-use Rattle.header.specs.Header.{headerOf, firstCommand}
-pub use Rattle.faults.specs.Step.{noCounts}
+use Rattle.routine_header.specs.Header.{headerOf, firstCommand}
+pub use Rattle.routine_faults.specs.Step.{noCounts}
 use Rattle.routine.specs.Routine.{Arm, done, Parsed, refused, parsed, arm}
-use Rattle.header.specs.declared.Header.{Header}
-use Rattle.header.specs.declared.Head.{Head}
-use Rattle.faults.specs.declared.Counts.{Counts}
+use Rattle.routine_header.specs.declared.Header.{Header}
+use Rattle.routine_header.specs.declared.Head.{Head}
+use Rattle.routine_faults.specs.declared.Counts.{Counts}
 use Rattle.routine.specs.declared.Refusal.{Refusal}
 use Rattle.routine.specs.declared.Checked.{Checked}
 

@@ -2,14 +2,14 @@
 use Prim.Native.Nat.{ℕ, zero, suc, _+_}
 use mathlib.Core.List.{List, [], _∷_, _++_}
 use lib.ListN.{length}
-use Rattle.command.specs.Command.{commandAt, sizeOfSimple}
-use Rattle.faults.specs.Step.{stepOf}
-use Rattle.header.specs.declared.Header.{Header}
-use Rattle.command.specs.declared.Condition.{Condition}
-use Rattle.faults.specs.declared.Counts.{Counts}
-use Rattle.command.specs.declared.Simple.{Simple}
-use Rattle.faults.specs.declared.Fault.{Fault}
-use Rattle.faults.specs.declared.Step.{Step}
+use Rattle.routine_command.specs.Command.{commandAt, sizeOfSimple}
+use Rattle.routine_faults.specs.Step.{stepOf}
+use Rattle.routine_header.specs.declared.Header.{Header}
+use Rattle.routine_command.specs.declared.Condition.{Condition}
+use Rattle.routine_faults.specs.declared.Counts.{Counts}
+use Rattle.routine_command.specs.declared.Simple.{Simple}
+use Rattle.routine_faults.specs.declared.Fault.{Fault}
+use Rattle.routine_faults.specs.declared.Step.{Step}
 
 -- An arm: its commands, each with its offset and the counts before it, by which it is numbered: an if by its `ifs`, a read by its `reads`, an
 -- access by its `accesses`. An if has two arms, and the arm that it stands in goes on after it.

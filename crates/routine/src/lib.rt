@@ -2,10 +2,10 @@
 pub mod seeking;
 pub mod walks;
 
-use faults::Counts;
-use faults::Fault;
-use header::Head;
-use header::Header;
+use routine_faults::Counts;
+use routine_faults::Fault;
+use routine_header::Head;
+use routine_header::Header;
 ghost use mathlib.Core.Path.{_≡_};
 ghost use Rattle.routine.specs.Decode.{checked};
 
@@ -55,7 +55,7 @@ pub fn check(routine: &[u8]) -> Checked
     if 4096 < routine.len() {
         return Checked::Refused(Refusal::Length);
     }
-    match header::read_header(routine) {
+    match routine_header::read_header(routine) {
         Head::Wrong(place) => Checked::Refused(Refusal::Header(place)),
         Head::Whole(h) => walks::check_commands(routine, h),
     }

@@ -9,24 +9,24 @@ use lib.Dec.{leb}
 use borrow.Author.Tests.{leb-true}
 use Rattle.routine.specs.Routine.{Arm, done}
 use Rattle.routine.specs.Decode.{Decoded, rejected, routine, decode, commandsIn, checked, IsRoutine}
-use Rattle.header.specs.declared.Header.{Header}
-use Rattle.faults.specs.declared.Counts.{Counts}
+use Rattle.routine_header.specs.declared.Header.{Header}
+use Rattle.routine_faults.specs.declared.Counts.{Counts}
 use Rattle.routine.specs.declared.Checked.{Checked}
 use Rattle.routine.specs.declared.Refusal as declared
 use Rattle.routine.specs.Inner.Known.{Counted}
 use Rattle.routine.proofs.Accepted.{accepted, refused-by, decoded, commands-are}
 use Rattle.routine.proofs.Counting.{few-ifs}
-use Rattle.faults.proofs.Fine.{fine}
-use Rattle.inputs.specs.Inputs.{listed}
-use Rattle.machine.specs.State.{over}
+use Rattle.routine_faults.proofs.Fine.{fine}
+use Rattle.run_inputs.specs.Inputs.{listed}
+use Rattle.run_machine.specs.State.{over}
 use Rattle.run.specs.Run.{runOf}
 use Rattle.run.specs.Answer.{Admission, refused, runs, byList, byRoutine, admission, ranBy, answer, Answers}
 use Rattle.run.specs.Inner.Admitted.{withoutTree, admittedRoom, admitted}
-use Rattle.inputs.specs.declared.Listed.{Listed}
+use Rattle.run_inputs.specs.declared.Listed.{Listed}
 use Rattle.run.specs.declared.Buffer.{Buffer}
 use Rattle.run.specs.declared.Refusal.{Refusal}
 use Rattle.run.specs.declared.Admitted.{Admitted}
-use Rattle.machine.specs.declared.State.{State}
+use Rattle.run_machine.specs.declared.State.{State}
 use Rattle.run.specs.declared.Ran.{Ran}
 
 -- ---- the routine

@@ -8,9 +8,9 @@ use native.Mathlib.Omega.{arith}
 use lib.Dec.{eqb}
 use borrow.Author.Tests.{eq-eqb, ne-eqb, eqb-true, lt-ltb}
 use Rattle.bitvec.specs.declared.Whole.{Whole}
-use Rattle.header.specs.declared.Header.{Header}
-use Rattle.faults.specs.Step.{accesses}
-use Rattle.faults.specs.declared.Counts.{Counts}
+use Rattle.routine_header.specs.declared.Header.{Header}
+use Rattle.routine_faults.specs.Step.{accesses}
+use Rattle.routine_faults.specs.declared.Counts.{Counts}
 use Rattle.routine.specs.Routine.{Arm}
 use Rattle.routine.specs.Decode.{routine, decode}
 use Rattle.run.specs.Run.{Event, took, came, runOf}

@@ -8,16 +8,16 @@ use Rattle.bitvec.specs.Word.{add, subtract, multiply, cut}
 use Rattle.bitvec.specs.Signed.{signed, less, encode, signExtend}
 use Rattle.bitvec.specs.Relation.{relates}
 use Rattle.bitvec.specs.declared.Whole.{Whole}
-use Rattle.header.specs.Header.{within, sizeOk, firstBad, headerOf}
-use Rattle.command.specs.Command.{commandBy, commandAt}
-use Rattle.faults.specs.Step.{inRange, widthsFit, tooMany, simpleStep, stepOf}
+use Rattle.routine_header.specs.Header.{within, sizeOk, firstBad, headerOf}
+use Rattle.routine_command.specs.Command.{commandBy, commandAt}
+use Rattle.routine_faults.specs.Step.{inRange, widthsFit, tooMany, simpleStep, stepOf}
 use Rattle.routine.specs.Routine.{textOf, armBy}
 use Rattle.routine.specs.Decode.{decode}
-use Rattle.inputs.specs.Inputs.{variablesFrom, readVariables, firstGreat, listed}
-use Rattle.machine.specs.State.{over, start, indexOf, lies, carry}
+use Rattle.run_inputs.specs.Inputs.{variablesFrom, readVariables, firstGreat, listed}
+use Rattle.run_machine.specs.State.{over, start, indexOf, lies, carry}
 use Rattle.run.specs.Run.{runArm, runOf}
 use Rattle.run.specs.Answer.{Answer, admission, answer}
-use Rattle.machine.specs.declared.Side.the-variants.{Below, Above}
+use Rattle.run_machine.specs.declared.Side.the-variants.{Below, Above}
 use Rattle.run.specs.declared.Ran.{Ran}
 
 -- one variable of 8 bits, a parameter; one array of 100; a write at that variable; the end

@@ -5,22 +5,22 @@ use mathlib.Core.Bool.{Bool, true, false, cond}
 use Prim.Native.Nat.{ℕ, _+_, _≤_, _<_}
 use native.Mathlib.Omega.{arith}
 use lib.ListN.{length}
-use Rattle.header.specs.declared.Header.{Header}
-use Rattle.command.specs.Command.{sizeOfSimple, commandAt}
-use Rattle.faults.specs.Step.{after, oneIf}
-use Rattle.command.specs.declared.Condition.{Condition}
-use Rattle.faults.specs.declared.Counts.{Counts}
-use Rattle.command.specs.declared.Simple.{Simple}
-use Rattle.command.specs.declared.Command.{Command}
-use Rattle.command.proofs.Sizes.{simple-size}
+use Rattle.routine_header.specs.declared.Header.{Header}
+use Rattle.routine_command.specs.Command.{sizeOfSimple, commandAt}
+use Rattle.routine_faults.specs.Step.{after, oneIf}
+use Rattle.routine_command.specs.declared.Condition.{Condition}
+use Rattle.routine_faults.specs.declared.Counts.{Counts}
+use Rattle.routine_command.specs.declared.Simple.{Simple}
+use Rattle.routine_command.specs.declared.Command.{Command}
+use Rattle.routine_command.proofs.Sizes.{simple-size}
 use Rattle.routine.specs.Routine.{Arm}
 use Rattle.routine.specs.Inner.Stands.{Stands, SomeArm}
 use Rattle.routine.proofs.Views.{by-if}
 use Rattle.routine.proofs.Walking as walking
 use Rattle.routine.proofs.Standing.{simple-known, if-ends}
-use Rattle.machine.specs.State.{carry}
-use Rattle.machine.specs.declared.Outcome.{Outcome}
-use Rattle.machine.specs.declared.State.{State}
+use Rattle.run_machine.specs.State.{carry}
+use Rattle.run_machine.specs.declared.Outcome.{Outcome}
+use Rattle.run_machine.specs.declared.State.{State}
 use Rattle.run.specs.Run.{Event, Stretch, unlessStopped, andThen, eventsAt, runArm, runIf}
 use Rattle.run.specs.Inner.Walker.{isOver}
 use Rattle.run.specs.Course.{courseTo}

@@ -7,21 +7,21 @@ use Prim.Native.Nat.{ℕ, _+_, _≤_}
 use native.Mathlib.Omega.{arith}
 use lib.ListN.{length}
 use Rattle.bitvec.specs.declared.Whole.{Whole}
-use Rattle.header.specs.Header.{firstCommand}
-use Rattle.header.specs.declared.Header.{Header}
-use Rattle.faults.specs.Step.{accesses, after, oneIf}
-use Rattle.faults.specs.Inputs.{given}
-use Rattle.faults.specs.declared.Counts.{Counts}
-use Rattle.command.specs.declared.Simple.{Simple}
+use Rattle.routine_header.specs.Header.{firstCommand}
+use Rattle.routine_header.specs.declared.Header.{Header}
+use Rattle.routine_faults.specs.Step.{accesses, after, oneIf}
+use Rattle.routine_faults.specs.Inputs.{given}
+use Rattle.routine_faults.specs.declared.Counts.{Counts}
+use Rattle.routine_command.specs.declared.Simple.{Simple}
 use Rattle.routine.specs.Routine.{Arm}
 use Rattle.routine.specs.Decode.{routine, decode, noCounts}
 use Rattle.routine.specs.Inner.Stands.{Stands}
 use Rattle.routine.proofs.Accepted.{decoded}
 use Rattle.routine.proofs.Views.{induction}
-use Rattle.machine.specs.State.{start, take, holds, carry}
-use Rattle.machine.specs.declared.Outcome.{Outcome}
-use Rattle.machine.specs.declared.Side.{Side}
-use Rattle.machine.specs.declared.State.{State}
+use Rattle.run_machine.specs.State.{start, take, holds, carry}
+use Rattle.run_machine.specs.declared.Outcome.{Outcome}
+use Rattle.run_machine.specs.declared.Side.{Side}
+use Rattle.run_machine.specs.declared.State.{State}
 use Rattle.run.specs.Run as run
 use Rattle.run.specs.Run.{Event, took, came, Stretch, unlessStopped, andThen, eventsAt, runArm, runOf}
 

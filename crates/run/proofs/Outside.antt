@@ -5,18 +5,18 @@ use mathlib.Core.Bool.{Bool, true, false, cond}
 use Prim.Native.Nat.{ℕ}
 use native.Mathlib.Omega.{arith}
 use Rattle.bitvec.specs.declared.Whole.{Whole}
-use Rattle.header.specs.Header.{arraySize}
-use Rattle.header.specs.declared.Header.{Header}
-use Rattle.faults.specs.Step.{accesses}
-use Rattle.faults.specs.Inputs.{given}
-use Rattle.faults.specs.declared.Counts.{Counts}
-use Rattle.command.specs.declared.Simple.{Simple}
+use Rattle.routine_header.specs.Header.{arraySize}
+use Rattle.routine_header.specs.declared.Header.{Header}
+use Rattle.routine_faults.specs.Step.{accesses}
+use Rattle.routine_faults.specs.Inputs.{given}
+use Rattle.routine_faults.specs.declared.Counts.{Counts}
+use Rattle.routine_command.specs.declared.Simple.{Simple}
 use Rattle.routine.specs.Routine.{Arm, done, plain, fork}
-use Rattle.machine.specs.State.{start, take, holds, indexOf, lies, arrive, carry}
-use Rattle.machine.specs.declared.Lies.{Lies}
-use Rattle.machine.specs.declared.Outcome.{Outcome}
-use Rattle.machine.specs.declared.Side.{Side}
-use Rattle.machine.specs.declared.State.{State}
+use Rattle.run_machine.specs.State.{start, take, holds, indexOf, lies, arrive, carry}
+use Rattle.run_machine.specs.declared.Lies.{Lies}
+use Rattle.run_machine.specs.declared.Outcome.{Outcome}
+use Rattle.run_machine.specs.declared.Side.{Side}
+use Rattle.run_machine.specs.declared.State.{State}
 use Rattle.run.specs.Run.{Event, took, came, Stretch, after, unlessStopped, andThen, eventsAt, runArm, runOf}
 
 module _ (bs : List ℕ) (h : Header) where

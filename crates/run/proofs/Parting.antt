@@ -4,17 +4,17 @@ use mathlib.Core.List.{List, [], _∷_}
 use mathlib.Core.Bool.{Bool, true, false, cond, true≢false}
 use Prim.Native.Nat.{ℕ, _+_, _*_, _-_, _≤_, _<_}
 use native.Mathlib.Omega.{arith}
-use Rattle.header.specs.declared.Header.{Header}
-use Rattle.faults.specs.Step.{oneIf, accesses}
-use Rattle.command.specs.declared.Condition.{Condition}
-use Rattle.faults.specs.declared.Counts.{Counts}
+use Rattle.routine_header.specs.declared.Header.{Header}
+use Rattle.routine_faults.specs.Step.{oneIf, accesses}
+use Rattle.routine_command.specs.declared.Condition.{Condition}
+use Rattle.routine_faults.specs.declared.Counts.{Counts}
 use Rattle.routine.specs.Routine.{Arm}
 use Rattle.routine.specs.Inner.Stands.{Stands, SomeArm, SomeIf}
 use Rattle.routine.specs.Inner.Passes.{Passes}
 use Rattle.routine.specs.declared.Passed.{Passed}
 use Rattle.routine.proofs.Standing.{second-at}
-use Rattle.machine.specs.State.{take, holds}
-use Rattle.machine.specs.declared.State.{State}
+use Rattle.run_machine.specs.State.{take, holds}
+use Rattle.run_machine.specs.declared.State.{State}
 use Rattle.run.specs.Run as run
 use Rattle.run.specs.Run.{Stretch, took, runArm, runIf}
 use Rattle.run.specs.Inner.Walker.{isOver}

@@ -4,17 +4,17 @@ use mathlib.Core.List.{List}
 use mathlib.Core.Bool.{false}
 use Prim.Native.Nat.{ℕ}
 use lib.ListN.{length}
-use Rattle.header.specs.Header.{firstCommand}
-use Rattle.header.specs.declared.Header.{Header}
-use Rattle.faults.specs.Inner.Sound.{Fine}
-use Rattle.faults.specs.Inputs.{given}
-use Rattle.faults.proofs.Fine.{fine}
+use Rattle.routine_header.specs.Header.{firstCommand}
+use Rattle.routine_header.specs.declared.Header.{Header}
+use Rattle.routine_faults.specs.Inner.Sound.{Fine}
+use Rattle.routine_faults.specs.Inputs.{given}
+use Rattle.routine_faults.proofs.Fine.{fine}
 use Rattle.routine.specs.Routine.{Arm}
 use Rattle.routine.specs.Decode.{noCounts, commandsIn, IsRoutine}
 use Rattle.routine.specs.Inner.Stands.{SomeArm}
 use Rattle.routine.proofs.Accepted.{decoded, commands-are}
-use Rattle.machine.specs.State.{start}
-use Rattle.machine.specs.declared.State.{State}
+use Rattle.run_machine.specs.State.{start}
+use Rattle.run_machine.specs.declared.State.{State}
 use Rattle.run.specs.Run.{runArm, runOf}
 use Rattle.run.specs.Course.{courseTo}
 use Rattle.run.specs.Inner.Walker.{settled, wayAt, FollowsArm}

@@ -14,27 +14,27 @@ use Rattle.bitvec.specs.Word.{add, subtract, multiply, cut}
 use Rattle.bitvec.specs.Signed.{signExtend}
 use Rattle.bitvec.specs.declared.Whole.{Whole}
 use Rattle.bitvec.proofs.Laws.{add-below, subtract-below, multiply-below, extend-below}
-use Rattle.header.specs.Header.{width, arraySize, firstCommand, between}
-use Rattle.header.specs.declared.Header.{Header}
-use Rattle.command.specs.declared.Condition.{Condition}
-use Rattle.command.specs.declared.Simple.{Simple}
-use Rattle.faults.specs.Step.{accesses, converts, widthsFit}
-use Rattle.faults.specs.Inputs.{given}
-use Rattle.faults.specs.Inner.Sound.{Sound, Fine}
-use Rattle.faults.specs.declared.Counts.{Counts}
-use Rattle.faults.proofs.Fine.{fine, set-fine, convert-fine}
+use Rattle.routine_header.specs.Header.{width, arraySize, firstCommand, between}
+use Rattle.routine_header.specs.declared.Header.{Header}
+use Rattle.routine_command.specs.declared.Condition.{Condition}
+use Rattle.routine_command.specs.declared.Simple.{Simple}
+use Rattle.routine_faults.specs.Step.{accesses, converts, widthsFit}
+use Rattle.routine_faults.specs.Inputs.{given}
+use Rattle.routine_faults.specs.Inner.Sound.{Sound, Fine}
+use Rattle.routine_faults.specs.declared.Counts.{Counts}
+use Rattle.routine_faults.proofs.Fine.{fine, set-fine, convert-fine}
 use Rattle.routine.specs.Routine.{Arm, done, plain, fork}
 use Rattle.routine.specs.Decode.{routine, decode, noCounts}
 use Rattle.routine.specs.Inner.Stands.{Stands}
 use Rattle.routine.proofs.Accepted.{decoded}
 use Rattle.routine.proofs.Views.{induction}
-use Rattle.machine.specs.State.{over, start, value, put, take, converted, computed, holds, indexOf, lies, arrive, carry}
-use Rattle.machine.specs.declared.Lies.{Lies}
-use Rattle.machine.specs.declared.Outcome.{Outcome}
-use Rattle.machine.specs.declared.State.{State}
-use Rattle.inputs.specs.Inputs.{listed}
-use Rattle.inputs.specs.declared.Listed.{Listed}
-use Rattle.inputs.proofs.Fitting.{FitSimple, Fit, fitting}
+use Rattle.run_machine.specs.State.{over, start, value, put, take, converted, computed, holds, indexOf, lies, arrive, carry}
+use Rattle.run_machine.specs.declared.Lies.{Lies}
+use Rattle.run_machine.specs.declared.Outcome.{Outcome}
+use Rattle.run_machine.specs.declared.State.{State}
+use Rattle.run_inputs.specs.Inputs.{listed}
+use Rattle.run_inputs.specs.declared.Listed.{Listed}
+use Rattle.run_inputs.proofs.Fitting.{FitSimple, Fit, fitting}
 use Rattle.run.specs.Run as run
 use Rattle.run.specs.Run.{Event, took, Stretch, unlessStopped, andThen, eventsAt, runArm, runOf}
 

@@ -7,14 +7,14 @@ use lib.ListN.{length}
 use lib.Dec.{leb}
 use Rattle.routine.specs.Routine.{Arm}
 use Rattle.routine.specs.Decode.{Decoded, rejected, routine, decode}
-use Rattle.header.specs.declared.Header.{Header}
-use Rattle.faults.specs.declared.Counts.{Counts}
-use Rattle.inputs.specs.Inputs.{listed}
-use Rattle.machine.specs.State.{over}
+use Rattle.routine_header.specs.declared.Header.{Header}
+use Rattle.routine_faults.specs.declared.Counts.{Counts}
+use Rattle.run_inputs.specs.Inputs.{listed}
+use Rattle.run_machine.specs.State.{over}
 use Rattle.run.specs.Run.{runOf}
-use Rattle.inputs.specs.declared.Listed.{Listed}
-use Rattle.machine.specs.declared.Outcome.{Outcome}
-use Rattle.machine.specs.declared.State.{State}
+use Rattle.run_inputs.specs.declared.Listed.{Listed}
+use Rattle.run_machine.specs.declared.Outcome.{Outcome}
+use Rattle.run_machine.specs.declared.State.{State}
 use Rattle.run.specs.declared.Buffer.{Buffer}
 use Rattle.run.specs.declared.Refusal.{Refusal}
 use Rattle.run.specs.declared.Ran.{Ran}

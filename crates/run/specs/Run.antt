@@ -3,16 +3,16 @@ use Prim.Native.Nat.{ℕ}
 use mathlib.Core.List.{List, [], _∷_, _++_}
 use mathlib.Core.Bool.{cond}
 use Rattle.bitvec.specs.declared.Whole.{Whole}
-use Rattle.faults.specs.Step.{accesses}
-use Rattle.faults.specs.Inputs.{given}
+use Rattle.routine_faults.specs.Step.{accesses}
+use Rattle.routine_faults.specs.Inputs.{given}
 use Rattle.routine.specs.Routine.{Arm, done, plain, fork}
-use Rattle.header.specs.declared.Header.{Header}
-use Rattle.faults.specs.declared.Counts.{Counts}
-use Rattle.command.specs.declared.Condition.{Condition}
-use Rattle.command.specs.declared.Simple.{Simple}
-use Rattle.machine.specs.State.{start, take, holds, indexOf, carry}
-use Rattle.machine.specs.declared.Outcome.{Outcome}
-use Rattle.machine.specs.declared.State.{State}
+use Rattle.routine_header.specs.declared.Header.{Header}
+use Rattle.routine_faults.specs.declared.Counts.{Counts}
+use Rattle.routine_command.specs.declared.Condition.{Condition}
+use Rattle.routine_command.specs.declared.Simple.{Simple}
+use Rattle.run_machine.specs.State.{start, take, holds, indexOf, carry}
+use Rattle.run_machine.specs.declared.Outcome.{Outcome}
+use Rattle.run_machine.specs.declared.State.{State}
 
 -- what a run comes to: an if, with the arm taken there (0 first, 1 else) and the number of accesses that stand before it in the text; or an access, with its
 -- array and its index

@@ -2,11 +2,11 @@
 use crate::Admitted;
 use crate::Buffer;
 use crate::Refusal;
-use faults::Counts;
-use header::Header;
-use inputs::Listed;
-use inputs::check_inputs;
 use routine::Checked;
+use routine_faults::Counts;
+use routine_header::Header;
+use run_inputs::Listed;
+use run_inputs::check_inputs;
 ghost use mathlib.Core.Path.{_≡_};
 ghost use Rattle.run.specs.Inner.Admitted.{admitted, admittedRoom};
 

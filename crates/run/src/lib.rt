@@ -5,10 +5,10 @@ pub mod runs;
 mod ways;
 
 use bitvec::Whole;
-use faults::Counts;
-use header::Header;
-use machine::Side;
-use machine::State;
+use routine_faults::Counts;
+use routine_header::Header;
+use run_machine::Side;
+use run_machine::State;
 ghost use Rattle.run.specs.Answer.{Answers};
 
 // How far a run is followed: to its end, or as far as the access of a number.

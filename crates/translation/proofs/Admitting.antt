@@ -2,7 +2,7 @@
 use mathlib.Core.Path.{_≡_}
 use mathlib.Core.List.{List}
 use Prim.Native.Nat.{ℕ}
-use Rattle.header.specs.declared.Header.{Header}
+use Rattle.routine_header.specs.declared.Header.{Header}
 use Rattle.lead.specs.Inner.Admitted.{admitted}
 use Rattle.lead.specs.declared.Target.{Target}
 use Rattle.lead.specs.declared.Refusal as declared

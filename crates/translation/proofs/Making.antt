@@ -5,15 +5,15 @@ use Prim.Native.Nat.{ℕ, _+_, _-_, _≤_}
 use native.Mathlib.Nat.{zero-add}
 use native.Mathlib.Omega.{arith}
 use lib.ListN.{length}
-use Rattle.header.specs.Header.{firstCommand}
+use Rattle.routine_header.specs.Header.{firstCommand}
 use Rattle.routine.specs.Routine.{Arm}
 use Rattle.routine.specs.Decode.{routine, decode, IsRoutine}
-use Rattle.faults.specs.Inner.Sound.{Fine}
-use Rattle.header.specs.declared.Header.{Header}
-use Rattle.faults.specs.declared.Counts.{Counts}
-use Rattle.faults.specs.Inputs.{given}
+use Rattle.routine_faults.specs.Inner.Sound.{Fine}
+use Rattle.routine_header.specs.declared.Header.{Header}
+use Rattle.routine_faults.specs.declared.Counts.{Counts}
+use Rattle.routine_faults.specs.Inputs.{given}
 use Rattle.routine.proofs.Accepted.{decoded}
-use Rattle.faults.proofs.Fine.{fine}
+use Rattle.routine_faults.proofs.Fine.{fine}
 use Rattle.cnf.specs.Clause.{Clause}
 use Rattle.cnf.specs.Inner.Append.{Appended, Room}
 use Rattle.cnf.specs.declared.Store.{Store}
@@ -23,16 +23,16 @@ use Rattle.netlist.specs.Node.{clausesOf}
 use Rattle.netlist.specs.Inner.Emit.{Emitted, Ready}
 use Rattle.netlist.specs.declared.Net.{Net}
 use Rattle.netlist.proofs.Emitting.{emitted-then, ready-after, ready-clauses}
-use Rattle.wiring.specs.Command.{Stretch, after}
-use Rattle.meaning.specs.Walk.{armOf}
-use Rattle.meaning.specs.Translation.{parameterNodes, start, whole, lastClauses, clausesOfAll, sizeOf}
-use Rattle.walking.specs.Inner.Walker.{wiresAt, beginning, Arrives, Roomy, ArmMade, ArmRoom, Begun, WholeMade, noStore}
-use Rattle.meaning.specs.declared.Size.{Size}
+use Rattle.translation_command.specs.Command.{Stretch, after}
+use Rattle.translation_meaning.specs.Walk.{armOf}
+use Rattle.translation_meaning.specs.Translation.{parameterNodes, start, whole, lastClauses, clausesOfAll, sizeOf}
+use Rattle.translation_walk.specs.Inner.Walker.{wiresAt, beginning, Arrives, Roomy, ArmMade, ArmRoom, Begun, WholeMade, noStore}
+use Rattle.translation_meaning.specs.declared.Size.{Size}
 use Rattle.lead.specs.declared.Target.{Target}
-use Rattle.walking.specs.declared.Walk.{Walk}
-use Rattle.wires.specs.declared.Claim.{Claim}
-use Rattle.walking.proofs.Beginning.{parameters-length}
-use Rattle.meaning.proofs.Bound.{parameters-few, roomy}
+use Rattle.translation_walk.specs.declared.Walk.{Walk}
+use Rattle.translation_state.specs.declared.Claim.{Claim}
+use Rattle.translation_walk.proofs.Beginning.{parameters-length}
+use Rattle.translation_meaning.proofs.Bound.{parameters-few, roomy}
 
 -- nothing is stored yet, and the next variable is 1
 abbrev pub empty : Net

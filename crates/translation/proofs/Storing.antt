@@ -8,17 +8,17 @@ use lib.Seq.{sets, set-append-left, length-take-le}
 use borrow.Author.Tests.{le-leb, lt-leb}
 use Rattle.routine.specs.Routine.{Arm}
 use Rattle.routine.specs.Decode.{routine, decode}
-use Rattle.header.specs.declared.Header.{Header}
-use Rattle.faults.specs.declared.Counts.{Counts}
+use Rattle.routine_header.specs.declared.Header.{Header}
+use Rattle.routine_faults.specs.declared.Counts.{Counts}
 use Rattle.cnf.specs.Clause.{flatten, offsets}
 use Rattle.cnf.proofs.Appending.{length-offsets}
-use Rattle.meaning.specs.Translation.{whole, clausesOfAll, sizeOf}
-use Rattle.walking.specs.Inner.Walker.{WholeMade}
+use Rattle.translation_meaning.specs.Translation.{whole, clausesOfAll, sizeOf}
+use Rattle.translation_walk.specs.Inner.Walker.{WholeMade}
 use Rattle.slices.specs.Lent.{usable}
 use Rattle.translation.specs.Inner.Fitted.{Fitted}
 use Rattle.translation.specs.declared.Buffer.{Buffer}
 use Rattle.translation.specs.declared.Refusal.{Refusal}
-use Rattle.meaning.specs.declared.Size.{Size}
+use Rattle.translation_meaning.specs.declared.Size.{Size}
 use Rattle.lead.specs.declared.Target.{Target}
 use Rattle.translation.specs.declared.Translated.{Translated}
 

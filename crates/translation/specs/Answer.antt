@@ -9,8 +9,8 @@ use Rattle.slices.specs.Lent.{usable}
 use Rattle.cnf.specs.Clause.{flatten, offsets}
 use Rattle.lead.specs.Lead.{Admission, refused, translates, admission}
 use Rattle.lead.specs.declared.Target.{Target}
-use Rattle.wiring.specs.Command.{Stretch}
-use Rattle.meaning.specs.Translation.{whole, clausesOfAll, sizeOf}
+use Rattle.translation_command.specs.Command.{Stretch}
+use Rattle.translation_meaning.specs.Translation.{whole, clausesOfAll, sizeOf}
 use Rattle.translation.specs.declared.Buffer.{Buffer}
 use Rattle.translation.specs.declared.Refusal.{Refusal}
 use Rattle.translation.specs.declared.Translated.{Translated}

@@ -4,9 +4,9 @@ pub mod wholes;
 use lead::Admitted;
 use lead::Target;
 use lead::admit;
-use meaning::Size;
+use translation_meaning::Size;
 ghost use Rattle.lead.specs.Lead.{targetOf};
-ghost use Rattle.meaning.specs.Faithful.{Demand2};
+ghost use Rattle.translation_meaning.specs.Faithful.{Demand2};
 ghost use Rattle.translation.specs.Answer.{Answers};
 
 // A lent buffer of a translation.

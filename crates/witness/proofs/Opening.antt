@@ -7,8 +7,8 @@ use native.Mathlib.Omega.{arith}
 use lib.ListN.{length, take, drop}
 use lib.Dec.{leb}
 use borrow.Author.Tests.{le-leb, leb-true}
-use Rattle.header.specs.declared.Header.{Header}
-use Rattle.faults.specs.declared.Counts.{Counts}
+use Rattle.routine_header.specs.declared.Header.{Header}
+use Rattle.routine_faults.specs.declared.Counts.{Counts}
 use Rattle.lead.specs.Lead.{translates, byLead, admittedLead}
 use Rattle.lead.specs.declared.Admitted.{Admitted}
 use Rattle.lead.specs.declared.Target.{Target}
@@ -18,8 +18,8 @@ use Rattle.routine.specs.Decode.{IsRoutine}
 use Rattle.routine.specs.Inner.Known.{Counted}
 use Rattle.routine.proofs.Accepted.{decoded}
 use Rattle.routine.proofs.Counting.{few-accesses}
-use Rattle.faults.proofs.Fine.{fine}
-use Rattle.faults.specs.Inputs.{inputCount}
+use Rattle.routine_faults.proofs.Fine.{fine}
+use Rattle.routine_faults.specs.Inputs.{inputCount}
 use Rattle.witness.specs.Lead.{targetIn, decisionsIn, proofAt, byAdmitted, leadOf}
 use Rattle.witness.specs.declared.Refusal.{Refusal}
 use Rattle.witness.specs.declared.Opened.{Opened}

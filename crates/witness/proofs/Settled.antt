@@ -3,16 +3,16 @@ use mathlib.Core.Path.{_≡_, refl, sym, ap, _∙_}
 use mathlib.Core.List.{List}
 use Prim.Native.Nat.{ℕ, _+_}
 use lib.ListN.{length, take}
-use Rattle.header.specs.declared.Header.{Header}
-use Rattle.faults.specs.declared.Counts.{Counts}
+use Rattle.routine_header.specs.declared.Header.{Header}
+use Rattle.routine_faults.specs.declared.Counts.{Counts}
 use Rattle.routine.specs.Routine.{Arm}
-use Rattle.inputs.specs.Inputs.{listed}
+use Rattle.run_inputs.specs.Inputs.{listed}
 use Rattle.run.specs.Run.{runOf}
-use Rattle.inputs.specs.declared.Listed.{Listed}
+use Rattle.run_inputs.specs.declared.Listed.{Listed}
 use Rattle.run.specs.Course.{course}
 use Rattle.run.specs.declared.Course.{Course}
 use Rattle.lead.specs.declared.Target.{Target}
-use Rattle.faults.specs.Inputs.{inputCount}
+use Rattle.routine_faults.specs.Inputs.{inputCount}
 use Rattle.witness.specs.Lead.{decisionsIn, wordsFrom, witnessIn, leadOf}
 use Rattle.witness.specs.Witness.{byCourse, byOpened, witnessOf}
 use Rattle.witness.specs.declared.Opened.{Opened}

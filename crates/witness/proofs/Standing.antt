@@ -5,14 +5,14 @@ use mathlib.Core.Bool.{Bool, true, false, cond}
 use Prim.Native.Nat.{ℕ}
 use native.Mathlib.Omega.{arith}
 use Rattle.bitvec.specs.declared.Whole.{Whole}
-use Rattle.header.specs.Header.{arraySize}
-use Rattle.header.specs.declared.Header.{Header}
-use Rattle.faults.specs.declared.Counts.{Counts}
+use Rattle.routine_header.specs.Header.{arraySize}
+use Rattle.routine_header.specs.declared.Header.{Header}
+use Rattle.routine_faults.specs.declared.Counts.{Counts}
 use Rattle.routine.specs.Routine.{Arm}
-use Rattle.machine.specs.Side.{isOn}
-use Rattle.machine.specs.State.{lies}
-use Rattle.inputs.specs.Inputs.{listed}
-use Rattle.inputs.specs.declared.Listed.{Listed}
+use Rattle.run_machine.specs.Side.{isOn}
+use Rattle.run_machine.specs.State.{lies}
+use Rattle.run_inputs.specs.Inputs.{listed}
+use Rattle.run_inputs.specs.declared.Listed.{Listed}
 use Rattle.run.specs.declared.Course.{Course}
 use Rattle.lead.specs.declared.Target.{Target}
 use Rattle.witness.specs.Lead.{witnessIn, leadOf}

@@ -5,9 +5,9 @@ use lib.ListN.{length, take, drop}
 use lib.Dec.{leb}
 use Rattle.slices.specs.Bytes.{entry, word}
 use Rattle.slices.specs.Guard.{unless}
-use Rattle.header.specs.declared.Header.{Header}
-use Rattle.faults.specs.declared.Counts.{Counts}
-use Rattle.faults.specs.Inputs.{inputCount}
+use Rattle.routine_header.specs.declared.Header.{Header}
+use Rattle.routine_faults.specs.declared.Counts.{Counts}
+use Rattle.routine_faults.specs.Inputs.{inputCount}
 use Rattle.lead.specs.Lead.{targetOf, admittedLead}
 use Rattle.lead.specs.declared.Target.{Target}
 use Rattle.lead.specs.declared.Admitted.{Admitted}

@@ -1,12 +1,12 @@
 // The lead of a report: 11, then 12.
 use crate::Opened;
 use crate::Refusal;
-use faults::Counts;
-use faults::words::input_count;
-use header::Header;
 use lead::Admitted;
 use lead::Target;
 use lead::admit_lead;
+use routine_faults::Counts;
+use routine_faults::words::input_count;
+use routine_header::Header;
 ghost use mathlib.Core.Path.{_≡_};
 ghost use Prim.Native.Nat.{_+_};
 ghost use Rattle.witness.specs.Lead.{proofAt, leadOf};

@@ -4,9 +4,9 @@ mod listing;
 mod settling;
 
 use bitvec::Whole;
-use faults::Counts;
-use header::Header;
 use lead::Target;
+use routine_faults::Counts;
+use routine_header::Header;
 ghost use mathlib.Core.Path.{_≡_};
 ghost use Rattle.routine.specs.Decode.{commandsIn};
 ghost use Rattle.routine.specs.Inner.Known.{Counted};

@@ -1,5 +1,5 @@
 use Rattle.interface.proofs.Leaving.{translate-leaves, short}
-use Rattle.meaning.proofs.Demand.{demand}
+use Rattle.translation_meaning.proofs.Demand.{demand}
 use borrow.Author.Tests.{lt-ltb, le-ltb}
 use Rattle.interface.specs.Left.{translateLeaves}
 use borrow.Author.Needs.{needs}

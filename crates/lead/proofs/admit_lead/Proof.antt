@@ -2,7 +2,7 @@ use Prim.Native.Nat.{_≤_, _<_}
 use native.Mathlib.Omega.{arith}
 use borrow.Author.Tests.{eq-eqb, ne-eqb, lt-ltb, le-ltb, lt-leb, le-leb}
 use borrow.Author.Needs.{needs}
-use Rattle.faults.specs.Step.{accesses}
+use Rattle.routine_faults.specs.Step.{accesses}
 use Rattle.lead.specs.Lead.{admittedLead}
 use Rattle.lead.proofs.Leads.{first-odd-le}
 use Rattle.lead.proofs.admit_lead.Statement.{statement}

@@ -3,7 +3,7 @@ use Prim.Native.Nat.{_+_}
 use native.Mathlib.Omega.{arith}
 use lib.ListN.{length}
 use borrow.Author.Tests.{le-leb, lt-leb}
-use Rattle.header.proofs.Firsts.{bad-none, bad-here, bad-next}
+use Rattle.routine_header.proofs.Firsts.{bad-none, bad-here, bad-next}
 use Rattle.lead.specs.Lead.{firstOdd}
 use Rattle.lead.proofs.Leads.{isDecision, oddFrom}
 use Rattle.lead.proofs.odd_decision.Statement.{statement}

@@ -3,8 +3,8 @@ use mathlib.Core.Path.{_≡_}
 use Prim.Native.Nat.{ℕ}
 use mathlib.Core.List.{List}
 use lib.ListN.{length, replicate}
-use Rattle.header.specs.declared.Header.{Header}
-use Rattle.faults.specs.declared.Counts.{Counts}
+use Rattle.routine_header.specs.declared.Header.{Header}
+use Rattle.routine_faults.specs.declared.Counts.{Counts}
 use Rattle.routine.specs.Routine.{Arm}
 use Rattle.routine.specs.Decode.{routine, decode}
 use Rattle.witness.specs.Witness.{witnessOf}

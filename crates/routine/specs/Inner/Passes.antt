@@ -4,8 +4,8 @@ use mathlib.Core.Path.{_≡_}
 use mathlib.Core.List.{List}
 use Rattle.routine.specs.Routine.{Arm}
 use Rattle.routine.specs.Inner.Stands.{Stands}
-use Rattle.header.specs.declared.Header.{Header}
-use Rattle.faults.specs.declared.Counts.{Counts}
+use Rattle.routine_header.specs.declared.Header.{Header}
+use Rattle.routine_faults.specs.declared.Counts.{Counts}
 use Rattle.routine.specs.declared.Passed.{Passed}
 
 -- the end of whatever arm stands at `at`, and the counts there

@@ -5,8 +5,8 @@ use mathlib.Core.List.{List}
 use Rattle.routine.specs.Routine.{Arm}
 use Rattle.routine.specs.Decode.{decode, routine}
 use Rattle.routine.specs.Access.{accessAt}
-use Rattle.header.specs.declared.Header.{Header}
-use Rattle.faults.specs.declared.Counts.{Counts}
+use Rattle.routine_header.specs.declared.Header.{Header}
+use Rattle.routine_faults.specs.declared.Counts.{Counts}
 use Rattle.routine.specs.declared.Access.{Access}
 
 -- the access of number n

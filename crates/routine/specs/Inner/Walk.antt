@@ -1,8 +1,8 @@
 -- What walking over an arm or an if tells.
 use Prim.Native.Nat.{ℕ}
 use mathlib.Core.List.{List}
-use Rattle.header.specs.declared.Header.{Header}
-use Rattle.faults.specs.declared.Counts.{Counts}
+use Rattle.routine_header.specs.declared.Header.{Header}
+use Rattle.routine_faults.specs.declared.Counts.{Counts}
 use Rattle.routine.specs.declared.Walked.{Walked}
 use Rattle.routine.specs.Routine.{Parsed, ifArms, arm, refused, parsed}
 

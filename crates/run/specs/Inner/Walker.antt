@@ -3,17 +3,17 @@ use Prim.Native.Nat.{ℕ, _+_}
 use mathlib.Core.Path.{_≡_}
 use mathlib.Core.List.{List, []}
 use mathlib.Core.Bool.{Bool, true, false, cond}
-use Rattle.command.specs.Command.{sizeOfSimple}
-use Rattle.faults.specs.Step.{oneIf, after}
+use Rattle.routine_command.specs.Command.{sizeOfSimple}
+use Rattle.routine_faults.specs.Step.{oneIf, after}
 use Rattle.routine.specs.Routine.{Arm}
 use Rattle.routine.specs.Inner.Stands.{Stands}
-use Rattle.header.specs.declared.Header.{Header}
-use Rattle.command.specs.declared.Condition.{Condition}
-use Rattle.faults.specs.declared.Counts.{Counts}
-use Rattle.command.specs.declared.Simple.{Simple}
-use Rattle.machine.specs.State.{holds, carry}
-use Rattle.machine.specs.declared.Outcome.{Outcome}
-use Rattle.machine.specs.declared.State.{State}
+use Rattle.routine_header.specs.declared.Header.{Header}
+use Rattle.routine_command.specs.declared.Condition.{Condition}
+use Rattle.routine_faults.specs.declared.Counts.{Counts}
+use Rattle.routine_command.specs.declared.Simple.{Simple}
+use Rattle.run_machine.specs.State.{holds, carry}
+use Rattle.run_machine.specs.declared.Outcome.{Outcome}
+use Rattle.run_machine.specs.declared.State.{State}
 use Rattle.run.specs.Run.{Stretch, eventsAt, runArm, runIf}
 use Rattle.run.specs.Course.{courseTo}
 use Rattle.run.specs.declared.Course.{Course}

@@ -1,7 +1,7 @@
 use borrow.Author.Needs.{needs}
 use Rattle.translation.proofs.Admitting.{refuses, fits}
 use Rattle.lead.proofs.Leads.{is-routine-by}
-use Rattle.meaning.proofs.Demand.{demand}
+use Rattle.translation_meaning.proofs.Demand.{demand}
 use Rattle.translation.proofs.translate.Statement.{statement}
 use Rattle.translation.proofs.translate.Tie as tie
 

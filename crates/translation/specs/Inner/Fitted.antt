@@ -2,12 +2,12 @@
 use Prim.Native.Nat.{ℕ}
 use mathlib.Core.Path.{_≡_}
 use mathlib.Core.List.{List}
-use Rattle.header.specs.declared.Header.{Header}
-use Rattle.faults.specs.declared.Counts.{Counts}
+use Rattle.routine_header.specs.declared.Header.{Header}
+use Rattle.routine_faults.specs.declared.Counts.{Counts}
 use Rattle.routine.specs.Routine.{Arm}
 use Rattle.routine.specs.Decode.{routine, decode}
 use Rattle.lead.specs.declared.Target.{Target}
-use Rattle.meaning.specs.Translation.{whole}
+use Rattle.translation_meaning.specs.Translation.{whole}
 use Rattle.translation.specs.declared.Translated.{Translated}
 use Rattle.translation.specs.Answer.{Answer, fitted}
 

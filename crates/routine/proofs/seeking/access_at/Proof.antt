@@ -3,7 +3,7 @@ use mathlib.Core.Path.{ap}
 use native.Mathlib.Omega.{arith}
 use lib.ListN.{length}
 use borrow.Author.Needs.{needs}
-use Rattle.command.specs.Command.{sizeOf}
+use Rattle.routine_command.specs.Command.{sizeOf}
 use Rattle.routine.proofs.Flat.{Seeking, seek-start, room, few-if, few-simple, past-close, past-if, past-simple, found, never-missing, none-left, seeks}
 use Rattle.routine.proofs.seeking.access_at.Statement.{statement}
 use Rattle.routine.proofs.seeking.access_at.Tie as tie

@@ -5,9 +5,9 @@ use mathlib.Core.Path.{_≡_, refl, sym, _∙_}
 use Prim.Native.Nat.{ℕ, _<_, _≤_, _+_, _*_, _-_}
 use lib.ListN.{length}
 use Rattle.routine.specs.Inner.Walk.{walkArm}
-use Rattle.faults.specs.declared.Step.{Step}
+use Rattle.routine_faults.specs.declared.Step.{Step}
 use Rattle.routine.specs.declared.Walked.{Walked}
-use Rattle.command.proofs.Sizes.{simple-size}
+use Rattle.routine_command.proofs.Sizes.{simple-size}
 use Rattle.routine.proofs.Arms.{fits-by, over, then-by, ended-arm, ended-if, walk-if}
 use borrow.Fn.Kinds.{In, Out}
 use borrow.Fn.PlainCycle.{Measures, is, falls, and}
@@ -17,9 +17,9 @@ use Rattle.routine.proofs.walks.+walk_arm+walk_if.Lts-walk_arm as walk-
 use Rattle.routine.proofs.walks.walk_if.Reads as walk-if
 use Rattle.routine.proofs.walks.walk_if.Kinds as walk-if-kinds
 use Rattle.routine.proofs.walks.+walk_arm+walk_if.Lts-walk_if as walk-if-lts
-use Rattle.command.proofs.commands.command_at.Reads as command-at-reads
-use Rattle.command.proofs.commands.simple_size.Reads as simple-size-reads
-use Rattle.faults.proofs.steps.step_of.Reads as step-of-reads
+use Rattle.routine_command.proofs.commands.command_at.Reads as command-at-reads
+use Rattle.routine_command.proofs.commands.simple_size.Reads as simple-size-reads
+use Rattle.routine_faults.proofs.steps.step_of.Reads as step-of-reads
 use Rattle.routine.proofs.walks.+walk_arm+walk_if.{statement}
 use Rattle.routine.proofs.walks.+walk_arm+walk_if.Tie.{close}
 

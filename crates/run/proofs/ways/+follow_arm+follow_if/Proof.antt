@@ -5,7 +5,7 @@ use native.Mathlib.Omega.{arith}
 use lib.ListN.{length}
 use borrow.Author.Needs.{needs}
 use borrow.Author.Tests.{not-true, not-false}
-use Rattle.command.proofs.Sizes.{simple-size}
+use Rattle.routine_command.proofs.Sizes.{simple-size}
 use Rattle.routine.proofs.Standing.{not-missing, close-room, simple-known, some-if, else-room, second-falls, first-arm, passed-to, second-passed}
 use Rattle.run.specs.Inner.Walker.{wayAt}
 use Rattle.run.specs.declared.Course.{Course}
@@ -20,18 +20,18 @@ use Rattle.run.proofs.ways.+follow_arm+follow_if.Lts-follow_arm as foll
 use Rattle.run.proofs.ways.follow_if.Reads as follow-if
 use Rattle.run.proofs.ways.follow_if.Kinds as follow-if-kinds
 use Rattle.run.proofs.ways.+follow_arm+follow_if.Lts-follow_if as follow-if-lts
-use Rattle.command.proofs.commands.command_at.Reads as command-at-reads
-use Rattle.command.proofs.commands.simple_size.Reads as simple-size-reads
-use Rattle.faults.proofs.steps.counts_after.Reads as counts-after-reads
-use Rattle.machine.proofs.State.carried.Reads as carried-reads
+use Rattle.routine_command.proofs.commands.command_at.Reads as command-at-reads
+use Rattle.routine_command.proofs.commands.simple_size.Reads as simple-size-reads
+use Rattle.routine_faults.proofs.steps.counts_after.Reads as counts-after-reads
+use Rattle.run_machine.proofs.State.carried.Reads as carried-reads
 use Rattle.run.proofs.ways.course_at.Reads as course-at-reads
 use Rattle.run.proofs.ways.is_ended.Reads as is-ended-reads
-use Rattle.faults.proofs.steps.counts_after_if.Reads as counts-after-if-reads
+use Rattle.routine_faults.proofs.steps.counts_after_if.Reads as counts-after-if-reads
 use Rattle.run.proofs.ways.arm_at.Reads as arm-at-reads
 use Rattle.run.proofs.ways.is_done.Reads as is-done-reads
 use Rattle.run.proofs.ways.keeps_to.Reads as keeps-to-reads
 use Rattle.run.proofs.ways.way.Reads as way-reads
-use Rattle.machine.proofs.State.took.Reads as took-reads
+use Rattle.run_machine.proofs.State.took.Reads as took-reads
 use Rattle.routine.proofs.walks.pass_arm.Reads as pass-arm-reads
 use Rattle.run.proofs.ways.+follow_arm+follow_if.{statement}
 use Rattle.run.proofs.ways.+follow_arm+follow_if.Tie.{close}

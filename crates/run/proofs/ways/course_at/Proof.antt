@@ -1,6 +1,6 @@
 -- What a command that is no if says of the course. Assumes nothing.
 use borrow.Author.Needs.{needs}
-use Rattle.machine.proofs.Operands.{read-index, write-index}
+use Rattle.run_machine.proofs.Operands.{read-index, write-index}
 use Rattle.run.specs.Course.{courseTo}
 use Rattle.run.proofs.ways.course_at.Statement.{statement}
 use Rattle.run.proofs.ways.course_at.Tie as tie

@@ -1,6 +1,6 @@
 use mathlib.Core.Path.{refl}
 use Rattle.translation.proofs.Making.{fine-here, begin-ready, whole-roomy, claim-room, some-variables, whole-made}
-use Rattle.walking.proofs.Translating.{arm-from}
+use Rattle.translation_walk.proofs.Translating.{arm-from}
 use borrow.Author.Needs.{needs}
 use native.Mathlib.Omega.{arith}
 use Rattle.translation.proofs.wholes.make.Statement.{statement}

@@ -1,0 +1,73 @@
+use mathlib.Core.Path.{sym, _∙_}
+use borrow.Author.Tests.{not-true, not-false}
+use Rattle.routine_faults.specs.Step.{simpleStep}
+use borrow.Author.Needs.{needs}
+use Rattle.routine_faults.proofs.steps.simple_step.Statement.{statement}
+use Rattle.routine_faults.proofs.steps.simple_step.Tie as tie
+
+in-range-requires : tie.Need-in-range-requires
+in-range-requires c κs = search needs
+
+returns : tie.Need-returns
+unfolding simpleStep
+returns c = rw (← c .before .in-range .ensures, not-true (c .before .in-range .result) (c .if1 .taken))
+
+widths-fit-requires : tie.Need-widths-fit-requires
+widths-fit-requires c κs = search needs
+
+returns-2 : tie.Need-returns-2
+unfolding simpleStep
+returns-2 c =
+    let w = c .before in
+    let r = w .before .before in
+    rw (← r .in-range .ensures, not-false (r .in-range .result) (w .before .if1 .left), ← w .widths-fit .ensures, not-true (w .widths-fit .result) (c .if2 .taken))
+
+too-many-requires : tie.Need-too-many-requires
+too-many-requires c κs = search needs
+
+returns-3 : tie.Need-returns-3
+unfolding simpleStep
+returns-3 c =
+    let m = c .before in
+    let w = m .before .before in
+    let r = w .before .before in
+    rw (
+      ← r .in-range .ensures,
+      not-false (r .in-range .result) (w .before .if1 .left),
+      ← w .widths-fit .ensures,
+      not-false (w .widths-fit .result) (m .before .if2 .left),
+      ← m .too-many .ensures,
+      c .if3 .taken,
+    )
+
+counts-after-requires : tie.Need-counts-after-requires
+counts-after-requires c κs = sym (c .before .too-many .ensures) ∙ c .if3 .left
+
+returns-4 : tie.Need-returns-4
+unfolding simpleStep
+returns-4 c =
+    let m = c .before .before in
+    let w = m .before .before in
+    let r = w .before .before in
+    rw (
+      ← r .in-range .ensures,
+      not-false (r .in-range .result) (w .before .if1 .left),
+      ← w .widths-fit .ensures,
+      not-false (w .widths-fit .result) (m .before .if2 .left),
+      ← m .too-many .ensures,
+      c .before .if3 .left,
+      c .counts-after .ensures,
+    )
+
+pub simple-step-spec : {M : Type 1} → statement M
+simple-step-spec =
+    tie.close
+    (tie.spec
+    in-range-requires
+    returns
+    widths-fit-requires
+    returns-2
+    too-many-requires
+    returns-3
+    counts-after-requires
+    returns-4)

@@ -1,0 +1,62 @@
+use borrow.Author.Tests.{not-true, not-false}
+use borrow.Author.Needs.{needs}
+use mathlib.Core.Path.{_≡_, refl, sym, _∙_}
+use Prim.Native.Nat.{_+_, _*_, _≤_}
+use native.Mathlib.Omega.{arith}
+use Rattle.routine_header.specs.Header.{widthOk, firstBad}
+use Rattle.routine_header.proofs.Firsts.{bad-none, bad-here, bad-next}
+use Rattle.routine_header.proofs.bad_width.Statement.{statement}
+use Rattle.routine_header.proofs.bad_width.Tie as tie
+
+abbrev Inv-loop : tie.InvT-loop
+Inv-loop bytes n at₀ left₀ at left = (at + 1 * left ≤ 1000) × (firstBad (widthOk bytes) 1 left at ≡ firstBad (widthOk bytes) 1 left₀ at₀)
+
+abbrev μ-loop : tie.MeasureT-loop
+μ-loop bytes n at₀ left₀ at left = left
+
+loop-holds : tie.Need-loop-holds Inv-loop μ-loop
+loop-holds c = (omega arith, refl)
+
+is-within-requires : tie.Need-is-within-requires Inv-loop μ-loop
+is-within-requires c κs = search needs
+
+returns : tie.Need-returns Inv-loop μ-loop
+returns c =
+    let l = c .before .before .before in
+    bad-here (widthOk (l .before .before .args .bytes .now)) 1 (l .loop .at) _ (c .before .before .loop-test .taken) (sym (c .before .is-within .ensures) ∙ not-true _ (c .if1 .taken)) ∙ l .loop .inv .1
+
+add-at : tie.Need-add-at Inv-loop μ-loop
+add-at c = omega arith
+
+sub-left : tie.Need-sub-left Inv-loop μ-loop
+sub-left c = omega arith
+
+loop-less : tie.Need-loop-less Inv-loop μ-loop
+loop-less c = omega arith
+
+loop-again : tie.Need-loop-again Inv-loop μ-loop
+loop-again c =
+    let l = c .before .before .before in (
+      omega arith,
+      bad-next (widthOk (l .before .before .args .bytes .now)) 1 (l .loop .at) _ (c .before .before .loop-test .taken) (sym (c .before .is-within .ensures) ∙ not-false _ (c .if1 .left)) ∙ l .loop .inv .1,
+    )
+
+returns-2 : tie.Need-returns-2 Inv-loop μ-loop
+returns-2 c =
+    let l = c .before in
+    bad-none (widthOk (l .before .before .args .bytes .now)) 1 (l .loop .at) _ (c .loop-test .left) ∙ l .loop .inv .1
+
+pub bad-width-spec : {M : Type 1} → statement M
+bad-width-spec =
+    tie.close
+    (tie.spec
+    Inv-loop
+    μ-loop
+    loop-holds
+    is-within-requires
+    returns
+    add-at
+    sub-left
+    loop-less
+    loop-again
+    returns-2)

@@ -1,0 +1,65 @@
+-- The translation of a command that is no if.
+use Prim.Native.Nat.{ℕ, _+_}
+use mathlib.Core.List.{List, [], _++_}
+use mathlib.Core.Bool.{cond}
+use lib.ListN.{length}
+use lib.Dec.{eqb}
+use Rattle.routine_header.specs.Header.{width, arraySize}
+use Rattle.routine_faults.specs.Step.{accesses}
+use Rattle.routine_faults.specs.Inputs.{inputNumber}
+use Rattle.routine_header.specs.declared.Header.{Header}
+use Rattle.routine_faults.specs.declared.Counts.{Counts}
+use Rattle.routine_command.specs.declared.Simple.{Simple}
+use Rattle.netlist.specs.declared.Node.{Node}
+use Rattle.arithmetic.specs.Extend.{constBit}
+use Rattle.arithmetic.specs.Input.{inputs, inBit}
+use Rattle.lead.specs.declared.Target.{Target}
+use Rattle.arithmetic.specs.Circuit.{Predicate, Number}
+use Rattle.translation_access.specs.Index.{passing, claim}
+use Rattle.translation_state.specs.Wires.{Wires, bitsOf, put, arriving, claiming}
+use Rattle.translation_command.specs.Operation.{conversion, computation}
+
+-- a stretch of a translation: the nodes that it makes, and the wires that it leaves
+pub record Stretch : Type 0 where
+  pub nodes : List Node
+  pub wires : Wires
+
+-- these nodes first
+abbrev pub after : List Node → Stretch → Stretch
+after ns x = record { nodes = ns ++ x .nodes; wires = x .wires }
+
+-- no nodes
+abbrev pub still : Wires → Stretch
+still s = record { nodes = []; wires = s }
+
+-- the named access makes the claim
+abbrev pub claimed : List ℕ → Header → Target → (g array i : ℕ) → Wires → Stretch
+claimed bs h t g array i s =
+    let x : Predicate = claim (t .side) g (bitsOf bs s i) (arraySize bs h array) (width bs i) in
+    record { nodes = x .nodes; wires = claiming s (x .lit) }
+
+-- another access leaves another arrival
+abbrev pub passed : List ℕ → Header → (g array i : ℕ) → Wires → Stretch
+passed bs h g array i s =
+    let x : Predicate = passing g (bitsOf bs s i) (arraySize bs h array) (width bs i) (s .arrival) in
+    record { nodes = x .nodes; wires = arriving s (x .lit) }
+
+-- an access, of the number that the counts before it give; after one that is not named goes on
+abbrev pub access : List ℕ → Header → Target → (g array i : ℕ) → Counts → Wires → (ℕ → Wires → Stretch) → Stretch
+access bs h t g array i k s go =
+    let x : Stretch = passed bs h g array i s in
+    cond (eqb (accesses k) (t .access)) (claimed bs h t g array i s) (after (x .nodes) (go (g + length (x .nodes)) (x .wires)))
+
+-- the bits of a read take the next variables: they are those of the input word of its number
+abbrev pub readInto : List ℕ → Header → (d : ℕ) → Counts → (g : ℕ) → Wires → Stretch
+readInto bs h d k g s = record { nodes = inputs (inputNumber h k) (width bs d); wires = put bs s d (inBit g) }
+
+-- a command that is no if, the next variable being g
+unfoldable pub simple : List ℕ → Header → Target → (g : ℕ) → Simple → Counts → Wires → Stretch
+simple bs h t g (Simple.Set d c) k s = still (put bs s d (constBit c))
+simple bs h t g (Simple.Convert op d a) k s = still (put bs s d (conversion op (bitsOf bs s a) (width bs a)))
+simple bs h t g (Simple.Compute op d a b) k s =
+    let x : Number = computation op g (bitsOf bs s a) (bitsOf bs s b) (width bs d) in
+    record { nodes = x .nodes; wires = put bs s d (x .bits) }
+simple bs h t g (Simple.Read d array i) k s = access bs h t g array i k s (readInto bs h d k)
+simple bs h t g (Simple.Write array i a) k s = access bs h t g array i k s (λ g₁. still)

@@ -1,0 +1,12 @@
+// What a command that is no if makes of the symbolic state.
+pub mod commands;
+mod operations;
+
+use netlist::Net;
+use translation_state::Reach;
+
+// What a command made: what is emitted, arrival and the claim.
+pub struct Made {
+    pub net: Net,
+    pub reach: Reach,
+}

@@ -1,0 +1,53 @@
+-- The translation of a routine, whole: its netlist, the claim, and the clauses.
+use Prim.Native.Nat.{ℕ, zero, suc, _+_}
+use mathlib.Core.List.{List, [], _∷_, _++_}
+use lib.ListN.{length, replicate}
+use Rattle.routine_header.specs.Header.{width}
+use Rattle.routine.specs.Routine.{Arm}
+use Rattle.routine_header.specs.declared.Header.{Header}
+use Rattle.cnf.specs.Clause.{Clause, flatten}
+use Rattle.routine_faults.specs.Inputs.{given}
+use Rattle.netlist.specs.Literal.{opp}
+use Rattle.netlist.specs.declared.Node.{Node}
+use Rattle.netlist.specs.declared.Node.the-variants.{One}
+use Rattle.netlist.specs.Node.{clausesOf}
+use Rattle.arithmetic.specs.Input.{inputs, inBit}
+use Rattle.translation_state.specs.Wires.{Wires, allPlaces, bitsPut}
+use Rattle.translation_command.specs.Command.{Stretch, after}
+use Rattle.translation_meaning.specs.Walk.{armOf}
+use Rattle.translation_state.specs.declared.Claim.{Claim}
+use Rattle.translation_meaning.specs.declared.Size.{Size}
+use Rattle.lead.specs.declared.Target.{Target}
+
+-- the bits of the first n parameters take the next variables
+unfoldable pub parameterNodes : List ℕ → (n : ℕ) → List Node
+parameterNodes bs zero = []
+parameterNodes bs (suc p) = parameterNodes bs p ++ inputs p (width bs p)
+
+-- their literals; the bits of other variables begin as 3
+unfoldable pub parameterLits : List ℕ → (n : ℕ) → List ℕ
+parameterLits bs zero = replicate allPlaces 3
+parameterLits bs (suc p) = bitsPut bs (parameterLits bs p) p (inBit (2 + length (parameterNodes bs p)))
+
+-- the beginning: arrival is 2, and there is no claim yet
+unfoldable pub start : List ℕ → (n : ℕ) → Wires
+start bs n = record { lits = parameterLits bs n; arrival = 2; claim = Claim.Open }
+
+-- variable 1 is true, then come the parameters' bits, then the commands
+unfoldable pub whole : List ℕ → Target → (ds : List ℕ) → Header → Arm → Stretch
+whole bs t ds h a =
+    after (One ∷ parameterNodes bs (given h))
+    (armOf bs h t ds a (2 + length (parameterNodes bs (given h))) (start bs (given h)))
+
+-- the last two clauses: {arrival}, {-side literal}
+abbrev pub lastClauses : Claim → List Clause
+lastClauses Claim.Open = []
+lastClauses (Claim.Made arrival side) = (arrival ∷ []) ∷ (opp side ∷ []) ∷ []
+
+-- the clauses of a translation
+unfoldable pub clausesOfAll : Stretch → List Clause
+clausesOfAll x = clausesOf 1 (x .nodes) ++ lastClauses (x .wires .claim)
+
+-- the counts of clauses, words and variables
+abbrev pub sizeOf : Stretch → Size
+sizeOf x = record { clauses = length (clausesOfAll x); words = length (flatten (clausesOfAll x)); variables = length (x .nodes) }

@@ -1,0 +1,63 @@
+// The literals of the variables' bits, arrival and the claim.
+use crate::ALL_PLACES;
+use crate::Claim;
+use crate::Reach;
+use crate::VARIABLE_PLACES;
+ghost use mathlib.Core.Path.{_≡_};
+ghost use Prim.Native.Nat.{_≤_, _+_};
+ghost use lib.ListN.{length};
+ghost use lib.Seq.{sets};
+ghost use Rattle.translation_state.specs.Wires.{allPlaces, isMade, placeOf};
+ghost use Rattle.translation_state.specs.Inner.Reach.{reaching};
+
+// The first place of variable v.
+pub fn place_of(v: u8) -> usize
+    ensures { λ r. ⌜ r ≡ placeOf v ⌝ }
+{
+    VARIABLE_PLACES * (v as usize)
+}
+
+// The bits r become the literals from a place on.
+pub fn store_bits(lits: &mut [u32], place: usize, r: &[u32])
+    requires { ⌜ place + length (now r) ≤ length (now lits) ⌝ }
+    ensures { λ _. ⌜ now (lits .exit) ≡ sets (now (lits .entry)) place (now (r .entry)) ⌝ }
+{
+    let mut j = 0;
+    while j < r.len() {
+        lits[place + j] = r[j];
+        j += 1;
+    }
+}
+
+// The literals, copied: an else starts from those at its if.
+pub fn copied(lits: &[u32]) -> [u32; ALL_PLACES]
+    requires { ⌜ length (now lits) ≡ allPlaces ⌝ }
+    ensures { λ r. ⌜ r ≡ now (lits .entry) ⌝ }
+{
+    let mut r = [3u32; ALL_PLACES];
+    let mut i = 0;
+    while i < ALL_PLACES {
+        r[i] = lits[i];
+        i += 1;
+    }
+    r
+}
+
+// Another arrival.
+pub fn with_arrival(s: Reach, arrival: u32) -> Reach
+    ensures { λ x. ⌜ x ≡ reaching s arrival ⌝ }
+{
+    let claim = s.claim;
+    Reach { arrival, claim }
+}
+
+// Whether the claim was made.
+pub fn is_made(s: Reach) -> bool
+    ensures { λ r. ⌜ r ≡ isMade (s .claim) ⌝ }
+{
+    let claim = s.claim;
+    match claim {
+        Claim::Open => false,
+        Claim::Made { .. } => true,
+    }
+}

@@ -1,0 +1,50 @@
+-- The parameters, one after the other. Assumes nothing.
+use mathlib.Core.Path.{_≡_, refl, ap, subst, _∙_}
+use mathlib.Core.List.{List, [], _++_}
+use Prim.Native.Nat.{ℕ, zero, suc, _+_, _*_, _≤_}
+use native.Mathlib.Omega.{arith}
+use native.Mathlib.Numerals.{add-one}
+use lib.ListN.{length, length-append}
+use lib.Seq.{length-sets}
+use Rattle.routine_header.specs.Header.{width}
+use Rattle.routine_faults.specs.Inner.Sound.{Fine}
+use Rattle.routine_faults.specs.Inputs.{given}
+use Rattle.routine_header.specs.declared.Header.{Header}
+use Rattle.netlist.specs.declared.Node.{Node}
+use Rattle.netlist.specs.Inner.Emit.{Emitted}
+use Rattle.netlist.specs.declared.Net.{Net}
+use Rattle.netlist.proofs.Emitting.{emitted-then}
+use Rattle.arithmetic.specs.Bits.{tabulate}
+use Rattle.arithmetic.specs.Input.{inputs, inBit}
+use Rattle.arithmetic.specs.Inner.Taken.{TakesInputs}
+use Rattle.arithmetic.proofs.Input.{length-inputs}
+use Rattle.translation_meaning.specs.Translation.{parameterNodes, parameterLits}
+use Rattle.translation_state.specs.Wires.{allPlaces, bitsPut}
+use Rattle.translation_state.proofs.Ranges.{ranged}
+
+pub some-few : (bs : List ℕ) (h : Header) → Fine bs h → (p : ℕ) → p ≤ given h → length (parameterNodes bs p) ≤ 32 * p
+unfolding parameterNodes
+some-few bs h f zero l = omega arith
+some-few bs h f (suc p) l =
+    let r = ranged bs h p f (omega (arith, f .parameters)) in
+    simp (length-append, length-inputs) (omega (arith, some-few bs h f p (omega arith), r .few))
+
+module _ (bs : List ℕ) (n n₁ n₂ : Net) (p w : ℕ) (e : w ≡ width bs p) (q : (W U : List ℕ) → Emitted W U n (parameterNodes bs p) W U n₁) (r : TakesInputs n₁ w n₂) where
+  pub parameter-made : (W U : List ℕ) → Emitted W U n (parameterNodes bs (p + 1)) W U n₂
+  unfolding parameterNodes
+  parameter-made W U =
+      rw (add-one p)
+      (subst (λ (ns : List Node). Emitted W U n (parameterNodes bs p ++ ns) W U n₂) (λ i. inputs p (e i)) (emitted-then (q W U) (r .tells W U p)))
+
+  pub parameter-wired : n .next ≡ 2 → (l l₁ : List ℕ) → l ≡ parameterLits bs p → l₁ ≡ bitsPut bs l p (inBit (n₁ .next)) → l₁ ≡ parameterLits bs (p + 1)
+  unfolding parameterLits
+  parameter-wired two l l₁ a b =
+      let g : n₁ .next ≡ 2 + length (parameterNodes bs p) = q [] [] .next ∙ ap (λ (i : ℕ). i + length (parameterNodes bs p)) two in
+      rw (add-one p) (b ∙ (λ i. bitsPut bs (a i) p (inBit (g i))))
+
+-- the literals keep their places
+pub parameters-length : (bs : List ℕ) (p : ℕ) → length (parameterLits bs p) ≡ allPlaces
+unfolding parameterLits
+parameters-length bs zero = refl
+parameters-length bs (suc p) =
+    length-sets (parameterLits bs p) (32 * p) (tabulate (inBit (2 + length (parameterNodes bs p))) (width bs p)) ∙ parameters-length bs p

@@ -1,0 +1,17 @@
+// The walk of a translation over the bytes of a routine: the parameters, a command, an arm, an if.
+pub mod parameters;
+mod steps;
+pub mod walks;
+
+use netlist::Net;
+use routine_faults::Counts;
+use translation_state::Reach;
+
+// Where a translation is: the offset and the counts there, what is emitted, arrival and the claim. Where the claim was made before, offset and
+// counts tell nothing.
+pub struct Walk {
+    pub next: usize,
+    pub counts: Counts,
+    pub net: Net,
+    pub reach: Reach,
+}
