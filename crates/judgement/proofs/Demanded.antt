@@ -10,6 +10,7 @@ use Rattle.routine_header.specs.Header.{arraySize}
 use Rattle.routine_header.specs.declared.Header.{Header}
 use Rattle.routine_faults.specs.declared.Counts.{Counts}
 use Rattle.routine.specs.Routine.{Arm}
+use Rattle.routine.specs.Access.{ifsBefore}
 use Rattle.routine.specs.Decode.{Decoded, rejected, routine, decode}
 use Rattle.run_machine.specs.Side.{isOn}
 use Rattle.run_machine.specs.State.{lies}
@@ -26,8 +27,9 @@ use Rattle.cnf.specs.Meaning.{Assign, lit, satClause, sat}
 use Rattle.netlist.specs.Node.{clausesOf}
 use Rattle.netlist.proofs.Literals.{lit-opp}
 use Rattle.netlist.proofs.Truth.{sat-append}
+use Rattle.lead.specs.Lead.{translates, admission}
 use Rattle.lead.specs.declared.Target.{Target}
-use Rattle.lead.proofs.Leads.{admission-by}
+use Rattle.lead.proofs.Leads.{admitted-range, admission-by}
 use Rattle.translation_meaning.specs.Faithful.{Faithful, Demand2}
 use Rattle.translation_meaning.specs.Translation.{whole, lastClauses, clausesOfAll, sizeOf}
 use Rattle.translation_meaning.proofs.Demand as translation
@@ -100,11 +102,14 @@ module _ (bs r : List ℕ) (h : Header) (a : Arm) (k : Counts) (d : decode bs �
   abbrev x : Stretch
   x = whole bs t ds h a
 
+  admitted : admission bs t ds ≡ translates h a k
+  admitted = admission-by bs t ds h a k d (lets r h k t _ (sym (s .opens)) refl .admits a)
+
   claim : Faithful bs t ds h a k
-  claim = translated .holds h a k (admission-by bs t ds h a k d (lets r h k t _ (sym (s .opens)) refl .admits a))
+  claim = translated .holds h a k admitted
 
   -- every accepted input list whose run goes the way and comes to the access has its index on the side
-  outside : (ins : List ℕ) → listed bs ins h a k ≡ Listed.Accepted → goesWay ds (t .access) (runOf bs ins h a .events) ≡ true
+  outside : (ins : List ℕ) → listed bs ins h a k ≡ Listed.Accepted → goesWay ds (ifsBefore a (t .access)) (runOf bs ins h a .events) ≡ true
       → (array₁ : ℕ) (index₁ : Whole) → Comes (t .access) array₁ index₁ (runOf bs ins h a .events)
       → isOn (t .side) (lies (arraySize bs h array₁) index₁) ≡ true
   unfolding clausesOfAll
@@ -117,7 +122,7 @@ module _ (bs r : List ℕ) (h : Header) (a : Arm) (k : Counts) (d : decode bs �
 
   finding : Finding bs ds (witnessIn r h k) h a k (t .access) (t .side) array index
   finding =
-      let witness = arrival bs (witnessIn r h k) ds h a k d (t .access) array index .0 (s .arrived) in
+      let witness = arrival bs (witnessIn r h k) ds h a k d (t .access) (admitted-range bs t ds h a k admitted .1 .access) array index .0 (s .arrived) in
       record {
         accepted = s .accepted;
         goes = witness .0;
@@ -125,7 +130,7 @@ module _ (bs r : List ℕ) (h : Header) (a : Arm) (k : Counts) (d : decode bs �
         every = λ ins ok way array₁ index₁ there. stops ins ok way array₁ index₁ there;
       }
     where
-      stops : (ins : List ℕ) → listed bs ins h a k ≡ Listed.Accepted → goesWay ds (t .access) (runOf bs ins h a .events) ≡ true
+      stops : (ins : List ℕ) → listed bs ins h a k ≡ Listed.Accepted → goesWay ds (ifsBefore a (t .access)) (runOf bs ins h a .events) ≡ true
           → (array₁ : ℕ) (index₁ : Whole) → Comes (t .access) array₁ index₁ (runOf bs ins h a .events)
           → StopsOutside bs h (t .access) (t .side) array₁ index₁ (runOf bs ins h a)
       stops ins ok way array₁ index₁ there =

@@ -8,6 +8,7 @@ use Rattle.routine_header.specs.Header.{arraySize}
 use Rattle.routine_header.specs.declared.Header.{Header}
 use Rattle.routine_faults.specs.declared.Counts.{Counts}
 use Rattle.routine.specs.Routine.{Arm}
+use Rattle.routine.specs.Access.{ifsBefore}
 use Rattle.routine.specs.Decode.{routine, decode}
 use Rattle.run_machine.specs.Side.{sideNumber, isOn}
 use Rattle.run_machine.specs.State.{lies}
@@ -31,9 +32,9 @@ pub record StopsOutside (bs : List ℕ) (h : Header) (access side array : ℕ) (
 -- a finding: the access, on the side, overflows on the way of the decisions; the witness goes there
 pub record Finding (bs ds witness : List ℕ) (h : Header) (a : Arm) (k : Counts) (access side array : ℕ) (index : Whole) : Type 0 where
   pub accepted : listed bs witness h a k ≡ Listed.Accepted
-  pub goes : goesWay ds access (runOf bs witness h a .events) ≡ true
+  pub goes : goesWay ds (ifsBefore a access) (runOf bs witness h a .events) ≡ true
   pub comes : Comes access array index (runOf bs witness h a .events)
-  pub every : (ins : List ℕ) → listed bs ins h a k ≡ Listed.Accepted → goesWay ds access (runOf bs ins h a .events) ≡ true
+  pub every : (ins : List ℕ) → listed bs ins h a k ≡ Listed.Accepted → goesWay ds (ifsBefore a access) (runOf bs ins h a .events) ≡ true
       → (array₁ : ℕ) (index₁ : Whole) → Comes access array₁ index₁ (runOf bs ins h a .events)
       → StopsOutside bs h access side array₁ index₁ (runOf bs ins h a)
 

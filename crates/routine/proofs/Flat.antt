@@ -9,8 +9,8 @@ use Rattle.routine_header.specs.Header.{firstCommand}
 use Rattle.routine_command.specs.Command.{sizeOfSimple, sizeOf, commandAt}
 use Rattle.routine_faults.specs.Step.{noCounts, tooMany, after, oneIf}
 use Rattle.routine.specs.Routine.{Arm}
-use Rattle.routine.specs.Decode.{routine, decode, IsRoutine}
-use Rattle.routine.specs.Access.{accessHere, orElse, accessAt}
+use Rattle.routine.specs.Decode.{routine, decode, commandsIn, IsRoutine}
+use Rattle.routine.specs.Access.{accessHere, orElse, accessAt, ifsOf, ifsBefore}
 use Rattle.routine.specs.Inner.Stands.{Stands}
 use Rattle.routine.specs.Inner.Seeks.{Seeks}
 use Rattle.routine_header.specs.declared.Header.{Header}
@@ -21,7 +21,7 @@ use Rattle.routine_command.specs.declared.Command.{Command}
 use Rattle.routine.specs.declared.Access.{Access}
 use Rattle.routine_command.proofs.Sizes.{simple-size, size-pos}
 use Rattle.routine.proofs.Views.{induction}
-use Rattle.routine.proofs.Accepted.{decoded}
+use Rattle.routine.proofs.Accepted.{decoded, commands-are}
 
 pub or-assoc : (x y z : Access) → orElse (orElse x y) z ≡ orElse x (orElse y z)
 or-assoc Access.Nowhere y z = refl
@@ -160,3 +160,10 @@ module _ (bs : List ℕ) (n at₀ : ℕ) (k₀ : Counts) (at : ℕ) (k : Counts)
 pub seeks : (bs : List ℕ) (h : Header) (n at₀ : ℕ) (k₀ : Counts) (r : Access) → at₀ ≡ firstCommand h → k₀ ≡ noCounts
     → ((s : Access) → Flat bs n at₀ k₀ s → r ≡ s) → Seeks bs h n r
 seeks bs h n at₀ k₀ r e f go = record { tells = λ a k d. go (accessAt a n) (rw (e, f) (whole-flat bs h n a k d)) }
+
+-- how many ifs stand before what was found
+pub ifs-found : (bs : List ℕ) (h : Header) → IsRoutine bs h → (n : ℕ) (r : Access) → Seeks bs h n r → (x : Access) → r ≡ x → ifsOf x ≡ ifsBefore (commandsIn bs) n
+unfolding ifsBefore
+ifs-found bs h i n r s x e =
+    rw (commands-are bs h (i .commands) (i .counts) (i .decodes))
+    (ap ifsOf (sym e ∙ s .tells (i .commands) (i .counts) (i .decodes)))

@@ -11,7 +11,7 @@ use Rattle.routine_command.specs.Command.{touches}
 use Rattle.routine_faults.specs.Step.{noCounts, accesses, after, afterBy, oneIf}
 use Rattle.routine.specs.Routine.{Arm, done, plain, fork}
 use Rattle.routine.specs.Decode.{routine, decode}
-use Rattle.routine.specs.Access.{accessBy, accessHere, orElse, accessAt}
+use Rattle.routine.specs.Access.{accessBy, accessHere, orElse, accessAt, ifsBefore}
 use Rattle.routine.specs.Inner.Stands.{Stands}
 use Rattle.routine_header.specs.declared.Header.{Header}
 use Rattle.routine_command.specs.declared.Condition.{Condition}
@@ -188,15 +188,15 @@ access-found bs h a k e n l = go (accessAt a n) refl (spans bs h n a 0 0 _ _ _ k
 
 -- ---- the ifs before it
 
--- an if with the counts k stands before the access of number n, before which the counts are j, exactly when no more accesses stand before the if
-abbrev pub Before : Counts → ℕ → Counts → Type 0
-Before j n k = (k .ifs < j .ifs) ↔ (accesses k ≤ n)
+-- an if with the counts k stands before the access of number n, before which `before` ifs stand, exactly when no more accesses stand before the if
+abbrev pub Before : (before n : ℕ) → Counts → Type 0
+Before before n k = (k .ifs < before) ↔ (accesses k ≤ n)
 
 module _ (j : Counts) (n : ℕ) where
-  ends-before : (k k₁ : Counts) → k₁ .ifs ≤ j .ifs → accesses k₁ ≤ n → (a : Arm) → EachIf (Between k k₁) a → EachIf (Before j n) a
+  ends-before : (k k₁ : Counts) → k₁ .ifs ≤ j .ifs → accesses k₁ ≤ n → (a : Arm) → EachIf (Between k k₁) a → EachIf (Before (j .ifs) n) a
   ends-before k k₁ i l = each-map (λ m b. (λ _. omega (arith, b .fewer), λ _. omega (arith, b .up-to)))
 
-  begins-after : (k k₁ : Counts) → j .ifs ≤ k .ifs → n < accesses k → (a : Arm) → EachIf (Between k k₁) a → EachIf (Before j n) a
+  begins-after : (k k₁ : Counts) → j .ifs ≤ k .ifs → n < accesses k → (a : Arm) → EachIf (Between k k₁) a → EachIf (Before (j .ifs) n) a
   begins-after k k₁ i l = each-map (λ m b. (λ u. absurd (omega (arith, b .from)), λ u. absurd (omega (arith, b .more))))
 
   module _ (array i : ℕ) where
@@ -204,8 +204,8 @@ module _ (j : Counts) (n : ℕ) where
     abbrev Here : Arm → Type 0
     Here a = accessAt a n ≡ Access.Here j array i
 
-    before-plain : (c : Simple) (k : Counts) (rest : Arm) (k₁ : Counts) → Spans n (after c k) rest k₁ → (Here rest → EachIf (Before j n) rest)
-        → (x : Access) → Within n k (after c k) x → orElse x (accessAt rest n) ≡ Access.Here j array i → EachIf (Before j n) rest
+    before-plain : (c : Simple) (k : Counts) (rest : Arm) (k₁ : Counts) → Spans n (after c k) rest k₁ → (Here rest → EachIf (Before (j .ifs) n) rest)
+        → (x : Access) → Within n k (after c k) x → orElse x (accessAt rest n) ≡ Access.Here j array i → EachIf (Before (j .ifs) n) rest
     before-plain c k rest k₁ s go Access.Nowhere w e = go e
     before-plain c k rest k₁ s go (Access.Here j₁ a₁ i₁) w e =
         let z : j₁ ≡ j = cc in
@@ -213,9 +213,10 @@ module _ (j : Counts) (n : ℕ) where
         begins-after (after c k) k₁ (w₁ .up-to) (w₁ .high) rest (s .each)
 
     module _ (k : Counts) (first second rest : Arm) (k₂ k₃ k₁ : Counts) (x : Spans n (oneIf k) first k₂) (y : Spans n k₂ second k₃) (z : Spans n k₃ rest k₁)
-        (go₁ : Here first → EachIf (Before j n) first) (go₂ : Here second → EachIf (Before j n) second) (go₃ : Here rest → EachIf (Before j n) rest) where
+        (go₁ : Here first → EachIf (Before (j .ifs) n) first) (go₂ : Here second → EachIf (Before (j .ifs) n) second)
+        (go₃ : Here rest → EachIf (Before (j .ifs) n) rest) where
       abbrev All : Type 0
-      All = Before j n k × EachIf (Before j n) first × EachIf (Before j n) second × EachIf (Before j n) rest
+      All = Before (j .ifs) n k × EachIf (Before (j .ifs) n) first × EachIf (Before (j .ifs) n) second × EachIf (Before (j .ifs) n) rest
 
       in-first : Here first → Inside n (oneIf k) k₂ j → All
       in-first e w =
@@ -253,10 +254,10 @@ module _ (j : Counts) (n : ℕ) where
       before-fork Access.Nowhere Access.Nowhere Access.Nowhere p q r s t o e = let z₁ : _≡_ {A = ℕ} 0 1 = cc in absurd (omega arith)
 
     before : (bs : List ℕ) (h : Header) (a : Arm) (depth close at : ℕ) (k : Counts) (end : ℕ) (k₁ : Counts) → Stands bs h depth close at k a end k₁
-        → Here a → EachIf (Before j n) a
+        → Here a → EachIf (Before (j .ifs) n) a
     unfolding accessAt
     before bs h =
-        induction bs h (λ depth close at k a end k₁. Here a → EachIf (Before j n) a)
+        induction bs h (λ depth close at k a end k₁. Here a → EachIf (Before (j .ifs) n) a)
         (λ depth close at k mark e l f. tt)
         (λ depth close at k c rest end k₁ v go f.
         before-plain c k rest k₁ (spans bs h n rest _ _ _ _ _ k₁ (v .stands)) go (accessHere c k n) (here-within k n c) f)
@@ -267,6 +268,8 @@ module _ (j : Counts) (n : ℕ) where
         before-fork k first second rest (v .k₂) (v .k₃) k₁ x y z go₁ go₂ go₃ (accessAt first n) (accessAt second n) (accessAt rest n) refl refl refl
         (x .within) (y .within) (z .within) f)
 
-pub ifs-before : (bs : List ℕ) (h : Header) (a : Arm) (k : Counts) → decode bs ≡ routine h a k → (n : ℕ) (j : Counts) (array i : ℕ)
-    → accessAt a n ≡ Access.Here j array i → EachIf (Before j n) a
-ifs-before bs h a k e n j array i f = before j n array i bs h a 0 0 _ _ _ k (decoded bs h a k e .stands) f
+pub ifs-before : (bs : List ℕ) (h : Header) (a : Arm) (k : Counts) → decode bs ≡ routine h a k → (n : ℕ) → n < accesses k → EachIf (Before (ifsBefore a n) n) a
+unfolding ifsBefore
+ifs-before bs h a k e n l =
+    let f = access-found bs h a k e n l in
+    rw (f .here) (before (f .counts) n (f .array) (f .i) bs h a 0 0 _ _ _ k (decoded bs h a k e .stands) (f .here))

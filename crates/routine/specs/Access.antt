@@ -25,8 +25,17 @@ abbrev pub orElse : Access → Access → Access
 orElse Access.Nowhere other = other
 orElse (Access.Here k array i) other = Access.Here k array i
 
--- The access of number n, in text order. Its counts are those of the text before it: an if stands before it when its number is below their `ifs`.
+-- The access of number n, in text order. Its counts are those of the text before it.
 unfoldable pub accessAt : Arm → (n : ℕ) → Access
 accessAt done n = Access.Nowhere
 accessAt (plain at c k rest) n = orElse (accessHere c k n) (accessAt rest n)
 accessAt (fork at c k first second rest) n = orElse (accessAt first n) (orElse (accessAt second n) (accessAt rest n))
+
+-- how many ifs stand before what was found
+abbrev pub ifsOf : Access → ℕ
+ifsOf Access.Nowhere = 0
+ifsOf (Access.Here k array i) = k .ifs
+
+-- how many ifs stand before the access of number n in the text
+unfoldable pub ifsBefore : Arm → (n : ℕ) → ℕ
+ifsBefore a n = ifsOf (accessAt a n)

@@ -1,4 +1,4 @@
-// Finding an access by its number: one flat walk over the commands in text order, whatever arms they stand in.
+// Finding an access by its number, and the ifs before it: one flat walk over the commands in text order, whatever arms they stand in.
 use crate::Access;
 use routine_command::Command;
 use routine_command::Simple;
@@ -15,8 +15,8 @@ use routine_header::Header;
 use routine_header::first_command;
 use slices::wide;
 ghost use mathlib.Core.Path.{_≡_};
-ghost use Rattle.routine.specs.Decode.{IsRoutine};
-ghost use Rattle.routine.specs.Access.{accessHere};
+ghost use Rattle.routine.specs.Decode.{IsRoutine, commandsIn};
+ghost use Rattle.routine.specs.Access.{accessHere, ifsBefore};
 ghost use Rattle.routine.specs.Inner.Seeks.{Seeks};
 
 // The command after the counts k, if it is the access of this number.
@@ -68,4 +68,19 @@ pub fn access_at(bytes: &[u8], h: Header, access: u8) -> Access
         }
     }
     Access::Nowhere
+}
+
+// How many ifs stand before the access of this number in an accepted routine.
+pub fn ifs_before(bytes: &[u8], h: Header, access: u8) -> u8
+    requires { ⌜ IsRoutine (now bytes) h ⌝ }
+    ensures { λ r. ⌜ r ≡ ifsBefore (commandsIn (now (bytes .entry))) access ⌝ }
+{
+    match access_at(bytes, h, access) {
+        Access::Nowhere => 0,
+        Access::Here {
+            counts,
+            array: _,
+            i: _,
+        } => counts.ifs,
+    }
 }

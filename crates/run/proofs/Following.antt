@@ -6,11 +6,12 @@ use Prim.Native.Nat.{ℕ, _+_, _≤_, _<_}
 use native.Mathlib.Omega.{arith}
 use lib.ListN.{length}
 use Rattle.routine_header.specs.declared.Header.{Header}
-use Rattle.routine_command.specs.Command.{sizeOfSimple, commandAt}
+use Rattle.routine_command.specs.Command.{touches, sizeOfSimple, commandAt}
 use Rattle.routine_faults.specs.Step.{after, oneIf}
 use Rattle.routine_command.specs.declared.Condition.{Condition}
 use Rattle.routine_faults.specs.declared.Counts.{Counts}
 use Rattle.routine_command.specs.declared.Simple.{Simple}
+use Rattle.routine_command.specs.declared.Touch.{Touch}
 use Rattle.routine_command.specs.declared.Command.{Command}
 use Rattle.routine_command.proofs.Sizes.{simple-size}
 use Rattle.routine.specs.Routine.{Arm}
@@ -21,7 +22,7 @@ use Rattle.routine.proofs.Standing.{simple-known, if-ends}
 use Rattle.run_machine.specs.State.{carry}
 use Rattle.run_machine.specs.declared.Outcome.{Outcome}
 use Rattle.run_machine.specs.declared.State.{State}
-use Rattle.run.specs.Run.{Event, Stretch, unlessStopped, andThen, eventsAt, runArm, runIf}
+use Rattle.run.specs.Run.{Event, Stretch, unlessStopped, andThen, eventsBy, eventsAt, runArm, runIf}
 use Rattle.run.specs.Inner.Walker.{isOver}
 use Rattle.run.specs.Course.{courseTo}
 use Rattle.run.specs.Inner.Walker.{settled, isDone, wayAt, stepOn, Arrives, FollowsArm, FollowsIf}
@@ -124,13 +125,11 @@ module _ (ds : List ℕ) (goal : Goal) where
   }
 
   -- a command that is no if takes no decision
-  course-plain : (bs : List ℕ) (c : Simple) (k : Counts) (s : State) → courseTo [] goal (eventsAt bs c k s) ≡ courseTo ds goal (eventsAt bs c k s)
+  course-plain : (bs : List ℕ) (t : Touch) (k : Counts) (s : State) → courseTo [] goal (eventsBy bs t k s) ≡ courseTo ds goal (eventsBy bs t k s)
   unfolding courseTo
-  course-plain bs (Simple.Set d x) k s = refl
-  course-plain bs (Simple.Convert op d x) k s = refl
-  course-plain bs (Simple.Compute op d x y) k s = refl
-  course-plain bs (Simple.Read d array i) k s = refl
-  course-plain bs (Simple.Write array i x) k s = refl
+  course-plain bs Touch.Nothing k s = refl
+  course-plain bs (Touch.Reads d array i) k s = refl
+  course-plain bs (Touch.Writes array i) k s = refl
 
 -- ---- a walk that is the same one
 
@@ -199,7 +198,7 @@ module _ (bs ins ds : List ℕ) (goal : Goal) (h : Header) (depth close : ℕ) w
         step-course : (k : Counts) → w .counts ≡ k → stepOn bs ins goal h c w .course ≡ courseTo ds goal (plainStretch k .events)
         unfolding stepOn
         step-course k t =
-            course-plain ds goal bs c (w .counts) (w .state) ∙ ap (λ (x : Counts). courseTo ds goal (eventsAt bs c x (w .state))) t
+            course-plain ds goal bs (touches c) (w .counts) (w .state) ∙ ap (λ (x : Counts). courseTo ds goal (eventsAt bs c x (w .state))) t
 
         step-state : (k : Counts) → w .counts ≡ k → stepOn bs ins goal h c w .state ≡ plainStretch k .state
         unfolding stepOn

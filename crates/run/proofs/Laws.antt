@@ -27,19 +27,20 @@ onward-access false array index x y = refl
 pub courseTo-append : (ds : List ℕ) (goal : Goal) (es fs : List Event) → courseTo ds goal (es ++ fs) ≡ onward (courseTo ds goal es) (courseTo ds goal fs)
 unfolding courseTo
 courseTo-append ds goal [] fs = refl
-courseTo-append ds goal (took number arm before ∷ es) fs =
-    ap (λ (z : Course). cond (keepsTo ds goal number arm before) z (Course.Astray number)) (courseTo-append ds goal es fs)
-    ∙ onward-if (keepsTo ds goal number arm before) number (courseTo ds goal es) (courseTo ds goal fs)
+courseTo-append ds goal (took number arm ∷ es) fs =
+    ap (λ (z : Course). cond (keepsTo ds goal number arm) z (Course.Astray number)) (courseTo-append ds goal es fs)
+    ∙ onward-if (keepsTo ds goal number arm) number (courseTo ds goal es) (courseTo ds goal fs)
 courseTo-append ds goal (came number array index ∷ es) fs =
     ap (λ (z : Course). cond (isGoal goal number) (Course.Arrived array index) z) (courseTo-append ds goal es fs)
     ∙ onward-access (isGoal goal number) array index (courseTo ds goal es) (courseTo ds goal fs)
 
-pub course-append : (ds : List ℕ) (access : ℕ) (es fs : List Event) → course ds access (es ++ fs) ≡ onward (course ds access es) (course ds access fs)
-course-append ds access = courseTo-append ds (Goal.Access access)
+pub course-append : (ds : List ℕ) (access before : ℕ) (es fs : List Event)
+    → course ds access before (es ++ fs) ≡ onward (course ds access before es) (course ds access before fs)
+course-append ds access before = courseTo-append ds (Goal.Access access before)
 
 -- a run that is followed to its end settles nothing on the way
 pub course-end : (ds : List ℕ) (es : List Event) → courseTo ds Goal.End es ≡ Course.Passing
 unfolding courseTo
 course-end ds [] = refl
-course-end ds (took number arm before ∷ es) = course-end ds es
+course-end ds (took number arm ∷ es) = course-end ds es
 course-end ds (came number array index ∷ es) = course-end ds es

@@ -1,5 +1,6 @@
 -- What the proofs of several functions use, and the laws for the layers above.
 pub mod Laws
+mod Touching
 mod Following
 mod Parting
 mod Wholes

@@ -23,7 +23,7 @@ module _ (bs : List ℕ) (h : Header) where
   -- among the events of a run with this outcome, each access with an index outside is the last, and stopped the run
   abbrev pub Ends : List Event → Outcome → Type 0
   Ends [] o = Unit {0}
-  Ends (took number arm before ∷ es) o = Ends es o
+  Ends (took number arm ∷ es) o = Ends es o
   Ends (came access array index ∷ es) o =
       ((side : Side) → lies (arraySize bs h array) index ≡ Lies.Outside side → (es ≡ []) × (o ≡ Outcome.Stopped access index side)) × Ends es o
 
@@ -31,13 +31,13 @@ module _ (bs : List ℕ) (h : Header) where
   pub ends-at : (es : List Event) (access array : ℕ) (index : Whole) (fs : List Event) (o : Outcome) → Ends (es ++ came access array index ∷ fs) o
       → (side : Side) → lies (arraySize bs h array) index ≡ Lies.Outside side → (fs ≡ []) × (o ≡ Outcome.Stopped access index side)
   ends-at [] access array index fs o e = e .0
-  ends-at (took _ _ _ ∷ es) access array index fs o e = ends-at es access array index fs o e
+  ends-at (took _ _ ∷ es) access array index fs o e = ends-at es access array index fs o e
   ends-at (came _ _ _ ∷ es) access array index fs o e = ends-at es access array index fs o (e .1)
 
   -- a run that goes on came to none
   ends-append : (es fs : List Event) (o : Outcome) → Ends es Outcome.Going → Ends fs o → Ends (es ++ fs) o
   ends-append [] fs o e f = f
-  ends-append (took _ _ _ ∷ es) fs o e f = ends-append es fs o e f
+  ends-append (took _ _ ∷ es) fs o e f = ends-append es fs o e f
   ends-append (came _ _ _ ∷ es) fs o e f =
       ((λ side l. let z = e .0 side l .1 in let n : _≡_ {A = ℕ} 0 1 = cc in absurd (omega arith)), ends-append es fs o (e .1) f)
 
@@ -78,12 +78,12 @@ module _ (bs : List ℕ) (h : Header) where
     ends-arm (fork at c k first second rest) s =
         ends-then
         (cond (holds bs c s)
-        (after (took (k .ifs) 0 (accesses k) ∷ []) (runArm bs ins h first (take s (k .ifs) 0)))
-        (after (took (k .ifs) 1 (accesses k) ∷ []) (runArm bs ins h second (take s (k .ifs) 1))))
+        (after (took (k .ifs) 0 ∷ []) (runArm bs ins h first (take s (k .ifs) 0)))
+        (after (took (k .ifs) 1 ∷ []) (runArm bs ins h second (take s (k .ifs) 1))))
         (runArm bs ins h rest)
         (ends-cond (holds bs c s)
-        (after (took (k .ifs) 0 (accesses k) ∷ []) (runArm bs ins h first (take s (k .ifs) 0)))
-        (after (took (k .ifs) 1 (accesses k) ∷ []) (runArm bs ins h second (take s (k .ifs) 1)))
+        (after (took (k .ifs) 0 ∷ []) (runArm bs ins h first (take s (k .ifs) 0)))
+        (after (took (k .ifs) 1 ∷ []) (runArm bs ins h second (take s (k .ifs) 1)))
         (ends-arm first (take s (k .ifs) 0)) (ends-arm second (take s (k .ifs) 1)))
         (ends-arm rest)
 

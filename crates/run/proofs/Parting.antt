@@ -5,7 +5,7 @@ use mathlib.Core.Bool.{Bool, true, false, cond, true≢false}
 use Prim.Native.Nat.{ℕ, _+_, _*_, _-_, _≤_, _<_}
 use native.Mathlib.Omega.{arith}
 use Rattle.routine_header.specs.declared.Header.{Header}
-use Rattle.routine_faults.specs.Step.{oneIf, accesses}
+use Rattle.routine_faults.specs.Step.{oneIf}
 use Rattle.routine_command.specs.declared.Condition.{Condition}
 use Rattle.routine_faults.specs.declared.Counts.{Counts}
 use Rattle.routine.specs.Routine.{Arm}
@@ -46,24 +46,24 @@ else-second : (b : Bool) (x y : Stretch) → (cond {A = ℕ} b 0 1 ≡ 0 → ⊥
 else-second true x y e = absurd (e refl)
 else-second false x y e = refl
 
-module _ (ds : List ℕ) (goal : Goal) (number before : ℕ) (x y : Stretch) where
+module _ (ds : List ℕ) (goal : Goal) (number : ℕ) (x y : Stretch) where
   -- the stretch of an if, from those of its arms
   abbrev forkStretch : Bool → Stretch
-  forkStretch b = cond b (run.after (took number 0 before ∷ []) x) (run.after (took number 1 before ∷ []) y)
+  forkStretch b = cond b (run.after (took number 0 ∷ []) x) (run.after (took number 1 ∷ []) y)
 
-  fork-astray : (b : Bool) → keepsTo ds goal number (cond b 0 1) before ≡ false → Course.Astray number ≡ courseTo ds goal (forkStretch b .events)
+  fork-astray : (b : Bool) → keepsTo ds goal number (cond b 0 1) ≡ false → Course.Astray number ≡ courseTo ds goal (forkStretch b .events)
   unfolding courseTo
   fork-astray true e = rw e
   fork-astray false e = rw e
 
-  fork-kept : (b : Bool) → keepsTo ds goal number (cond b 0 1) before ≡ true
+  fork-kept : (b : Bool) → keepsTo ds goal number (cond b 0 1) ≡ true
       → (courseTo ds goal (cond b x y .events) ≡ courseTo ds goal (forkStretch b .events)) × (cond b x y .state ≡ forkStretch b .state)
   unfolding courseTo
   fork-kept true e = (rw e, refl)
   fork-kept false e = (rw e, refl)
 
 module _ (bs ins ds : List ℕ) (goal : Goal) (h : Header) (depth : ℕ) (c : Condition) (w : Way) (arm : ℕ) (is : arm ≡ armAt bs c (w .state))
-    (b : Bool) (by : b ≡ keepsTo ds goal (w .counts .ifs) arm (accesses (w .counts))) where
+    (b : Bool) (by : b ≡ keepsTo ds goal (w .counts .ifs) arm) where
   -- the stretches of the arms
   abbrev firstOf : Arm → Stretch
   firstOf first = runArm bs ins h first (take (w .state) (w .counts .ifs) 0)
@@ -71,15 +71,15 @@ module _ (bs ins ds : List ℕ) (goal : Goal) (h : Header) (depth : ℕ) (c : Co
   abbrev secondOf : Arm → Stretch
   secondOf second = runArm bs ins h second (take (w .state) (w .counts .ifs) 1)
 
-  decision : keepsTo ds goal (w .counts .ifs) (cond (holds bs c (w .state)) 0 1) (accesses (w .counts)) ≡ b
+  decision : keepsTo ds goal (w .counts .ifs) (cond (holds bs c (w .state)) 0 1) ≡ b
   unfolding armAt
-  decision = sym (by ∙ ap (λ (n : ℕ). keepsTo ds goal (w .counts .ifs) n (accesses (w .counts))) is)
+  decision = sym (by ∙ ap (keepsTo ds goal (w .counts .ifs)) is)
 
   pub astray : b ≡ false → FollowsIf bs ins ds goal h depth c w (wayAt (w .next) (w .counts) (w .state) (Course.Astray (w .counts .ifs)))
   astray e = record {
     tells = λ first else k₁ second end k₂ p q.
         record {
-          course = fork-astray ds goal (w .counts .ifs) (accesses (w .counts)) (firstOf first) (secondOf second) (holds bs c (w .state)) (decision ∙ e);
+          course = fork-astray ds goal (w .counts .ifs) (firstOf first) (secondOf second) (holds bs c (w .state)) (decision ∙ e);
           state = λ z. absurd (true≢false z);
           next = λ z. absurd (true≢false z);
           counts = λ z. absurd (true≢false z);
@@ -91,7 +91,7 @@ module _ (bs ins ds : List ℕ) (goal : Goal) (h : Header) (depth : ℕ) (c : Co
     kept : (first second : Arm) (x : Stretch) → x ≡ cond (holds bs c (w .state)) (firstOf first) (secondOf second)
         → (end : ℕ) (k₁ : Counts) (r : Way) → Arrives ds goal x end k₁ r → Arrives ds goal (runIf bs c (w .counts) (runArm bs ins h first) (runArm bs ins h second) (w .state)) end k₁ r
     kept first second x q end k₁ r a =
-        let p = fork-kept ds goal (w .counts .ifs) (accesses (w .counts)) (firstOf first) (secondOf second) (holds bs c (w .state)) (decision ∙ e) in
+        let p = fork-kept ds goal (w .counts .ifs) (firstOf first) (secondOf second) (holds bs c (w .state)) (decision ∙ e) in
         record {
           course = a .course ∙ ap (λ (y : Stretch). courseTo ds goal (y .events)) q ∙ p .0;
           state = λ u. a .state u ∙ ap (λ (y : Stretch). y .state) q ∙ p .1;

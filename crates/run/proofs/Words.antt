@@ -130,12 +130,12 @@ module _ (bs : List ℕ) (h : Header) where
         (λ depth close at k c first second rest end k₁ v go₁ go₂ go₃ f s p.
         then-in
         (cond (holds bs c s)
-        (run.after (took (k .ifs) 0 (accesses k) ∷ []) (runArm bs ins h first (take s (k .ifs) 0)))
-        (run.after (took (k .ifs) 1 (accesses k) ∷ []) (runArm bs ins h second (take s (k .ifs) 1))))
+        (run.after (took (k .ifs) 0 ∷ []) (runArm bs ins h first (take s (k .ifs) 0)))
+        (run.after (took (k .ifs) 1 ∷ []) (runArm bs ins h second (take s (k .ifs) 1))))
         (runArm bs ins h rest)
         (cond-in (holds bs c s)
-        (run.after (took (k .ifs) 0 (accesses k) ∷ []) (runArm bs ins h first (take s (k .ifs) 0)))
-        (run.after (took (k .ifs) 1 (accesses k) ∷ []) (runArm bs ins h second (take s (k .ifs) 1)))
+        (run.after (took (k .ifs) 0 ∷ []) (runArm bs ins h first (take s (k .ifs) 0)))
+        (run.after (took (k .ifs) 1 ∷ []) (runArm bs ins h second (take s (k .ifs) 1)))
         (go₁ (f .0) (take s (k .ifs) 0) p) (go₂ (f .1) (take s (k .ifs) 1) p))
         (go₃ (f .2)))
 

@@ -7,11 +7,11 @@ use Rattle.bitvec.specs.declared.Whole.{Whole}
 use Rattle.run.specs.Run.{Event, took, came}
 use Rattle.run.specs.Course.{keeps}
 
--- at every if that the run comes to and that stands before the access, it takes the decided arm, if one is decided
-unfoldable pub goesWay : (ds : List ℕ) → (access : ℕ) → List Event → Bool
-goesWay ds access [] = true
-goesWay ds access (took number arm before ∷ es) = keeps ds access number arm before && goesWay ds access es
-goesWay ds access (came number array index ∷ es) = goesWay ds access es
+-- at every if that the run comes to and that stands before the access, before which `before` ifs stand, it takes the decided arm, if one is decided
+unfoldable pub goesWay : (ds : List ℕ) → (before : ℕ) → List Event → Bool
+goesWay ds before [] = true
+goesWay ds before (took number arm ∷ es) = keeps ds before number arm && goesWay ds before es
+goesWay ds before (came number array index ∷ es) = goesWay ds before es
 
 -- the run comes to the access, in an array, with an index
 pub record Comes (access array : ℕ) (index : Whole) (es : List Event) : Type 0 where
@@ -20,8 +20,8 @@ pub record Comes (access array : ℕ) (index : Whole) (es : List Event) : Type 0
   pub there : es ≡ before ++ came access array index ∷ after
 
 -- the run goes the way, and comes to the access in some array, with some index
-pub record Reaches (ds : List ℕ) (access : ℕ) (es : List Event) : Type 0 where
+pub record Reaches (ds : List ℕ) (access before : ℕ) (es : List Event) : Type 0 where
   pub array : ℕ
   pub index : Whole
-  pub goes : goesWay ds access es ≡ true
+  pub goes : goesWay ds before es ≡ true
   pub comes : Comes access array index es

@@ -3,6 +3,7 @@ use Prim.Native.Nat.{ℕ}
 use mathlib.Core.List.{List, [], _∷_, _++_}
 use mathlib.Core.Bool.{cond}
 use Rattle.bitvec.specs.declared.Whole.{Whole}
+use Rattle.routine_command.specs.Command.{touches}
 use Rattle.routine_faults.specs.Step.{accesses}
 use Rattle.routine_faults.specs.Inputs.{given}
 use Rattle.routine.specs.Routine.{Arm, done, plain, fork}
@@ -10,14 +11,14 @@ use Rattle.routine_header.specs.declared.Header.{Header}
 use Rattle.routine_faults.specs.declared.Counts.{Counts}
 use Rattle.routine_command.specs.declared.Condition.{Condition}
 use Rattle.routine_command.specs.declared.Simple.{Simple}
+use Rattle.routine_command.specs.declared.Touch.{Touch}
 use Rattle.run_machine.specs.State.{start, take, holds, indexOf, carry}
 use Rattle.run_machine.specs.declared.Outcome.{Outcome}
 use Rattle.run_machine.specs.declared.State.{State}
 
--- what a run comes to: an if, with the arm taken there (0 first, 1 else) and the number of accesses that stand before it in the text; or an access, with its
--- array and its index
+-- what a run comes to: an if, with the arm taken there (0 first, 1 else); or an access, with its array and its index
 pub data Event : Type 0 where
-  took : (number arm before : ℕ) → Event
+  took : (number arm : ℕ) → Event
   came : (access array : ℕ) → Whole → Event
 
 -- a stretch of a run: what it came to, in order, and the state that it left
@@ -38,20 +39,22 @@ unlessStopped (Outcome.Stopped access index side) es s go = record { events = es
 abbrev pub andThen : Stretch → (State → Stretch) → Stretch
 andThen x go = unlessStopped (x .state .outcome) (x .events) (x .state) go
 
+-- what a run comes to, by what a command does with an array
+abbrev pub eventsBy : List ℕ → Touch → Counts → State → List Event
+eventsBy bs Touch.Nothing k s = []
+eventsBy bs (Touch.Reads d array i) k s = came (accesses k) array (indexOf bs s i) ∷ []
+eventsBy bs (Touch.Writes array i) k s = came (accesses k) array (indexOf bs s i) ∷ []
+
 -- what a run comes to at a command that is no if
 abbrev pub eventsAt : List ℕ → Simple → Counts → State → List Event
-eventsAt bs (Simple.Set d c) k s = []
-eventsAt bs (Simple.Convert op d a) k s = []
-eventsAt bs (Simple.Compute op d a b) k s = []
-eventsAt bs (Simple.Read d array i) k s = came (accesses k) array (indexOf bs s i) ∷ []
-eventsAt bs (Simple.Write array i a) k s = came (accesses k) array (indexOf bs s i) ∷ []
+eventsAt bs c k s = eventsBy bs (touches c) k s
 
 -- an if with these arms, where the counts are k: the arm that its condition chooses
 abbrev pub runIf : List ℕ → Condition → Counts → (first second : State → Stretch) → State → Stretch
 runIf bs c k first second s =
     cond (holds bs c s)
-    (after (took (k .ifs) 0 (accesses k) ∷ []) (first (take s (k .ifs) 0)))
-    (after (took (k .ifs) 1 (accesses k) ∷ []) (second (take s (k .ifs) 1)))
+    (after (took (k .ifs) 0 ∷ []) (first (take s (k .ifs) 0)))
+    (after (took (k .ifs) 1 ∷ []) (second (take s (k .ifs) 1)))
 
 -- the run of an arm from a state
 unfoldable pub runArm : (bs ins : List ℕ) → Header → Arm → State → Stretch

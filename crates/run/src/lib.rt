@@ -11,10 +11,10 @@ use run_machine::Side;
 use run_machine::State;
 ghost use Rattle.run.specs.Answer.{Answers};
 
-// How far a run is followed: to its end, or as far as the access of a number.
+// How far a run is followed: to its end, or as far as the access of a number, before which so many ifs stand.
 pub enum Goal {
     End,
-    Access(u8),
+    Access { number: u8, before: u8 },
 }
 
 // What a run did as far as the goal.

@@ -3,11 +3,13 @@ use crate::Course;
 use crate::Goal;
 use crate::Ran;
 use crate::ways::follow;
+use routine::seeking::ifs_before;
 use routine_header::Header;
 use run_machine::Outcome;
 use run_machine::State;
 ghost use mathlib.Core.Path.{_≡_};
 ghost use Rattle.routine.specs.Decode.{IsRoutine, commandsIn};
+ghost use Rattle.routine.specs.Access.{ifsBefore};
 ghost use Rattle.run.specs.Run.{runOf};
 ghost use Rattle.run.specs.Course.{course};
 ghost use Rattle.run.specs.Answer.{ranBy};
@@ -31,9 +33,14 @@ pub fn run_to_access(
     h: Header,
 ) -> Course
     requires { ⌜ IsRoutine (now routine) h ⌝ }
-    ensures { λ r. ⌜ r ≡ course (now (decisions .entry)) access (runOf (now (routine .entry)) (now (inputs .entry)) h (commandsIn (now (routine .entry))) .events) ⌝ }
+    ensures { λ r. ⌜ r ≡ course (now (decisions .entry)) access (ifsBefore (commandsIn (now (routine .entry))) access) (runOf (now (routine .entry)) (now (inputs .entry)) h (commandsIn (now (routine .entry))) .events) ⌝ }
 {
-    let w = follow(routine, inputs, decisions, Goal::Access(access), h);
+    let before = ifs_before(routine, h, access);
+    let goal = Goal::Access {
+        number: access,
+        before,
+    };
+    let w = follow(routine, inputs, decisions, goal, h);
     w.course
 }
 

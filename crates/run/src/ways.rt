@@ -6,8 +6,10 @@ use routine::walks::pass_arm;
 use routine_command::Command;
 use routine_command::Condition;
 use routine_command::Simple;
+use routine_command::Touch;
 use routine_command::commands::command_at;
 use routine_command::commands::simple_size;
+use routine_command::commands::touched;
 use routine_faults::Counts;
 use routine_faults::steps::accesses_of;
 use routine_faults::steps::counts_after;
@@ -34,17 +36,17 @@ ghost use Rattle.run.specs.Run.{came, eventsAt, runOf};
 ghost use Rattle.run.specs.Course.{keepsTo, courseTo};
 ghost use Rattle.run.specs.Inner.Walker.{settled, isEnded, isDone, wayAt, armAt, FollowsArm, FollowsIf};
 
-// Whether an arm taken at the if before which the counts are k is by the decisions, or the if does not matter on the way to the goal.
-fn keeps_to(decisions: &[u8], goal: Goal, k: Counts, arm: u8) -> bool
-    ensures { λ r. ⌜ r ≡ keepsTo (now (decisions .entry)) goal (k .ifs) arm (accesses k) ⌝ }
+// Whether an arm taken at the if of this number is by the decisions, or the if does not matter on the way to the goal.
+fn keeps_to(decisions: &[u8], goal: Goal, number: u8, arm: u8) -> bool
+    ensures { λ r. ⌜ r ≡ keepsTo (now (decisions .entry)) goal number arm ⌝ }
 {
     match goal {
         Goal::End => true,
-        Goal::Access(access) => {
-            if wide(access) < accesses_of(k) {
+        Goal::Access { number: _, before } => {
+            if before <= number {
                 return true;
             }
-            let decision = byte_at(decisions, k.ifs as usize);
+            let decision = byte_at(decisions, number as usize);
             if decision == 2 {
                 return true;
             }
@@ -60,8 +62,8 @@ fn arrival(bytes: &[u8], s: State, goal: Goal, k: Counts, array: u8, i: u8) -> C
 {
     match goal {
         Goal::End => Course::Passing,
-        Goal::Access(access) => {
-            if accesses_of(k) != wide(access) {
+        Goal::Access { number, before: _ } => {
+            if accesses_of(k) != wide(number) {
                 return Course::Passing;
             }
             let index = s.index(bytes, i);
@@ -75,12 +77,10 @@ fn course_at(bytes: &[u8], h: Header, s: State, goal: Goal, c: Simple, k: Counts
     requires { ⌜ Sound (now bytes) h c × Fine (now bytes) h ⌝ }
     ensures { λ r. ⌜ r ≡ courseTo [] goal (eventsAt (now (bytes .entry)) c k s) ⌝ }
 {
-    match c {
-        Simple::Set { .. } => Course::Passing,
-        Simple::Convert { .. } => Course::Passing,
-        Simple::Compute { .. } => Course::Passing,
-        Simple::Read { d: _, array, i } => arrival(bytes, s, goal, k, array, i),
-        Simple::Write { array, i, s: _ } => arrival(bytes, s, goal, k, array, i),
+    match touched(c) {
+        Touch::Nothing => Course::Passing,
+        Touch::Reads { d: _, array, i } => arrival(bytes, s, goal, k, array, i),
+        Touch::Writes { array, i } => arrival(bytes, s, goal, k, array, i),
     }
 }
 
@@ -156,7 +156,7 @@ fn follow_if(
     let s = start.state;
     let inside = counts_after_if(k);
     let arm = arm_at(bytes, h, s, c);
-    if !keeps_to(decisions, goal, k, arm) {
+    if !keeps_to(decisions, goal, k.ifs, arm) {
         return way(at, k, s, Course::Astray(k.ifs));
     }
     if arm == 0 {

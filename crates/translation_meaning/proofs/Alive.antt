@@ -13,6 +13,7 @@ use Rattle.routine_faults.specs.Inner.Sound.{Fine}
 use Rattle.routine_header.specs.declared.Header.{Header}
 use Rattle.routine_faults.specs.declared.Counts.{Counts}
 use Rattle.routine.proofs.Views.{induction}
+use Rattle.routine.proofs.Numbering.{EachIf, Before}
 use Rattle.run_machine.specs.State.{take, holds, carry}
 use Rattle.run.specs.Run as run
 use Rattle.run.specs.Run.{took, eventsAt, runArm}
@@ -38,7 +39,7 @@ use Rattle.routine_faults.proofs.Tests.{not-both}
 use Rattle.translation_meaning.proofs.Stretches.{then-by, arm-length}
 use Rattle.translation_meaning.proofs.Tally.{Tallies, tally-then}
 
-module _ (bs ins : List ℕ) (h : Header) (fine : Fine bs h) (t : Target) (ds : List ℕ) (ρ : Assign) (o : ρ 1 ≡ true) where
+module _ (bs ins : List ℕ) (h : Header) (fine : Fine bs h) (t : Target) (ds : List ℕ) (before : ℕ) (ρ : Assign) (o : ρ 1 ≡ true) where
   abbrev I : Inputs
   I = bitsOfList ins
 
@@ -57,49 +58,51 @@ module _ (bs ins : List ℕ) (h : Header) (fine : Fine bs h) (t : Target) (ds : 
 
   -- a stretch that tallies, and what goes on after it
   goes-on : (g : ℕ) (x : Stretch) (go : ℕ → Wires → Stretch) (y : run.Stretch) (on : State → run.Stretch)
-      → (Models I ρ g (x .nodes) → Tallies bs h fine t ds ρ x y) → (x .wires .claim ≡ Claim.Open → Runs bs ins h fine t ds ρ o go on)
+      → (Models I ρ g (x .nodes) → Tallies bs h fine t ds before ρ x y) → (x .wires .claim ≡ Claim.Open → Runs bs ins h fine t ds before ρ o go on)
       → ((g₁ : ℕ) (s : Wires) → Deadens I ρ o bs h t ds g₁ s (go g₁ s))
-      → (isMade (x .wires .claim) ≡ true → (r : State) → Elsewhere (course ds (t .access) (on r .events)))
-      → Models I ρ g (andThen g x go .nodes) → Tallies bs h fine t ds ρ (andThen g x go) (run.andThen y on)
+      → (isMade (x .wires .claim) ≡ true → (r : State) → Elsewhere (course ds (t .access) before (on r .events)))
+      → Models I ρ g (andThen g x go .nodes) → Tallies bs h fine t ds before ρ (andThen g x go) (run.andThen y on)
   goes-on g x go y on p f dead apart m =
-      tally-then bs h fine t ds ρ g x go y on (p (models-first g x go m))
+      tally-then bs h fine t ds before ρ g x go y on (p (models-first g x go m))
       (λ l e u w. f e (g + length (x .nodes)) (x .wires) (y .state) (models-next g x go e m) (record { unclaimed = e; come = l; going = u; worth = w }))
       (λ e l. dead (g + length (x .nodes)) (x .wires) (models-next g x go e m) l)
       (λ q. apart q (y .state))
 
-  -- an arm that does not stand after the named access
+  -- an arm that does not stand after the named access, before which `before` ifs stand
   pub arm-alive : t .side ≤ 1 → ((n : ℕ) → entry ds n ≤ 2) → (a : Arm) (depth close at : ℕ) (k : Counts) (end : ℕ) (k₁ : Counts)
-      → Stands bs h depth close at k a end k₁ → Fit bs ins h a → accesses k ≤ t .access → Runs bs ins h fine t ds ρ o (armOf bs h t ds a) (runArm bs ins h a)
+      → Stands bs h depth close at k a end k₁ → Fit bs ins h a → EachIf (Before before (t .access)) a → accesses k ≤ t .access
+      → Runs bs ins h fine t ds before ρ o (armOf bs h t ds a) (runArm bs ins h a)
   unfolding armOf runArm courseTo
   arm-alive sd few =
-      induction bs h (λ depth close at k a end k₁. Fit bs ins h a → accesses k ≤ t .access → Runs bs ins h fine t ds ρ o (armOf bs h t ds a) (runArm bs ins h a))
-      (λ depth close at k mark e l f ahead g s r m a. alive-through bs ins h fine t ds ρ o s _ r a refl)
-      (λ depth close at k c rest end k₁ v go f ahead g s r m a.
+      induction bs h (λ depth close at k a end k₁. Fit bs ins h a → EachIf (Before before (t .access)) a → accesses k ≤ t .access
+      → Runs bs ins h fine t ds before ρ o (armOf bs h t ds a) (runArm bs ins h a))
+      (λ depth close at k mark e l f n ahead g s r m a. alive-through bs ins h fine t ds before ρ o s _ r a refl)
+      (λ depth close at k c rest end k₁ v go f n ahead g s r m a.
       let p = simple-claims t bs h ds g c k s (a .unclaimed) in
       goes-on g (simple bs h t g c k s) (armOf bs h t ds rest) (record { events = eventsAt bs c k r; state = carry bs ins h c k r }) (runArm bs ins h rest)
-      (λ m₁. simple-alive bs ins h fine t ds ρ o sd g c k s r (v .sound) (f .0) m₁ a)
-      (λ e. go (f .1) (p .unnamed (ap isMade e) ahead)) (arm-dead I ρ o bs h t ds rest)
-      (λ q. misses bs ins h ds (t .access) rest depth close (at + sizeOfSimple c) (after c k) end k₁ (v .stands) (p .named q .1)) m)
-      (λ depth close at k c first second rest end k₁ v go₁ go₂ go₃ f ahead g s r m a.
+      (λ m₁. simple-alive bs ins h fine t ds before ρ o sd g c k s r (v .sound) (f .0) m₁ a)
+      (λ e. go (f .1) n (p .unnamed (ap isMade e) ahead)) (arm-dead I ρ o bs h t ds rest)
+      (λ q. misses bs ins h ds (t .access) before rest depth close (at + sizeOfSimple c) (after c k) end k₁ (v .stands) (p .named q .1)) m)
+      (λ depth close at k c first second rest end k₁ v go₁ go₂ go₃ f n ahead g s r m a.
       let l₁ = accesses-grow bs h first (depth + 1) 12 (at + 4) (oneIf k) (v .else) (v .k₂) (v .stands-first) in
       let l₂ = accesses-grow bs h second (depth + 1) 13 (v .else) (v .k₂) (v .next) (v .k₃) (v .stands-second) in
       let p₁ = arm-claims t bs h ds first (depth + 1) 12 (at + 4) (oneIf k) (v .else) (v .k₂) (v .stands-first) in
       let p₂ = arm-claims t bs h ds second (depth + 1) 13 (v .else) (v .k₂) (v .next) (v .k₃) (v .stands-second) in
       let x₁ = armOf bs h t ds first in
       let x₂ = armOf bs h t ds second in
-      let arms : Arms bs ins h fine t ds ρ o x₁ x₂ (runArm bs ins h first) (runArm bs ins h second) = record {
-        one = go₁ (f .0) ahead;
-        two = λ g₁ s₁ e q. go₂ (f .1) (p₁ g₁ s₁ e .unnamed q ahead);
+      let arms : Arms bs ins h fine t ds before ρ o x₁ x₂ (runArm bs ins h first) (runArm bs ins h second) = record {
+        one = go₁ (f .0) (n .1) ahead;
+        two = λ g₁ s₁ e q. go₂ (f .1) (n .2) (p₁ g₁ s₁ e .unnamed q ahead);
         dead₁ = arm-dead I ρ o bs h t ds first;
         dead₂ = arm-dead I ρ o bs h t ds second;
         places = arm-length bs h t ds first;
-        apart = λ g₁ s₁ e q. misses bs ins h ds (t .access) second (depth + 1) 13 (v .else) (v .k₂) (v .next) (v .k₃) (v .stands-second) (p₁ g₁ s₁ e .named q .1);
+        apart = λ g₁ s₁ e q. misses bs ins h ds (t .access) before second (depth + 1) 13 (v .else) (v .k₂) (v .next) (v .k₃) (v .stands-second) (p₁ g₁ s₁ e .named q .1);
       } in
       let p = fork-claims t bs h ds x₁ x₂ k (v .k₂) (v .k₃) p₁ p₂ l₁ l₂ (entry ds (k .ifs)) g c s (a .unclaimed) in
       goes-on g (forked bs h (entry ds (k .ifs)) g c s x₁ x₂) (armOf bs h t ds rest)
-      (cond (holds bs c r) (run.after (took (k .ifs) 0 (accesses k) ∷ []) (runArm bs ins h first (take r (k .ifs) 0)))
-      (run.after (took (k .ifs) 1 (accesses k) ∷ []) (runArm bs ins h second (take r (k .ifs) 1))))
+      (cond (holds bs c r) (run.after (took (k .ifs) 0 ∷ []) (runArm bs ins h first (take r (k .ifs) 0)))
+      (run.after (took (k .ifs) 1 ∷ []) (runArm bs ins h second (take r (k .ifs) 1))))
       (runArm bs ins h rest)
-      (fork-alive bs ins h fine t ds ρ o x₁ x₂ (runArm bs ins h first) (runArm bs ins h second) arms (k .ifs) (few (k .ifs)) (accesses k) ahead g c s r (v .sound) a)
-      (λ e. go₃ (f .2) (p .unnamed (ap isMade e) ahead)) (arm-dead I ρ o bs h t ds rest)
-      (λ q. misses bs ins h ds (t .access) rest depth close (v .next) (v .k₃) end k₁ (v .stands) (p .named q .1)) m)
+      (fork-alive bs ins h fine t ds before ρ o x₁ x₂ (runArm bs ins h first) (runArm bs ins h second) arms (k .ifs) (few (k .ifs)) (n .0 .1 ahead) g c s r (v .sound) a)
+      (λ e. go₃ (f .2) (n .3) (p .unnamed (ap isMade e) ahead)) (arm-dead I ρ o bs h t ds rest)
+      (λ q. misses bs ins h ds (t .access) before rest depth close (v .next) (v .k₃) end k₁ (v .stands) (p .named q .1)) m)

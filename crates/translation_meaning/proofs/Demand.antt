@@ -13,11 +13,13 @@ use Rattle.routine_faults.specs.Step.{accesses}
 use Rattle.routine_faults.specs.Inputs.{given}
 use Rattle.routine.specs.Routine.{Arm}
 use Rattle.routine.specs.Decode.{routine, decode, noCounts}
+use Rattle.routine.specs.Access.{ifsBefore}
 use Rattle.routine.specs.Inner.Stands.{Stands}
 use Rattle.routine_faults.specs.Inner.Sound.{Fine}
 use Rattle.routine_header.specs.declared.Header.{Header}
 use Rattle.routine_faults.specs.declared.Counts.{Counts}
 use Rattle.routine.proofs.Accepted.{decoded}
+use Rattle.routine.proofs.Numbering.{ifs-before}
 use Rattle.routine_faults.proofs.Fine.{fine}
 use Rattle.run_inputs.specs.Inputs.{listed}
 use Rattle.run_machine.specs.State as state
@@ -57,16 +59,17 @@ use Rattle.translation_meaning.proofs.Worth.{parameters-worth}
 
 -- ---- what a tally with the claim made says
 
-module _ (bs : List ℕ) (h : Header) (f : Fine bs h) (t : Target) (ds : List ℕ) (ρ : Assign) (w : Wires) (side : ℕ)
+module _ (bs : List ℕ) (h : Header) (f : Fine bs h) (t : Target) (ds : List ℕ) (before : ℕ) (ρ : Assign) (w : Wires) (side : ℕ)
     (made : w .claim ≡ Claim.Made (w .arrival) side) (es : List Event)
-    (same : (array : ℕ) (index : Whole) → (course ds (t .access) es ≡ Course.Arrived array index) ↔ ((goesWay ds (t .access) es ≡ true) × Comes (t .access) array index es)) where
+    (same : (array : ℕ) (index : Whole)
+    → (course ds (t .access) before es ≡ Course.Arrived array index) ↔ ((goesWay ds before es ≡ true) × Comes (t .access) array index es)) where
   abbrev c : Course
-  c = course ds (t .access) es
+  c = course ds (t .access) before es
 
-  elsewhere : (array : ℕ) (index : Whole) → Elsewhere c → goesWay ds (t .access) es ≡ true → Comes (t .access) array index es → ⊥
+  elsewhere : (array : ℕ) (index : Whole) → Elsewhere c → goesWay ds before es ≡ true → Comes (t .access) array index es → ⊥
   elsewhere array index e way there = subst Elsewhere (same array index .1 (way, there)) e
 
-  arrives-says : (r : State) → Tally bs h f t ds ρ w c r → (lit ρ (w .arrival) ≡ true) ↔ Reaches ds (t .access) es
+  arrives-says : (r : State) → Tally bs h f t ds before ρ w c r → (lit ρ (w .arrival) ≡ true) ↔ Reaches ds (t .access) before es
   arrives-says r (through e l p u v) = not-both true refl (ap isMade (sym made ∙ e))
   arrives-says r (lost e l p) = not-both true refl (ap isMade (sym made ∙ e))
   arrives-says r (missed e l p) = ((λ q. not-both (lit ρ (w .arrival)) q l), (λ a. absurd (elsewhere (a .array) (a .index) p (a .goes) (a .comes))))
@@ -85,7 +88,7 @@ module _ (bs : List ℕ) (h : Header) (f : Fine bs h) (t : Target) (ds : List �
       (subst (λ (z : Whole). (lit ρ side₁ ≡ true) ↔ (isOn (t .side) (lies (arraySize bs h array) z) ≡ true)) i
       (subst (λ (z : ℕ). (lit ρ side₁ ≡ true) ↔ (isOn (t .side) (lies (arraySize bs h z) index₁) ≡ true)) a q))
 
-  lies-says : (r : State) → Tally bs h f t ds ρ w c r → goesWay ds (t .access) es ≡ true → (array : ℕ) (index : Whole) → Comes (t .access) array index es
+  lies-says : (r : State) → Tally bs h f t ds before ρ w c r → goesWay ds before es ≡ true → (array : ℕ) (index : Whole) → Comes (t .access) array index es
       → (lit ρ side ≡ true) ↔ (isOn (t .side) (lies (arraySize bs h array) index) ≡ true)
   lies-says r (through e l p u v) way array index there = not-both true refl (ap isMade (sym made ∙ e))
   lies-says r (lost e l p) way array index there = not-both true refl (ap isMade (sym made ∙ e))
@@ -103,6 +106,10 @@ module _ (bs : List ℕ) (t : Target) (ds : List ℕ) (h : Header) (a : Arm) (k 
 
   stands : Stands bs h 0 0 (firstCommand h) noCounts a (length bs) k
   stands = decoded bs h a k is .stands
+
+  -- how many ifs stand before the named access
+  abbrev before : ℕ
+  before = ifsBefore a (t .access)
 
   abbrev ps : List Node
   ps = parameterNodes bs (given h)
@@ -158,7 +165,7 @@ module _ (bs : List ℕ) (t : Target) (ds : List ℕ) (h : Header) (a : Arm) (k 
       parts = models-append I ρ 2 ps (x .nodes) (models .1)
 
       -- at the start the parameters have their words
-      alive : Alive bs ins h ok t ds ρ truth (start bs (given h)) (state.start ins (given h))
+      alive : Alive bs ins h ok t ds before ρ truth (start bs (given h)) (state.start ins (given h))
       unfolding start state.start
       alive = record {
         unclaimed = refl;
@@ -167,16 +174,16 @@ module _ (bs : List ℕ) (t : Target) (ds : List ℕ) (h : Header) (a : Arm) (k 
         worth = parameters-worth bs h ok ρ ins truth (given h) (ok .parameters) (fits .parameters) (parts .0);
       }
 
-      tally : Tally bs h ok t ds ρ (x .wires) (course ds (t .access) (runOf bs ins h a .events)) (runOf bs ins h a .state)
+      tally : Tally bs h ok t ds before ρ (x .wires) (course ds (t .access) before (runOf bs ins h a .events)) (runOf bs ins h a .state)
       unfolding runOf
       tally =
-          arm-alive bs ins h ok t ds ρ truth side few a 0 0 (firstCommand h) noCounts (length bs) k stands (fits .reads) (omega arith) g (start bs (given h))
-          (state.start ins (given h)) (parts .1) alive
+          arm-alive bs ins h ok t ds before ρ truth side few a 0 0 (firstCommand h) noCounts (length bs) k stands (fits .reads)
+          (ifs-before bs h a k is (t .access) named) (omega arith) g (start bs (given h)) (state.start ins (given h)) (parts .1) alive
 
   -- its course arrived just where it goes the way and comes to the access
-  same : (ins : List ℕ) (array : ℕ) (index : Whole) → (course ds (t .access) (runOf bs ins h a .events) ≡ Course.Arrived array index)
-      ↔ ((goesWay ds (t .access) (runOf bs ins h a .events) ≡ true) × Comes (t .access) array index (runOf bs ins h a .events))
-  same ins = arrival bs ins ds h a k is (t .access)
+  same : (ins : List ℕ) (array : ℕ) (index : Whole) → (course ds (t .access) before (runOf bs ins h a .events) ≡ Course.Arrived array index)
+      ↔ ((goesWay ds before (runOf bs ins h a .events) ≡ true) × Comes (t .access) array index (runOf bs ins h a .events))
+  same ins = arrival bs ins ds h a k is (t .access) named
 
   all-parts : Faithful bs t ds h a k
   unfolding whole
@@ -189,8 +196,8 @@ module _ (bs : List ℕ) (t : Target) (ds : List ℕ) (h : Header) (a : Arm) (k 
     only = λ ins e ρ σ p q v l m.
         satisfied-iff (bitsOfList ins) ρ (whole bs t ds h a .nodes) formed .0 (p .satisfies, p .extends) v l m
         ∙ sym (satisfied-iff (bitsOfList ins) σ (whole bs t ds h a .nodes) formed .0 (q .satisfies, q .extends) v l m);
-    arrives = λ ins e ρ p. arrives-says bs h ok t ds ρ (x .wires) (made .side) claims (runOf bs ins h a .events) (same ins) (runOf bs ins h a .state) (tally ins e ρ p);
-    lies = λ ins e ρ p. lies-says bs h ok t ds ρ (x .wires) (made .side) claims (runOf bs ins h a .events) (same ins) (runOf bs ins h a .state) (tally ins e ρ p);
+    arrives = λ ins e ρ p. arrives-says bs h ok t ds before ρ (x .wires) (made .side) claims (runOf bs ins h a .events) (same ins) (runOf bs ins h a .state) (tally ins e ρ p);
+    lies = λ ins e ρ p. lies-says bs h ok t ds before ρ (x .wires) (made .side) claims (runOf bs ins h a .events) (same ins) (runOf bs ins h a .state) (tally ins e ρ p);
   }
 
 -- a claim on an access that the routine has, on a side that there is, by decisions that there are

@@ -7,7 +7,7 @@ use Prim.Native.Nat.{ℕ, zero, suc, _<_, _≤_}
 use native.Mathlib.Omega.{arith}
 use lib.ListN.{length}
 use lib.Dec.{eqb}
-use borrow.Author.Tests.{le-ltb}
+use borrow.Author.Tests.{lt-ltb}
 use Rattle.slices.specs.Bytes.{entry}
 use Rattle.bitvec.specs.Relation.{relates}
 use Rattle.routine_header.specs.Header.{width}
@@ -55,7 +55,7 @@ follows-else (suc zero) l = refl
 follows-else (suc (suc zero)) l = refl
 follows-else (suc (suc (suc d))) l = absurd (omega arith)
 
-module _ (bs ins : List ℕ) (h : Header) (fine : Fine bs h) (t : Target) (ds : List ℕ) (ρ : Assign) (o : ρ 1 ≡ true) where
+module _ (bs ins : List ℕ) (h : Header) (fine : Fine bs h) (t : Target) (ds : List ℕ) (before : ℕ) (ρ : Assign) (o : ρ 1 ≡ true) where
   abbrev I : Inputs
   I = bitsOfList ins
 
@@ -71,7 +71,7 @@ module _ (bs ins : List ℕ) (h : Header) (fine : Fine bs h) (t : Target) (ds : 
       ∙ ap₂ (relates (c .relation) v) (w .worth (c .s) (f .1)) (ap (value ρ (bitsOf bs s (c .t))) (f .3) ∙ w .worth (c .t) (f .2))
 
   -- where no claim was made, the run did not come to the named access
-  open-elsewhere : (w : Wires) (c : Course) (r : State) → Tally bs h fine t ds ρ w c r → isMade (w .claim) ≡ false → Elsewhere c
+  open-elsewhere : (w : Wires) (c : Course) (r : State) → Tally bs h fine t ds before ρ w c r → isMade (w .claim) ≡ false → Elsewhere c
   open-elsewhere w c r (through e l p u v) q = subst Elsewhere (sym p) tt
   open-elsewhere w c r (lost e l p) q = ended-elsewhere c r p
   open-elsewhere w c r (missed e l p) q = p
@@ -99,8 +99,8 @@ module _ (bs ins : List ℕ) (h : Header) (fine : Fine bs h) (t : Target) (ds : 
     first-worth e n w = join-first bs h fine ρ I g l (x .lits) (y .lits) n (r .values) e (joined-gates I ρ bs h g l x y m) w
 
     -- the first arm was taken
-    joined-first : lit ρ l ≡ true → lit ρ (y .arrival) ≡ false → length (x .lits) ≡ 1024 → isMade (x .claim) ≡ false → Tally bs h fine t ds ρ x c r
-        → Tally bs h fine t ds ρ (joined bs h g l x y .wires) c r
+    joined-first : lit ρ l ≡ true → lit ρ (y .arrival) ≡ false → length (x .lits) ≡ 1024 → isMade (x .claim) ≡ false → Tally bs h fine t ds before ρ x c r
+        → Tally bs h fine t ds before ρ (joined bs h g l x y .wires) c r
     joined-first e f n q (through a b p u w) = through joined-open (left-first f ∙ b) p u (first-worth e n w)
     joined-first e f n q (lost a b p) = lost joined-open (left-first f ∙ b) p
     joined-first e f n q (missed a b p) = not-both (isMade (x .claim)) a q
@@ -111,8 +111,8 @@ module _ (bs ins : List ℕ) (h : Header) (fine : Fine bs h) (t : Target) (ds : 
     else-worth e n w = join-second bs h fine ρ I g l (x .lits) (y .lits) n (r .values) e (joined-gates I ρ bs h g l x y m) w
 
     -- the else was taken
-    joined-else : lit ρ l ≡ false → lit ρ (x .arrival) ≡ false → length (x .lits) ≡ 1024 → isMade (y .claim) ≡ false → Tally bs h fine t ds ρ y c r
-        → Tally bs h fine t ds ρ (joined bs h g l x y .wires) c r
+    joined-else : lit ρ l ≡ false → lit ρ (x .arrival) ≡ false → length (x .lits) ≡ 1024 → isMade (y .claim) ≡ false → Tally bs h fine t ds before ρ y c r
+        → Tally bs h fine t ds before ρ (joined bs h g l x y .wires) c r
     joined-else e f n q (through a b p u w) = through joined-open (left-else f ∙ b) p u (else-worth e n w)
     joined-else e f n q (lost a b p) = lost joined-open (left-else f ∙ b) p
     joined-else e f n q (missed a b p) = not-both (isMade (y .claim)) a q
@@ -122,7 +122,7 @@ module _ (bs ins : List ℕ) (h : Header) (fine : Fine bs h) (t : Target) (ds : 
 
   -- what an arm's translation and its run do, from where they are come to
   abbrev pub Runs : (ℕ → Wires → Stretch) → (State → run.Stretch) → Type 0
-  Runs go on = (g : ℕ) (s : Wires) (r : State) → Models I ρ g (go g s .nodes) → Alive bs ins h fine t ds ρ o s r → Tallies bs h fine t ds ρ (go g s) (on r)
+  Runs go on = (g : ℕ) (s : Wires) (r : State) → Models I ρ g (go g s .nodes) → Alive bs ins h fine t ds before ρ o s r → Tallies bs h fine t ds before ρ (go g s) (on r)
 
   -- what is known of the two arms
   pub record Arms (first second : ℕ → Wires → Stretch) (on₁ on₂ : State → run.Stretch) : Type 0 where
@@ -133,11 +133,11 @@ module _ (bs ins : List ℕ) (h : Header) (fine : Fine bs h) (t : Target) (ds : 
     pub dead₂ : (g : ℕ) (s : Wires) → Deadens I ρ o bs h t ds g s (second g s)
     pub places : (g : ℕ) (s : Wires) → length (first g s .wires .lits) ≡ length (s .lits)
     -- the named access is in the first arm, so a run of the second does not come to it
-    pub apart : (g : ℕ) (s : Wires) → s .claim ≡ Claim.Open → isMade (first g s .wires .claim) ≡ true → (r : State) → Elsewhere (course ds (t .access) (on₂ r .events))
+    pub apart : (g : ℕ) (s : Wires) → s .claim ≡ Claim.Open → isMade (first g s .wires .claim) ≡ true → (r : State) → Elsewhere (course ds (t .access) before (on₂ r .events))
 
-  -- the if of number n, which stands after the first `before` accesses, and not after the named one
+  -- the if of number n, which stands before the named access
   module _ (first second : ℕ → Wires → Stretch) (on₁ on₂ : State → run.Stretch) (arms : Arms first second on₁ on₂) (n : ℕ) (few : entry ds n ≤ 2)
-      (before : ℕ) (ahead : before ≤ t .access) (g : ℕ) (c : Condition) (s : Wires) (r : State) (sound : SoundIf bs h c) (a : Alive bs ins h fine t ds ρ o s r) where
+      (ahead : n < before) (g : ℕ) (c : Condition) (s : Wires) (r : State) (sound : SoundIf bs h c) (a : Alive bs ins h fine t ds before ρ o s r) where
     -- the decision, the condition's literal, and the parts of the if
     abbrev d : ℕ
     d = entry ds n
@@ -208,7 +208,7 @@ module _ (bs ins : List ℕ) (h : Header) (fine : Fine bs h) (t : Target) (ds : 
     says : Condition-models → lit ρ l ≡ holds bs c r
     says m = condition-says g c s r sound m (a .worth)
 
-    alive-at : (k : ℕ) (arm : ℕ) → lit ρ k ≡ true → Alive bs ins h fine t ds ρ o (arriving s k) (take r n arm)
+    alive-at : (k : ℕ) (arm : ℕ) → lit ρ k ≡ true → Alive bs ins h fine t ds before ρ o (arriving s k) (take r n arm)
     alive-at k arm e = record { unclaimed = a .unclaimed; come = e; going = a .going; worth = a .worth }
 
     -- the arrivals of the arms, by the truth of the condition
@@ -237,42 +237,42 @@ module _ (bs ins : List ℕ) (h : Header) (fine : Fine bs h) (t : Target) (ds : 
       z₁ = on₁ (take r n 0)
 
       abbrev c₁ : Course
-      c₁ = course ds (t .access) (z₁ .events)
+      c₁ = course ds (t .access) before (z₁ .events)
 
       else-dead : Condition-models → Branch-models → Models I ρ g₃ (y .nodes) → lit ρ (y .wires .arrival) ≡ false
       else-dead cm bm ym =
           arms .dead₂ g₃ s₂ ym (else-come cm bm ∙ ap (λ (b : Bool). cond (eqb d 0) false (not b)) e ∙ never (eqb d 0))
 
       -- the else was decided: the run goes astray, and both arms are dead
-      first-astray : eqb d 1 ≡ true → Fork-models → Tally bs h fine t ds ρ (forked bs h d g c s first second .wires) (Course.Astray n) (z₁ .state)
+      first-astray : eqb d 1 ≡ true → Fork-models → Tally bs h fine t ds before ρ (forked bs h d g c s first second .wires) (Course.Astray n) (z₁ .state)
       first-astray q =
-          by-claim (λ (w : Wires). Tally bs h fine t ds ρ w (Course.Astray n) (z₁ .state))
-          (λ cm bm xm p. not-here bs h fine t ds ρ (x .wires) (Course.Astray n) (z₁ .state) (dead cm bm xm) (strays (z₁ .state)))
-          (λ cm bm xm ym p p₁. not-here bs h fine t ds ρ (y .wires) (Course.Astray n) (z₁ .state) (else-dead cm bm ym) (strays (z₁ .state)))
-          (λ cm bm xm ym jm p p₁. not-here bs h fine t ds ρ (j .wires) (Course.Astray n) (z₁ .state)
+          by-claim (λ (w : Wires). Tally bs h fine t ds before ρ w (Course.Astray n) (z₁ .state))
+          (λ cm bm xm p. not-here bs h fine t ds before ρ (x .wires) (Course.Astray n) (z₁ .state) (dead cm bm xm) (strays (z₁ .state)))
+          (λ cm bm xm ym p p₁. not-here bs h fine t ds before ρ (y .wires) (Course.Astray n) (z₁ .state) (else-dead cm bm ym) (strays (z₁ .state)))
+          (λ cm bm xm ym jm p p₁. not-here bs h fine t ds before ρ (j .wires) (Course.Astray n) (z₁ .state)
           (left-first g₄ l (x .wires) (y .wires) jm (Course.Astray n) (z₁ .state) (else-dead cm bm ym) ∙ dead cm bm xm) (strays (z₁ .state)))
         where
           dead : Condition-models → Branch-models → Models I ρ g₂ (x .nodes) → lit ρ (x .wires .arrival) ≡ false
           dead cm bm xm = arms .dead₁ g₂ s₁ xm (first-come cm bm ∙ ap (λ (b : Bool). cond b false (holds bs c r)) q)
 
       -- it was not: the first arm is run
-      first-taken : eqb d 1 ≡ false → Fork-models → Tally bs h fine t ds ρ (forked bs h d g c s first second .wires) c₁ (z₁ .state)
+      first-taken : eqb d 1 ≡ false → Fork-models → Tally bs h fine t ds before ρ (forked bs h d g c s first second .wires) c₁ (z₁ .state)
       first-taken q =
-          by-claim (λ (w : Wires). Tally bs h fine t ds ρ w c₁ (z₁ .state))
+          by-claim (λ (w : Wires). Tally bs h fine t ds before ρ w c₁ (z₁ .state))
           (λ cm bm xm p. tally cm bm xm)
           (λ cm bm xm ym p p₁. missed p₁ (else-dead cm bm ym) (open-elsewhere (x .wires) c₁ (z₁ .state) (tally cm bm xm) p))
           (λ cm bm xm ym jm p p₁. joined-first g₄ l (x .wires) (y .wires) jm c₁ (z₁ .state) (says cm ∙ e) (else-dead cm bm ym) first-places p (tally cm bm xm))
         where
-          tally : Condition-models → Branch-models → Models I ρ g₂ (x .nodes) → Tally bs h fine t ds ρ (x .wires) c₁ (z₁ .state)
+          tally : Condition-models → Branch-models → Models I ρ g₂ (x .nodes) → Tally bs h fine t ds before ρ (x .wires) c₁ (z₁ .state)
           tally cm bm xm = arms .one g₂ s₁ (take r n 0) xm (alive-at (arrivals d g₁ (s .arrival) l .first) 0 (first-come cm bm ∙ ap₂ (λ (p v : Bool). cond p false v) q e))
 
-      first-run : Fork-models → Tallies bs h fine t ds ρ (forked bs h d g c s first second) (run.after (took n 0 before ∷ []) z₁)
+      first-run : Fork-models → Tallies bs h fine t ds before ρ (forked bs h d g c s first second) (run.after (took n 0 ∷ []) z₁)
       unfolding courseTo
       first-run mm =
-          rw (le-ltb (t .access) before ahead, follows-first d few)
+          rw (lt-ltb n before ahead, follows-first d few)
           (pick (eqb d 1) refl)
         where
-          pick : (b : Bool) → eqb d 1 ≡ b → Tally bs h fine t ds ρ (forked bs h d g c s first second .wires) (cond (not b) c₁ (Course.Astray n)) (z₁ .state)
+          pick : (b : Bool) → eqb d 1 ≡ b → Tally bs h fine t ds before ρ (forked bs h d g c s first second .wires) (cond (not b) c₁ (Course.Astray n)) (z₁ .state)
           pick true q = first-astray q mm
           pick false q = first-taken q mm
 
@@ -283,51 +283,51 @@ module _ (bs ins : List ℕ) (h : Header) (fine : Fine bs h) (t : Target) (ds : 
       z₂ = on₂ (take r n 1)
 
       abbrev c₂ : Course
-      c₂ = course ds (t .access) (z₂ .events)
+      c₂ = course ds (t .access) before (z₂ .events)
 
       first-dead : Condition-models → Branch-models → Models I ρ g₂ (x .nodes) → lit ρ (x .wires .arrival) ≡ false
       first-dead cm bm xm = arms .dead₁ g₂ s₁ xm (first-come cm bm ∙ ap (λ (b : Bool). cond (eqb d 1) false b) e ∙ never (eqb d 1))
 
       -- the first arm was decided: the run goes astray, and both arms are dead
-      else-astray : eqb d 0 ≡ true → Fork-models → Tally bs h fine t ds ρ (forked bs h d g c s first second .wires) (Course.Astray n) (z₂ .state)
+      else-astray : eqb d 0 ≡ true → Fork-models → Tally bs h fine t ds before ρ (forked bs h d g c s first second .wires) (Course.Astray n) (z₂ .state)
       else-astray q =
-          by-claim (λ (w : Wires). Tally bs h fine t ds ρ w (Course.Astray n) (z₂ .state))
-          (λ cm bm xm p. not-here bs h fine t ds ρ (x .wires) (Course.Astray n) (z₂ .state) (first-dead cm bm xm) (strays (z₂ .state)))
-          (λ cm bm xm ym p p₁. not-here bs h fine t ds ρ (y .wires) (Course.Astray n) (z₂ .state) (dead cm bm ym) (strays (z₂ .state)))
-          (λ cm bm xm ym jm p p₁. not-here bs h fine t ds ρ (j .wires) (Course.Astray n) (z₂ .state)
+          by-claim (λ (w : Wires). Tally bs h fine t ds before ρ w (Course.Astray n) (z₂ .state))
+          (λ cm bm xm p. not-here bs h fine t ds before ρ (x .wires) (Course.Astray n) (z₂ .state) (first-dead cm bm xm) (strays (z₂ .state)))
+          (λ cm bm xm ym p p₁. not-here bs h fine t ds before ρ (y .wires) (Course.Astray n) (z₂ .state) (dead cm bm ym) (strays (z₂ .state)))
+          (λ cm bm xm ym jm p p₁. not-here bs h fine t ds before ρ (j .wires) (Course.Astray n) (z₂ .state)
           (left-else g₄ l (x .wires) (y .wires) jm (Course.Astray n) (z₂ .state) (first-dead cm bm xm) ∙ dead cm bm ym) (strays (z₂ .state)))
         where
           dead : Condition-models → Branch-models → Models I ρ g₃ (y .nodes) → lit ρ (y .wires .arrival) ≡ false
           dead cm bm ym = arms .dead₂ g₃ s₂ ym (else-come cm bm ∙ ap (λ (b : Bool). cond b false (not (holds bs c r))) q)
 
       -- it was not: the else is run
-      else-taken : eqb d 0 ≡ false → Fork-models → Tally bs h fine t ds ρ (forked bs h d g c s first second .wires) c₂ (z₂ .state)
+      else-taken : eqb d 0 ≡ false → Fork-models → Tally bs h fine t ds before ρ (forked bs h d g c s first second .wires) c₂ (z₂ .state)
       else-taken q =
-          by-claim (λ (w : Wires). Tally bs h fine t ds ρ w c₂ (z₂ .state))
+          by-claim (λ (w : Wires). Tally bs h fine t ds before ρ w c₂ (z₂ .state))
           (λ cm bm xm p. missed p (first-dead cm bm xm) (arms .apart g₂ s₁ (a .unclaimed) p (take r n 1)))
           (λ cm bm xm ym p p₁. tally p cm bm ym)
           (λ cm bm xm ym jm p p₁. joined-else g₄ l (x .wires) (y .wires) jm c₂ (z₂ .state) (says cm ∙ e) (first-dead cm bm xm) first-places p₁ (tally p cm bm ym))
         where
-          tally : isMade (x .wires .claim) ≡ false → Condition-models → Branch-models → Models I ρ g₃ (y .nodes) → Tally bs h fine t ds ρ (y .wires) c₂ (z₂ .state)
+          tally : isMade (x .wires .claim) ≡ false → Condition-models → Branch-models → Models I ρ g₃ (y .nodes) → Tally bs h fine t ds before ρ (y .wires) c₂ (z₂ .state)
           tally u cm bm ym =
               arms .two g₂ s₁ (a .unclaimed) u g₃ s₂ (take r n 1) ym
               (alive-at (arrivals d g₁ (s .arrival) l .second) 1 (else-come cm bm ∙ ap₂ (λ (p v : Bool). cond p false (not v)) q e))
 
-      else-run : Fork-models → Tallies bs h fine t ds ρ (forked bs h d g c s first second) (run.after (took n 1 before ∷ []) z₂)
+      else-run : Fork-models → Tallies bs h fine t ds before ρ (forked bs h d g c s first second) (run.after (took n 1 ∷ []) z₂)
       unfolding courseTo
       else-run mm =
-          rw (le-ltb (t .access) before ahead, follows-else d few)
+          rw (lt-ltb n before ahead, follows-else d few)
           (pick (eqb d 0) refl)
         where
-          pick : (b : Bool) → eqb d 0 ≡ b → Tally bs h fine t ds ρ (forked bs h d g c s first second .wires) (cond (not b) c₂ (Course.Astray n)) (z₂ .state)
+          pick : (b : Bool) → eqb d 0 ≡ b → Tally bs h fine t ds before ρ (forked bs h d g c s first second .wires) (cond (not b) c₂ (Course.Astray n)) (z₂ .state)
           pick true q = else-astray q mm
           pick false q = else-taken q mm
 
     -- an if
     pub fork-alive : Models I ρ g (forked bs h d g c s first second .nodes)
-        → Tallies bs h fine t ds ρ (forked bs h d g c s first second)
-        (cond (holds bs c r) (run.after (took n 0 before ∷ []) (on₁ (take r n 0))) (run.after (took n 1 before ∷ []) (on₂ (take r n 1))))
+        → Tallies bs h fine t ds before ρ (forked bs h d g c s first second)
+        (cond (holds bs c r) (run.after (took n 0 ∷ []) (on₁ (take r n 0))) (run.after (took n 1 ∷ []) (on₂ (take r n 1))))
     fork-alive m =
-        by-cond (Tallies bs h fine t ds ρ (forked bs h d g c s first second)) (holds bs c r)
-        (run.after (took n 0 before ∷ []) (on₁ (take r n 0))) (run.after (took n 1 before ∷ []) (on₂ (take r n 1)))
+        by-cond (Tallies bs h fine t ds before ρ (forked bs h d g c s first second)) (holds bs c r)
+        (run.after (took n 0 ∷ []) (on₁ (take r n 0))) (run.after (took n 1 ∷ []) (on₂ (take r n 1)))
         (λ e. first-run e m) (λ e. else-run e m)

@@ -109,7 +109,7 @@ compute-word ins ρ o op g a b w = pick (eqb op 0x03) (eqb op 0x04) (eqb op 0x05
 
 -- ---- commands
 
-module _ (bs ins : List ℕ) (h : Header) (fine : Fine bs h) (t : Target) (ds : List ℕ) (ρ : Assign) (o : ρ 1 ≡ true) where
+module _ (bs ins : List ℕ) (h : Header) (fine : Fine bs h) (t : Target) (ds : List ℕ) (before : ℕ) (ρ : Assign) (o : ρ 1 ≡ true) where
   -- the run goes on with the state r, and comes to the wires s by the decisions
   pub record Alive (s : Wires) (r : State) : Type 0 where
     pub unclaimed : s .claim ≡ Claim.Open
@@ -117,7 +117,7 @@ module _ (bs ins : List ℕ) (h : Header) (fine : Fine bs h) (t : Target) (ds : 
     pub going : r .outcome ≡ Outcome.Going
     pub worth : Worth bs h fine ρ (s .lits) (r .values)
 
-  pub alive-through : (w : Wires) (c : Course) (r : State) → Alive w r → c ≡ Course.Passing → Tally bs h fine t ds ρ w c r
+  pub alive-through : (w : Wires) (c : Course) (r : State) → Alive w r → c ≡ Course.Passing → Tally bs h fine t ds before ρ w c r
   alive-through w c r a e = through (a .unclaimed) (a .come) e (a .going) (a .worth)
 
   pub alive-put : (s : Wires) (r : State) → Alive s r → (d : ℕ) (f : Bits) (x : ℕ) → d < h .variables → value ρ f (width bs d) ≡ x
@@ -130,11 +130,11 @@ module _ (bs ins : List ℕ) (h : Header) (fine : Fine bs h) (t : Target) (ds : 
   and-true : (a b : Bool) → a ≡ true → (a && b) ≡ b
   and-true a b e = ap (λ (x : Bool). x && b) e
 
-  came-here : (number array : ℕ) (index : Whole) → eqb number (t .access) ≡ true → course ds (t .access) (came number array index ∷ []) ≡ Course.Arrived array index
+  came-here : (number array : ℕ) (index : Whole) → eqb number (t .access) ≡ true → course ds (t .access) before (came number array index ∷ []) ≡ Course.Arrived array index
   unfolding courseTo
   came-here number array index e = rw e
 
-  came-past : (number array : ℕ) (index : Whole) → eqb number (t .access) ≡ false → course ds (t .access) (came number array index ∷ []) ≡ Course.Passing
+  came-past : (number array : ℕ) (index : Whole) → eqb number (t .access) ≡ false → course ds (t .access) before (came number array index ∷ []) ≡ Course.Passing
   unfolding courseTo
   came-past number array index e = rw e
 
@@ -157,7 +157,7 @@ module _ (bs ins : List ℕ) (h : Header) (fine : Fine bs h) (t : Target) (ds : 
 
     -- the run comes to the named access
     at-claim : eqb (accesses k) (t .access) ≡ true → Models (bitsOfList ins) ρ g (claim (t .side) g bits size w .nodes)
-        → Tally bs h fine t ds ρ (claiming s (claim (t .side) g bits size w .lit)) (course ds (t .access) (came (accesses k) array (indexOf bs r i) ∷ []))
+        → Tally bs h fine t ds before ρ (claiming s (claim (t .side) g bits size w .lit)) (course ds (t .access) before (came (accesses k) array (indexOf bs r i) ∷ []))
         (accessed bs h array i k r next)
     at-claim e m =
         here (claim (t .side) g bits size w .lit) array (indexOf bs r i) refl (a .come) (came-here (accesses k) array (indexOf bs r i) e)
@@ -175,18 +175,18 @@ module _ (bs ins : List ℕ) (h : Header) (fine : Fine bs h) (t : Target) (ds : 
     module _ (m : Models (bitsOfList ins) ρ g ns) (past : eqb (accesses k) (t .access) ≡ false) (keeps : x .wires .arrival ≡ u .arrival)
         (on : Alive u r → Alive (x .wires) next) where
       abbrev c : Course
-      c = course ds (t .access) (came (accesses k) array (indexOf bs r i) ∷ [])
+      c = course ds (t .access) before (came (accesses k) array (indexOf bs r i) ∷ [])
 
       -- inside it goes on, outside it stops
-      by-side : (b : Bool) → lit ρ (u .arrival) ≡ b → Entered (lies size (indexOf bs r i)) b → Tally bs h fine t ds ρ (x .wires) c (accessed bs h array i k r next)
+      by-side : (b : Bool) → lit ρ (u .arrival) ≡ b → Entered (lies size (indexOf bs r i)) b → Tally bs h fine t ds before ρ (x .wires) c (accessed bs h array i k r next)
       by-side b e (within p q) =
-          subst (λ (z : Lies). Tally bs h fine t ds ρ (x .wires) c (arrive r (accesses k) (indexOf bs r i) z next)) (sym p)
+          subst (λ (z : Lies). Tally bs h fine t ds before ρ (x .wires) c (arrive r (accesses k) (indexOf bs r i) z next)) (sym p)
           (alive-through (x .wires) c next (on (record { unclaimed = a .unclaimed; come = e ∙ q; going = a .going; worth = a .worth })) (came-past (accesses k) array (indexOf bs r i) past))
       by-side b e (outside sd p q) =
-          subst (λ (z : Lies). Tally bs h fine t ds ρ (x .wires) c (arrive r (accesses k) (indexOf bs r i) z next)) (sym p)
-          (not-here bs h fine t ds ρ (x .wires) c _ (ap (lit ρ) keeps ∙ e ∙ q) (inr (came-past (accesses k) array (indexOf bs r i) past, refl)))
+          subst (λ (z : Lies). Tally bs h fine t ds before ρ (x .wires) c (arrive r (accesses k) (indexOf bs r i) z next)) (sym p)
+          (not-here bs h fine t ds before ρ (x .wires) c _ (ap (lit ρ) keeps ∙ e ∙ q) (inr (came-past (accesses k) array (indexOf bs r i) past, refl)))
 
-      at-past : Tally bs h fine t ds ρ (x .wires) c (accessed bs h array i k r next)
+      at-past : Tally bs h fine t ds before ρ (x .wires) c (accessed bs h array i k r next)
       at-past =
           by-side _ (access-lit (bitsOfList ins) ρ g bits size w (s .arrival) m ∙ and-true (lit ρ (s .arrival)) _ (a .come))
           (rw (← index) (inside-says (bitsOfList ins) ρ o bits size w wide g (access-above (bitsOfList ins) ρ g bits size w (s .arrival) m)))
@@ -194,19 +194,19 @@ module _ (bs ins : List ℕ) (h : Header) (fine : Fine bs h) (t : Target) (ds : 
     -- an access, named or not
     access-alive : ((m : Models (bitsOfList ins) ρ (g + length ns) (x .nodes)) → Alive u r → Alive (x .wires) next) → x .wires .arrival ≡ u .arrival
         → Models (bitsOfList ins) ρ g (access bs h t g array i k s go .nodes)
-        → Tallies bs h fine t ds ρ (access bs h t g array i k s go)
+        → Tallies bs h fine t ds before ρ (access bs h t g array i k s go)
         (record { events = came (accesses k) array (indexOf bs r i) ∷ []; state = accessed bs h array i k r next })
     access-alive on keeps =
         access-by
         (λ (z : Stretch). Models (bitsOfList ins) ρ g (z .nodes)
-        → Tally bs h fine t ds ρ (z .wires) (course ds (t .access) (came (accesses k) array (indexOf bs r i) ∷ [])) (accessed bs h array i k r next))
+        → Tally bs h fine t ds before ρ (z .wires) (course ds (t .access) before (came (accesses k) array (indexOf bs r i) ∷ [])) (accessed bs h array i k r next))
         bs h t g array i k s go
         (λ e m. at-claim e m)
         (λ e m. let p = models-append (bitsOfList ins) ρ g ns (x .nodes) m in at-past (p .0) e keeps (on (p .1)))
 
   pub simple-alive : t .side ≤ 1 → (g : ℕ) (c : Simple) (k : Counts) (s : Wires) (r : State) → Sound bs h c → FitSimple bs ins h c k
       → Models (bitsOfList ins) ρ g (simple bs h t g c k s .nodes) → Alive s r
-      → Tallies bs h fine t ds ρ (simple bs h t g c k s) (record { events = eventsAt bs c k r; state = carry bs ins h c k r })
+      → Tallies bs h fine t ds before ρ (simple bs h t g c k s) (record { events = eventsAt bs c k r; state = carry bs ins h c k r })
   unfolding simple carry courseTo widthsFit
   simple-alive sd g (Simple.Set d c) k s r q f m a =
       let p = set-fine bs h d c q in

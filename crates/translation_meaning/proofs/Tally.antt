@@ -44,7 +44,7 @@ pub ended-elsewhere : (c : Course) (r : State) → Ended c r → Elsewhere c
 ended-elsewhere c r (inl e) = subst Elsewhere (sym (e .astray)) tt
 ended-elsewhere c r (inr p) = subst Elsewhere (sym (p .0)) tt
 
-module _ (bs : List ℕ) (h : Header) (fine : Fine bs h) (t : Target) (ds : List ℕ) (ρ : Assign) where
+module _ (bs : List ℕ) (h : Header) (fine : Fine bs h) (t : Target) (ds : List ℕ) (before : ℕ) (ρ : Assign) where
   -- the wires w after a stretch, the course c of the run over it, and the state r that it left
   pub data Tally (w : Wires) (c : Course) (r : State) : Type 0 where
     -- the run went through, by the decisions, and arrival is true
@@ -59,7 +59,7 @@ module _ (bs : List ℕ) (h : Header) (fine : Fine bs h) (t : Target) (ds : List
 
   -- the same of two stretches
   abbrev pub Tallies : Stretch → run.Stretch → Type 0
-  Tallies x y = Tally (x .wires) (course ds (t .access) (y .events)) (y .state)
+  Tallies x y = Tally (x .wires) (course ds (t .access) before (y .events)) (y .state)
 
   -- a run that ended, and arrival false
   pub not-here : (w : Wires) (c : Course) (r : State) → lit ρ (w .arrival) ≡ false → Ended c r → Tally w c r
@@ -71,10 +71,10 @@ module _ (bs : List ℕ) (h : Header) (fine : Fine bs h) (t : Target) (ds : List
 
   module _ (g : ℕ) (x : Stretch) (go : ℕ → Wires → Stretch) (y : run.Stretch) (on : State → run.Stretch) where
     abbrev course₁ : Course
-    course₁ = course ds (t .access) (y .events)
+    course₁ = course ds (t .access) before (y .events)
 
     abbrev course₂ : Course
-    course₂ = course ds (t .access) (on (y .state) .events)
+    course₂ = course ds (t .access) before (on (y .state) .events)
 
     abbrev next : Stretch
     next = go (g + length (x .nodes)) (x .wires)
@@ -82,10 +82,10 @@ module _ (bs : List ℕ) (h : Header) (fine : Fine bs h) (t : Target) (ds : List
     -- what is known of the course when the run goes on, or stops
     on-course : (Q : Course → State → Type 0) → (isOver (y .state .outcome) ≡ false → Q (onward course₁ course₂) (on (y .state) .state))
         → (isOver (y .state .outcome) ≡ true → Q course₁ (y .state))
-        → Q (course ds (t .access) (run.andThen y on .events)) (run.andThen y on .state)
+        → Q (course ds (t .access) before (run.andThen y on .events)) (run.andThen y on .state)
     on-course Q p q =
-        run-then-by (λ (z : run.Stretch). Q (course ds (t .access) (z .events)) (z .state)) y on
-        (λ e. subst (λ (c : Course). Q c (on (y .state) .state)) (sym (course-append ds (t .access) (y .events) (on (y .state) .events))) (p (ap isOver e)))
+        run-then-by (λ (z : run.Stretch). Q (course ds (t .access) before (z .events)) (z .state)) y on
+        (λ e. subst (λ (c : Course). Q c (on (y .state) .state)) (sym (course-append ds (t .access) before (y .events) (on (y .state) .events))) (p (ap isOver e)))
         (λ a i s e. q (ap isOver e))
 
     open-wires : x .wires .claim ≡ Claim.Open → (Q : Stretch → Type 0) → Q (after (x .nodes) next) → Q (andThen g x go)

@@ -9,6 +9,7 @@ use Rattle.slices.specs.Bytes.{entry}
 use Rattle.bitvec.specs.declared.Whole.{Whole}
 use Rattle.routine_header.specs.Header.{arraySize}
 use Rattle.routine.specs.Routine.{Arm}
+use Rattle.routine.specs.Access.{ifsBefore}
 use Rattle.routine_header.specs.declared.Header.{Header}
 use Rattle.routine_faults.specs.declared.Counts.{Counts}
 use Rattle.run_inputs.specs.Inputs.{listed}
@@ -47,9 +48,9 @@ pub record Faithful (bs : List ℕ) (t : Target) (ds : List ℕ) (h : Header) (a
   pub only : (ins : List ℕ) → listed bs ins h a k ≡ Listed.Accepted → (ρ σ : Assign) → Solves ins (whole bs t ds h a) ρ → Solves ins (whole bs t ds h a) σ
       → Agree ρ σ (1 + length (whole bs t ds h a .nodes))
   pub arrives : (ins : List ℕ) → listed bs ins h a k ≡ Listed.Accepted → (ρ : Assign) → Solves ins (whole bs t ds h a) ρ
-      → (lit ρ arrival ≡ true) ↔ Reaches ds (t .access) (runOf bs ins h a .events)
+      → (lit ρ arrival ≡ true) ↔ Reaches ds (t .access) (ifsBefore a (t .access)) (runOf bs ins h a .events)
   pub lies : (ins : List ℕ) → listed bs ins h a k ≡ Listed.Accepted → (ρ : Assign) → Solves ins (whole bs t ds h a) ρ
-      → goesWay ds (t .access) (runOf bs ins h a .events) ≡ true → (array : ℕ) (index : Whole) → Comes (t .access) array index (runOf bs ins h a .events)
+      → goesWay ds (ifsBefore a (t .access)) (runOf bs ins h a .events) ≡ true → (array : ℕ) (index : Whole) → Comes (t .access) array index (runOf bs ins h a .events)
       → (lit ρ side ≡ true) ↔ (isOn (t .side) (lies (arraySize bs h array) index) ≡ true)
 
 -- the translation of every claim that is admitted is faithful, whether or not it fits in the buffers

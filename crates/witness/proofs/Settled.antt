@@ -6,6 +6,7 @@ use lib.ListN.{length, take}
 use Rattle.routine_header.specs.declared.Header.{Header}
 use Rattle.routine_faults.specs.declared.Counts.{Counts}
 use Rattle.routine.specs.Routine.{Arm}
+use Rattle.routine.specs.Access.{ifsBefore}
 use Rattle.run_inputs.specs.Inputs.{listed}
 use Rattle.run.specs.Run.{runOf}
 use Rattle.run_inputs.specs.declared.Listed.{Listed}
@@ -38,12 +39,12 @@ module _ (bs r : List ℕ) (h : Header) (a : Arm) (k : Counts) (t : Target) (ins
   said : (x : Listed) → l ≡ x → listed bs (witnessIn r h k) h a k ≡ x
   said x e = ap (λ (z : List ℕ). listed bs z h a k) (sym same) ∙ sym lists ∙ e
 
-  pub settled : l ≡ Listed.Accepted → (ds : List ℕ) → ds ≡ decisionsIn r k → (x : Course) → x ≡ course ds (t .access) (runOf bs ins h a .events)
+  pub settled : l ≡ Listed.Accepted → (ds : List ℕ) → ds ≡ decisionsIn r k → (x : Course) → x ≡ course ds (t .access) (ifsBefore a (t .access)) (runOf bs ins h a .events)
       → (w : Witness) → w ≡ byCourse bs h t x → w ≡ byOpened bs r h a k (Opened.Opens t)
   settled e ds by x follows w is =
       rw (said Listed.Accepted e)
-      (is ∙ ap (byCourse bs h t) (follows ∙ ap (λ (z : List ℕ). course z (t .access) (runOf bs ins h a .events)) by
-      ∙ ap (λ (z : List ℕ). course (decisionsIn r k) (t .access) (runOf bs z h a .events)) same))
+      (is ∙ ap (byCourse bs h t) (follows ∙ ap (λ (z : List ℕ). course z (t .access) (ifsBefore a (t .access)) (runOf bs ins h a .events)) by
+      ∙ ap (λ (z : List ℕ). course (decisionsIn r k) (t .access) (ifsBefore a (t .access)) (runOf bs z h a .events)) same))
 
   pub settled-cut : l ≡ Listed.Miscounted → Witness.Refused (Refusal.Cut (length r)) ≡ byOpened bs r h a k (Opened.Opens t)
   settled-cut e = rw (said Listed.Miscounted e) refl

@@ -7,6 +7,7 @@ use Rattle.routine_header.specs.Header.{arraySize}
 use Rattle.routine_header.specs.declared.Header.{Header}
 use Rattle.routine_faults.specs.declared.Counts.{Counts}
 use Rattle.routine.specs.Routine.{Arm}
+use Rattle.routine.specs.Access.{ifsBefore}
 use Rattle.run_machine.specs.Side.{isOn}
 use Rattle.run_machine.specs.State.{lies}
 use Rattle.run_inputs.specs.Inputs.{listed}
@@ -36,7 +37,7 @@ byListed bs r h t x (Listed.TooGreat n) = Witness.Refused (Refusal.Input n)
 
 -- the course of the witness's run
 abbrev pub witnessCourse : (bs r : List ℕ) → Header → Arm → Counts → Target → Course
-witnessCourse bs r h a k t = course (decisionsIn r k) (t .access) (runOf bs (witnessIn r h k) h a .events)
+witnessCourse bs r h a k t = course (decisionsIn r k) (t .access) (ifsBefore a (t .access)) (runOf bs (witnessIn r h k) h a .events)
 
 -- 11 and 12, then the witness
 abbrev pub byOpened : (bs r : List ℕ) → Header → Arm → Counts → Opened → Witness

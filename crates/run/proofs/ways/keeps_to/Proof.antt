@@ -9,33 +9,24 @@ enum-told c = search needs
 enum-known-goal : tie.Need-enum-known-goal
 enum-known-goal c = search needs
 
-wide-requires : tie.Need-wide-requires
-wide-requires c κs = search needs
-
-accesses-of-requires : tie.Need-accesses-of-requires
-accesses-of-requires c κs = search needs
-
 returns : tie.Need-returns
-returns c = rw (c .before .before .before .before .goal .given .1, ← c .before .before .wide .ensures, ← c .before .accesses-of .ensures, lt-ltb _ _ (c .if1 .taken))
-
-cast-byte-at : tie.Need-cast-byte-at
-cast-byte-at c = search needs
+returns c = rw (c .before .before .goal .given .1, le-ltb _ _ (c .if1 .taken))
 
 byte-at-requires : tie.Need-byte-at-requires
 byte-at-requires c κs = search needs
 
 returns-2 : tie.Need-returns-2
 returns-2 c =
-    let t = c .before .before .before in
-    rw (t .before .before .before .before .goal .given .1, ← t .before .before .wide .ensures, ← t .before .accesses-of .ensures, le-ltb _ _ (t .if1 .left), ← c .before .byte-at .ensures, eq-eqb _ _ (c .if2 .taken))
+    let t = c .before .before in
+    rw (t .before .before .goal .given .1, lt-ltb _ _ (t .if1 .left), ← c .before .byte-at .ensures, eq-eqb _ _ (c .if2 .taken))
 
 returns-3 : tie.Need-returns-3
 returns-3 c = search needs
 
 returns-4 : tie.Need-returns-4
 returns-4 c =
-    let t = c .before .before .before in
-    rw (t .before .before .before .before .goal .given .1, ← t .before .before .wide .ensures, ← t .before .accesses-of .ensures, le-ltb _ _ (t .if1 .left), ← c .before .byte-at .ensures, ne-eqb _ _ (c .if2 .left))
+    let t = c .before .before in
+    rw (t .before .before .goal .given .1, lt-ltb _ _ (t .if1 .left), ← c .before .byte-at .ensures, ne-eqb _ _ (c .if2 .left))
 
 pub keeps-to-spec : {M : Type 1} → statement M
 keeps-to-spec =
@@ -43,10 +34,7 @@ keeps-to-spec =
     (tie.spec
     enum-told
     enum-known-goal
-    wide-requires
-    accesses-of-requires
     returns
-    cast-byte-at
     byte-at-requires
     returns-2
     returns-3
