@@ -1,7 +1,7 @@
 -- The line that document 01 has of its bench, and lines and numbers at the ends of their ranges.
 use mathlib.Core.Path.{_≡_, refl}
+use Rattle.slices.specs.declared.Buffer.{Buffer}
 use Rattle.bitvec.specs.declared.Whole.{Whole}
-use Rattle.proving.specs.declared.Buffer.{Buffer}
 use Rattle.proving.specs.declared.Refusal.{Refusal}
 use Rattle.judgement.specs.declared.Judged.{Judged}
 use Rattle.putting.specs.Text.{bytes, decimalBy, decimal}

@@ -10,6 +10,7 @@ use lib.Seq.{sets, length-sets, length-take-le}
 use lib.Dec.{leb}
 use borrow.Author.Tests.{le-leb, lt-leb, leb-true}
 use Rattle.slices.specs.Lent.{usable}
+use Rattle.slices.specs.declared.Buffer.{Buffer}
 use Rattle.routine_header.specs.declared.Header.{Header}
 use Rattle.routine_faults.specs.declared.Counts.{Counts}
 use Rattle.routine.specs.Routine.{Arm}
@@ -21,7 +22,6 @@ use Rattle.lead.specs.declared.Target.{Target}
 use Rattle.translation.specs.Answer as answer
 use Rattle.translation.specs.Inner.Fitted.{Fitted}
 use Rattle.translation_meaning.specs.Translation.{whole, clausesOfAll, sizeOf}
-use Rattle.translation.specs.declared.Buffer as translation
 use Rattle.translation.specs.declared.Refusal as translating
 use Rattle.translation_meaning.specs.declared.Size.{Size}
 use Rattle.translation.specs.declared.Translated.{Translated}
@@ -35,7 +35,6 @@ use Rattle.step.specs.declared.Verdict.{Verdict}
 use Rattle.witness.specs.Lead.{decisionsIn, proofAt}
 use Rattle.proving.specs.Proving.{Room, byVerdict, provedBy}
 use Rattle.proving.specs.Inner.Parts.{roomOf, byTranslation, Proves}
-use Rattle.proving.specs.declared.Buffer.{Buffer}
 use Rattle.proving.specs.declared.Refusal.{Refusal}
 use Rattle.proving.specs.declared.Proved.{Proved}
 use Rattle.proving.proofs.Proper.{whole-proper}
@@ -75,8 +74,8 @@ module _ (words starts words₁ starts₁ : List ℕ) (short : length words ≤ 
       cond b
       (cond c
       (record { translated = Translated.Made (sizeOf x); words = sets words 0 (flatten (clausesOfAll x)); starts = sets starts 0 (offsets 0 (clausesOfAll x)) })
-      (record { translated = Translated.Refused (translating.Refusal.TooSmall translation.Buffer.Starts); words = words; starts = starts }))
-      (record { translated = Translated.Refused (translating.Refusal.TooSmall translation.Buffer.Words); words = words; starts = starts })
+      (record { translated = Translated.Refused (translating.Refusal.TooSmall Buffer.Starts); words = words; starts = starts }))
+      (record { translated = Translated.Refused (translating.Refusal.TooSmall Buffer.Words); words = words; starts = starts })
 
   made-by : (size : Size) → z ≡ Translated.Made size → (b c : Bool) → leb (sizeOf x .words) (usable words) ≡ b → leb (sizeOf x .clauses) (usable starts) ≡ c
       → _≡_ {A = answer.Answer} (record { translated = z; words = words₁; starts = starts₁ }) (by b c) → Made words starts words₁ starts₁ size x
@@ -90,11 +89,11 @@ module _ (words starts words₁ starts₁ : List ℕ) (short : length words ≤ 
         starts-are = ap (λ (v : answer.Answer). v .starts) f;
       }
   made-by size is true false p q f =
-      let y : Translated.Made size ≡ Translated.Refused (translating.Refusal.TooSmall translation.Buffer.Starts) = sym is ∙ ap (λ (v : answer.Answer). v .translated) f in
+      let y : Translated.Made size ≡ Translated.Refused (translating.Refusal.TooSmall Buffer.Starts) = sym is ∙ ap (λ (v : answer.Answer). v .translated) f in
       let n : _≡_ {A = ℕ} 0 1 = cc in
       absurd (omega arith)
   made-by size is false c p q f =
-      let y : Translated.Made size ≡ Translated.Refused (translating.Refusal.TooSmall translation.Buffer.Words) = sym is ∙ ap (λ (v : answer.Answer). v .translated) f in
+      let y : Translated.Made size ≡ Translated.Refused (translating.Refusal.TooSmall Buffer.Words) = sym is ∙ ap (λ (v : answer.Answer). v .translated) f in
       let n : _≡_ {A = ℕ} 0 1 = cc in
       absurd (omega arith)
 
@@ -111,12 +110,12 @@ module _ (words starts words₁ starts₁ : List ℕ) (short : length words ≤ 
       let n : _≡_ {A = ℕ} 0 1 = cc in
       absurd (omega arith)
   refused-by r from m h k mw ms refusal is true false p q f =
-      let y : Translated.Refused refusal ≡ Translated.Refused (translating.Refusal.TooSmall translation.Buffer.Starts) = sym is ∙ ap (λ (v : answer.Answer). v .translated) f in
-      let n : refusal ≡ translating.Refusal.TooSmall translation.Buffer.Starts = cc in
+      let y : Translated.Refused refusal ≡ Translated.Refused (translating.Refusal.TooSmall Buffer.Starts) = sym is ∙ ap (λ (v : answer.Answer). v .translated) f in
+      let n : refusal ≡ translating.Refusal.TooSmall Buffer.Starts = cc in
       rw (n, mw, ms, ← used-whole words short, ← used-whole starts few, p, q) refl
   refused-by r from m h k mw ms refusal is false c p q f =
-      let y : Translated.Refused refusal ≡ Translated.Refused (translating.Refusal.TooSmall translation.Buffer.Words) = sym is ∙ ap (λ (v : answer.Answer). v .translated) f in
-      let n : refusal ≡ translating.Refusal.TooSmall translation.Buffer.Words = cc in
+      let y : Translated.Refused refusal ≡ Translated.Refused (translating.Refusal.TooSmall Buffer.Words) = sym is ∙ ap (λ (v : answer.Answer). v .translated) f in
+      let n : refusal ≡ translating.Refusal.TooSmall Buffer.Words = cc in
       rw (n, mw, ← used-whole words short, p) refl
 
   not-made : (r : List ℕ) (from : ℕ) (m : Room) (h : Header) (k : Counts) → m .words ≡ length words → m .starts ≡ length starts

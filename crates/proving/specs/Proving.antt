@@ -3,6 +3,7 @@ use Prim.Native.Nat.{ℕ, _+_}
 use mathlib.Core.List.{List}
 use lib.Dec.{leb}
 use Rattle.slices.specs.Guard.{unless}
+use Rattle.slices.specs.declared.Buffer.{Buffer}
 use Rattle.routine_header.specs.declared.Header.{Header}
 use Rattle.routine_faults.specs.declared.Counts.{Counts}
 use Rattle.translation_command.specs.Command.{Stretch}
@@ -10,7 +11,6 @@ use Rattle.translation_meaning.specs.Translation.{clausesOfAll, sizeOf}
 use Rattle.progress.specs.State.{Limits}
 use Rattle.progress.specs.Check.{checkProof}
 use Rattle.step.specs.declared.Verdict.{Verdict}
-use Rattle.proving.specs.declared.Buffer.{Buffer}
 use Rattle.proving.specs.declared.Refusal.{Refusal}
 use Rattle.proving.specs.declared.Proved.{Proved}
 

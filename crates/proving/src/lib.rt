@@ -4,6 +4,7 @@ use lead::Target;
 use proof::check_proof;
 use routine_faults::Counts;
 use routine_header::Header;
+use slices::Buffer;
 use slices::zero_bytes;
 use step::Verdict;
 use translation::Translated;
@@ -21,15 +22,6 @@ ghost use Rattle.propagation.specs.Stored.{clausesOf};
 ghost use Rattle.witness.specs.Lead.{proofAt};
 ghost use Rattle.proving.specs.Proving.{byVerdict};
 ghost use Rattle.proving.specs.Inner.Parts.{roomOf, Proves, byTranslation};
-
-// A lent buffer.
-pub enum Buffer {
-    Words,
-    Starts,
-    Marks,
-    Values,
-    Trail,
-}
 
 // Why a report is turned down.
 pub enum Refusal {
@@ -60,10 +52,7 @@ fn by_translation(refusal: translation::Refusal) -> Refusal
 {
     match refusal {
         translation::Refusal::Lead(inner) => Refusal::Witness(witness::Refusal::Lead(inner)),
-        translation::Refusal::TooSmall(buffer) => match buffer {
-            translation::Buffer::Words => Refusal::TooSmall(Buffer::Words),
-            translation::Buffer::Starts => Refusal::TooSmall(Buffer::Starts),
-        },
+        translation::Refusal::TooSmall(buffer) => Refusal::TooSmall(buffer),
     }
 }
 

@@ -1,15 +1,9 @@
 -- The number and the place of each refusal of a run, as the table of document 01 has them.
-use Prim.Native.Nat.{ℕ}
 use Rattle.refusals.specs.declared.Row.{Row}
 use Rattle.refusals.specs.Row.{row}
 use Rattle.refusals.specs.Routine as routine
-use Rattle.run.specs.declared.Buffer.{Buffer}
+use Rattle.slices.specs.Lent.{bufferNumber}
 use Rattle.run.specs.declared.Refusal.{Refusal}
-
--- the number of a buffer
-abbrev pub bufferNumber : Buffer → ℕ
-bufferNumber Buffer.Values = 3
-bufferNumber Buffer.Trail = 4
 
 -- the row
 abbrev pub rowOf : Refusal → Row

@@ -1,19 +1,10 @@
 // Refusals of a run.
 use crate::Row;
 use crate::of_routine;
-use run::Buffer;
 use run::Refusal;
+use slices::buffer_number;
 ghost use mathlib.Core.Path.{_≡_};
-ghost use Rattle.refusals.specs.Run.{bufferNumber, rowOf};
-
-fn buffer_number(buffer: Buffer) -> usize
-    ensures { λ r. ⌜ r ≡ bufferNumber buffer ⌝ }
-{
-    match buffer {
-        Buffer::Values => 3,
-        Buffer::Trail => 4,
-    }
-}
+ghost use Rattle.refusals.specs.Run.{rowOf};
 
 pub fn row_of(refusal: Refusal) -> Row
     ensures { λ r. ⌜ r ≡ rowOf refusal ⌝ }

@@ -1,25 +1,16 @@
 // Refusals of a translation.
 use crate::Row;
 use crate::of_lead;
-use translation::Buffer;
+use slices::buffer_number;
 use translation::Refusal;
 ghost use mathlib.Core.Path.{_≡_};
-ghost use Rattle.refusals.specs.Translation.{bufferNumber, rowOf};
+ghost use Rattle.refusals.specs.Translation.{rowOf};
 
 pub fn row_of(refusal: Refusal) -> Row
     ensures { λ r. ⌜ r ≡ rowOf refusal ⌝ }
 {
     match refusal {
         Refusal::Lead(inner) => of_lead::row_of(inner),
-        Refusal::TooSmall(buffer) => Row::of(16, number_of_buffer(buffer)),
-    }
-}
-
-fn number_of_buffer(buffer: Buffer) -> usize
-    ensures { λ r. ⌜ r ≡ bufferNumber buffer ⌝ }
-{
-    match buffer {
-        Buffer::Words => 0,
-        Buffer::Starts => 1,
+        Refusal::TooSmall(buffer) => Row::of(16, buffer_number(buffer)),
     }
 }

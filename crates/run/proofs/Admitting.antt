@@ -7,6 +7,7 @@ use native.Mathlib.Omega.{arith}
 use lib.ListN.{length}
 use lib.Dec.{leb}
 use borrow.Author.Tests.{leb-true}
+use Rattle.slices.specs.declared.Buffer.{Buffer}
 use Rattle.routine.specs.Routine.{Arm, done}
 use Rattle.routine.specs.Decode.{Decoded, rejected, routine, decode, commandsIn, checked, IsRoutine}
 use Rattle.routine_header.specs.declared.Header.{Header}
@@ -23,7 +24,6 @@ use Rattle.run.specs.Run.{runOf}
 use Rattle.run.specs.Answer.{Admission, refused, runs, byList, byRoutine, admission, ranBy, answer, Answers}
 use Rattle.run.specs.Inner.Admitted.{withoutTree, admittedRoom, admitted}
 use Rattle.run_inputs.specs.declared.Listed.{Listed}
-use Rattle.run.specs.declared.Buffer.{Buffer}
 use Rattle.run.specs.declared.Refusal.{Refusal}
 use Rattle.run.specs.declared.Admitted.{Admitted}
 use Rattle.run_machine.specs.declared.State.{State}

@@ -5,6 +5,7 @@ use mathlib.Core.List.{List}
 use mathlib.Core.Bool.{cond}
 use lib.ListN.{length}
 use lib.Dec.{leb}
+use Rattle.slices.specs.declared.Buffer.{Buffer}
 use Rattle.routine.specs.Routine.{Arm}
 use Rattle.routine.specs.Decode.{Decoded, rejected, routine, decode}
 use Rattle.routine_header.specs.declared.Header.{Header}
@@ -15,7 +16,6 @@ use Rattle.run.specs.Run.{runOf}
 use Rattle.run_inputs.specs.declared.Listed.{Listed}
 use Rattle.run_machine.specs.declared.Outcome.{Outcome}
 use Rattle.run_machine.specs.declared.State.{State}
-use Rattle.run.specs.declared.Buffer.{Buffer}
 use Rattle.run.specs.declared.Refusal.{Refusal}
 use Rattle.run.specs.declared.Ran.{Ran}
 

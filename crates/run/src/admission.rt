@@ -1,12 +1,12 @@
 // Whether there is a run.
 use crate::Admitted;
-use crate::Buffer;
 use crate::Refusal;
 use routine::Checked;
 use routine_faults::Counts;
 use routine_header::Header;
 use run_inputs::Listed;
 use run_inputs::check_inputs;
+use slices::Buffer;
 ghost use mathlib.Core.Path.{_≡_};
 ghost use Rattle.run.specs.Inner.Admitted.{admitted, admittedRoom};
 

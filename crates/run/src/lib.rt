@@ -9,6 +9,7 @@ use routine_faults::Counts;
 use routine_header::Header;
 use run_machine::Side;
 use run_machine::State;
+use slices::Buffer;
 ghost use Rattle.run.specs.Answer.{Answers};
 
 // How far a run is followed: to its end, or as far as the access of a number, before which so many ifs stand.
@@ -34,12 +35,6 @@ pub struct Way {
     pub counts: Counts,
     pub state: State,
     pub course: Course,
-}
-
-// A lent buffer of a run.
-pub enum Buffer {
-    Values,
-    Trail,
 }
 
 // Why there is no run.

@@ -15,8 +15,8 @@ use Rattle.cnf.proofs.Appending.{length-offsets}
 use Rattle.translation_meaning.specs.Translation.{whole, clausesOfAll, sizeOf}
 use Rattle.translation_walk.specs.Inner.Walker.{WholeMade}
 use Rattle.slices.specs.Lent.{usable}
+use Rattle.slices.specs.declared.Buffer.{Buffer}
 use Rattle.translation.specs.Inner.Fitted.{Fitted}
-use Rattle.translation.specs.declared.Buffer.{Buffer}
 use Rattle.translation.specs.declared.Refusal.{Refusal}
 use Rattle.translation_meaning.specs.declared.Size.{Size}
 use Rattle.lead.specs.declared.Target.{Target}

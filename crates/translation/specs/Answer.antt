@@ -6,12 +6,12 @@ use mathlib.Core.Bool.{cond}
 use lib.Seq.{sets}
 use lib.Dec.{leb}
 use Rattle.slices.specs.Lent.{usable}
+use Rattle.slices.specs.declared.Buffer.{Buffer}
 use Rattle.cnf.specs.Clause.{flatten, offsets}
 use Rattle.lead.specs.Lead.{Admission, refused, translates, admission}
 use Rattle.lead.specs.declared.Target.{Target}
 use Rattle.translation_command.specs.Command.{Stretch}
 use Rattle.translation_meaning.specs.Translation.{whole, clausesOfAll, sizeOf}
-use Rattle.translation.specs.declared.Buffer.{Buffer}
 use Rattle.translation.specs.declared.Refusal.{Refusal}
 use Rattle.translation.specs.declared.Translated.{Translated}
 

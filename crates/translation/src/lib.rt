@@ -4,16 +4,11 @@ pub mod wholes;
 use lead::Admitted;
 use lead::Target;
 use lead::admit;
+use slices::Buffer;
 use translation_meaning::Size;
 ghost use Rattle.lead.specs.Lead.{targetOf};
 ghost use Rattle.translation_meaning.specs.Faithful.{Demand2};
 ghost use Rattle.translation.specs.Answer.{Answers};
-
-// A lent buffer of a translation.
-pub enum Buffer {
-    Words,
-    Starts,
-}
 
 // Why there is no translation.
 pub enum Refusal {

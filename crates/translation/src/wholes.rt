@@ -1,5 +1,4 @@
 // The whole translation: counted over empty slices, and written where it fits.
-use crate::Buffer;
 use crate::Refusal;
 use crate::Translated;
 use cnf::Store;
@@ -11,6 +10,7 @@ use netlist::emit;
 use netlist::opposite;
 use routine_header::Header;
 use routine_header::first_command;
+use slices::Buffer;
 use slices::usable;
 use translation_meaning::Size;
 use translation_state::ALL_PLACES;

@@ -9,20 +9,11 @@ enum-known-refusal c = search needs
 enum-known-refusal-2 : tie.Need-enum-known-refusal-2
 enum-known-refusal-2 c = search needs
 
-enum-told : tie.Need-enum-told
-enum-told c = search needs
-
-enum-told-2 : tie.Need-enum-told-2
-enum-told-2 c = search needs
-
 returns : tie.Need-returns
 returns c = rw (c .before .refusal .given .1) refl
 
 returns-2 : tie.Need-returns-2
-returns-2 c = rw (c .before .before .before .refusal2 .given .1, c .enum-told .given .1) refl
-
-returns-3 : tie.Need-returns-3
-returns-3 c = rw (c .before .before .before .refusal2 .given .1, c .enum-told2 .given .1) refl
+returns-2 c = rw (c .before .refusal2 .given .1) refl
 
 pub by-translation-spec : {M : Type 1} → statement M
 by-translation-spec =
@@ -30,8 +21,5 @@ by-translation-spec =
     (tie.spec
     enum-known-refusal
     enum-known-refusal-2
-    enum-told
-    enum-told-2
     returns
-    returns-2
-    returns-3)
+    returns-2)

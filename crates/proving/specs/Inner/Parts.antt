@@ -9,12 +9,10 @@ use Rattle.routine.specs.Routine.{Arm}
 use Rattle.routine.specs.Decode.{routine, decode}
 use Rattle.lead.specs.declared.Target.{Target}
 use Rattle.translation_meaning.specs.Translation.{whole}
-use Rattle.translation.specs.declared.Buffer as translation
 use Rattle.translation.specs.declared.Refusal as translating
 use Rattle.witness.specs.Lead.{decisionsIn, proofAt}
 use Rattle.witness.specs.declared.Refusal as witness
 use Rattle.proving.specs.Proving.{Room, provedBy}
-use Rattle.proving.specs.declared.Buffer.{Buffer}
 use Rattle.proving.specs.declared.Refusal.{Refusal}
 use Rattle.proving.specs.declared.Proved.{Proved}
 
@@ -26,8 +24,7 @@ roomOf words starts marks values trail =
 -- why there is no translation
 abbrev pub byTranslation : translating.Refusal → Refusal
 byTranslation (translating.Refusal.Lead refusal) = Refusal.Witness (witness.Refusal.Lead refusal)
-byTranslation (translating.Refusal.TooSmall translation.Buffer.Words) = Refusal.TooSmall Buffer.Words
-byTranslation (translating.Refusal.TooSmall translation.Buffer.Starts) = Refusal.TooSmall Buffer.Starts
+byTranslation (translating.Refusal.TooSmall buffer) = Refusal.TooSmall buffer
 
 -- 16 and the proof of a report on whatever was decoded
 pub record Proves (bs r : List ℕ) (h : Header) (k : Counts) (t : Target) (m : Room) (p : Proved) : Type 0 where
