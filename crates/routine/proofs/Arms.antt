@@ -6,11 +6,11 @@ use Prim.Native.Nat.{ℕ, zero, suc, _+_, _-_, _≤_, _<_}
 use native.Mathlib.Omega.{arith}
 use lib.ListN.{length}
 use lib.Dec.{leb, ltb, eqb}
-use borrow.Author.Tests.{leb-true, ltb-true, not-true}
+use borrow.Author.Tests.{leb-true, ltb-true, not-true, eq-eqb, ne-eqb}
 use Rattle.slices.specs.Guard.{unless}
 use Rattle.routine_command.specs.Command.{sizeOf, sizeOfSimple, commandOf, commandAt}
 use Rattle.routine_header.specs.Header.{width}
-use Rattle.routine_faults.specs.Step.{inRange, widthsFit, tooMany, after, simpleStep, oneIf, conditionInRange, ifStep, stepOf}
+use Rattle.routine_faults.specs.Step.{Step, faulty, closing, simpleThen, ifThen, inRange, widthsFit, tooMany, after, simpleStep, oneIf, conditionInRange, ifStep, stepOf}
 use Rattle.routine.specs.Routine.{Parsed, refused, parsed, plain, fork, andThen, Reader, ifArms, armStep, stepAt, armBy, arm}
 use Rattle.routine.specs.Inner.Walk.{walked, walkArm, walkIf}
 use Rattle.routine_faults.specs.Inner.Sound.{Sound, SoundIf}
@@ -20,7 +20,8 @@ use Rattle.routine_faults.specs.declared.Counts.{Counts}
 use Rattle.routine_command.specs.declared.Simple.{Simple}
 use Rattle.routine_command.specs.declared.Command.{Command}
 use Rattle.routine_faults.specs.declared.Fault.{Fault}
-use Rattle.routine_faults.specs.declared.Step.{Step}
+use Rattle.routine_faults.specs.declared.Verdict.{Verdict}
+use Rattle.routine_faults.specs.Inner.Verdict.{verdictOf}
 use Rattle.routine.specs.declared.Walked.{Walked}
 use Rattle.routine_command.proofs.Sizes.{size-pos, simple-size}
 
@@ -54,12 +55,12 @@ pub record ForkOf (bs : List ℕ) (h : Header) (depth : ℕ) (k : Counts) (c : C
 
 module _ (bs : List ℕ) (h : Header) (depth : ℕ) (k : Counts) where
   abbrev pub Of : Command → Step → Type 0
-  Of c (Step.Refused fault) = Unit {0}
-  Of c Step.Closed = (mark : ℕ) × (c ≡ Command.Close mark)
-  Of c (Step.Plain d k₁) = PlainOf bs h k c d k₁
-  Of c (Step.Fork d k₁) = ForkOf bs h depth k c d k₁
+  Of c (faulty fault) = Unit {0}
+  Of c closing = (mark : ℕ) × (c ≡ Command.Close mark)
+  Of c (simpleThen d k₁) = PlainOf bs h k c d k₁
+  Of c (ifThen d k₁) = ForkOf bs h depth k c d k₁
 
-  of-unless : (c : Command) (b : Bool) (fault : Fault) (s : Step) → (b ≡ true → Of c s) → Of c (unless b (Step.Refused fault) s)
+  of-unless : (c : Command) (b : Bool) (fault : Fault) (s : Step) → (b ≡ true → Of c s) → Of c (unless b (faulty fault) s)
   unfolding unless
   of-unless c true fault s p = p refl
   of-unless c false fault s p = tt
@@ -70,7 +71,7 @@ module _ (bs : List ℕ) (h : Header) (depth : ℕ) (k : Counts) where
       of-unless (Command.If d) (conditionInRange h d) Fault.Operand _ (λ r.
       of-unless (Command.If d) (eqb (width bs (d .s)) (width bs (d .t))) Fault.Widths _ (λ w.
       of-unless (Command.If d) (ltb depth 8) Fault.Misplaced _ (λ l.
-      of-unless (Command.If d) (ltb (k .ifs) 32) Fault.TooMany (Step.Fork d (oneIf k)) (λ f.
+      of-unless (Command.If d) (ltb (k .ifs) 32) Fault.TooMany (ifThen d (oneIf k)) (λ f.
       record { command = refl; sound = record { ranges = r; widths = w }; counts = refl; shallow = ltb-true _ _ l; few = ltb-true _ _ f }))))
 
   of-simple : (d : Simple) → Of (Command.Simple d) (simpleStep bs h d k)
@@ -78,13 +79,13 @@ module _ (bs : List ℕ) (h : Header) (depth : ℕ) (k : Counts) where
   of-simple d =
       of-unless (Command.Simple d) (inRange bs h d) Fault.Operand _ (λ r.
       of-unless (Command.Simple d) (widthsFit bs d) Fault.Widths _ (λ w.
-      of-unless (Command.Simple d) (not (tooMany d k)) Fault.TooMany (Step.Plain d (after d k)) (λ f.
+      of-unless (Command.Simple d) (not (tooMany d k)) Fault.TooMany (simpleThen d (after d k)) (λ f.
       record { command = refl; sound = record { ranges = r; widths = w }; few = not-true _ f; counts = refl })))
 
   pub of-step : (close : ℕ) (c : Command) → Of c (stepOf bs h depth close c k)
   unfolding stepOf
   of-step close Command.Missing = tt
-  of-step close (Command.Close mark) = of-unless (Command.Close mark) (eqb mark close) Fault.Misplaced Step.Closed (λ e. (mark, refl))
+  of-step close (Command.Close mark) = of-unless (Command.Close mark) (eqb mark close) Fault.Misplaced closing (λ e. (mark, refl))
   of-step close (Command.If d) = of-if d
   of-step close (Command.Simple d) = of-simple d
 
@@ -92,16 +93,16 @@ module _ (bs : List ℕ) (h : Header) (depth : ℕ) (k : Counts) where
 
 module _ (bs : List ℕ) where
   abbrev pub Fits : (depth at : ℕ) → Step → Type 0
-  Fits depth at (Step.Refused fault) = Unit {0}
-  Fits depth at Step.Closed = at + 1 ≤ length bs
-  Fits depth at (Step.Plain c k) = at + sizeOfSimple c ≤ length bs
-  Fits depth at (Step.Fork c k) = (at + 4 ≤ length bs) × (depth < 8)
+  Fits depth at (faulty fault) = Unit {0}
+  Fits depth at closing = at + 1 ≤ length bs
+  Fits depth at (simpleThen c k) = at + sizeOfSimple c ≤ length bs
+  Fits depth at (ifThen c k) = (at + 4 ≤ length bs) × (depth < 8)
 
   fits-of : (h : Header) (depth at : ℕ) (k : Counts) (c : Command) (s : Step) → Room bs at c → Of bs h depth k c s → Fits depth at s
-  fits-of h depth at k c (Step.Refused fault) r o = tt
-  fits-of h depth at k c Step.Closed r o = rw (o .1) at (r (λ e. let z : _≡_ {A = ℕ} 0 1 = cc in omega arith))
-  fits-of h depth at k c (Step.Plain d k₁) r o = rw (o .command) at (r (λ e. let z : _≡_ {A = ℕ} 0 1 = cc in omega arith))
-  fits-of h depth at k c (Step.Fork d k₁) r o = (rw (o .command) at (r (λ e. let z : _≡_ {A = ℕ} 0 1 = cc in omega arith)), o .shallow)
+  fits-of h depth at k c (faulty fault) r o = tt
+  fits-of h depth at k c closing r o = rw (o .1) at (r (λ e. let z : _≡_ {A = ℕ} 0 1 = cc in omega arith))
+  fits-of h depth at k c (simpleThen d k₁) r o = rw (o .command) at (r (λ e. let z : _≡_ {A = ℕ} 0 1 = cc in omega arith))
+  fits-of h depth at k c (ifThen d k₁) r o = (rw (o .command) at (r (λ e. let z : _≡_ {A = ℕ} 0 1 = cc in omega arith)), o .shallow)
 
   pub fits : (h : Header) (depth close at : ℕ) (k : Counts) → Fits depth at (stepAt bs h depth close at k)
   fits h depth close at k = fits-of h depth at k (commandAt bs at) (stepAt bs h depth close at k) (room bs at) (of-step bs h depth k close (commandAt bs at))
@@ -127,12 +128,12 @@ module _ (bs : List ℕ) where
       (omega arith, h₂)))
 
   ahead-step : (read : Reader) → AheadBy read → (depth close at : ℕ) (k : Counts) (s : Step) → Fits depth at s → Ahead at (armStep read depth close at k s)
-  ahead-step read go depth close at k (Step.Refused fault) f = tt
-  ahead-step read go depth close at k Step.Closed f = (omega arith, f)
-  ahead-step read go depth close at k (Step.Plain c k₁) f =
+  ahead-step read go depth close at k (faulty fault) f = tt
+  ahead-step read go depth close at k closing f = (omega arith, f)
+  ahead-step read go depth close at k (simpleThen c k₁) f =
       ahead-then at (at + sizeOfSimple c) (read depth close (at + sizeOfSimple c) k₁) _ (go depth close (at + sizeOfSimple c) k₁) (λ rest end k₂ l u.
       (omega arith, u))
-  ahead-step read go depth close at k (Step.Fork c k₁) f =
+  ahead-step read go depth close at k (ifThen c k₁) f =
       ahead-then at (at + 4) (ifArms read depth at k₁) _ (ahead-if read go depth at k₁) (λ arms at₂ k₂ l₂ u₂.
       ahead-then at at₂ (read depth close at₂ k₂) _ (go depth close at₂ k₂) (λ rest end k₃ l₃ u₃.
       (omega arith, u₃)))
@@ -167,12 +168,12 @@ module _ (bs : List ℕ) where
 
   agree-step : (read read₁ : Reader) (at : ℕ) → AheadBy read → Agree at read read₁ → (depth close : ℕ) (k : Counts) (s : Step) → Fits depth at s
       → armStep read depth close at k s ≡ armStep read₁ depth close at k s
-  agree-step read read₁ at go same depth close k (Step.Refused fault) f = refl
-  agree-step read read₁ at go same depth close k Step.Closed f = refl
-  agree-step read read₁ at go same depth close k (Step.Plain c k₁) f =
+  agree-step read read₁ at go same depth close k (faulty fault) f = refl
+  agree-step read read₁ at go same depth close k closing f = refl
+  agree-step read read₁ at go same depth close k (simpleThen c k₁) f =
       agree-then (at + sizeOfSimple c) _ _ _ _ (same depth close (at + sizeOfSimple c) k₁ (omega (arith, simple-size c)) f) (go depth close (at + sizeOfSimple c) k₁)
       (λ rest end k₂ l u. refl)
-  agree-step read read₁ at go same depth close k (Step.Fork c k₁) f =
+  agree-step read read₁ at go same depth close k (ifThen c k₁) f =
       agree-then (at + 4) _ _ _ _ (agree-if read read₁ at go same depth k₁ (f .0)) (ahead-if read go depth at k₁) (λ arms at₂ k₂ l₂ u₂.
       agree-then at₂ _ _ _ _ (same depth close at₂ k₂ (omega arith) u₂) (go depth close at₂ k₂) (λ rest end k₃ l₃ u₃. refl))
 
@@ -218,18 +219,18 @@ walk-if bs h depth at k =
 
 -- a walk over an arm, by what its first command is
 abbrev pub walkStep : List ℕ → Header → (depth close at : ℕ) → Counts → Step → Walked
-walkStep bs h depth close at k (Step.Refused fault) = Walked.Refused fault at
-walkStep bs h depth close at k Step.Closed = Walked.Ended (at + 1) k
-walkStep bs h depth close at k (Step.Plain c k₁) = walkArm bs h depth close (at + sizeOfSimple c) k₁
-walkStep bs h depth close at k (Step.Fork c k₁) = thenWalk (walkIf bs h depth at k₁) (walkArm bs h depth close)
+walkStep bs h depth close at k (faulty fault) = Walked.Refused fault at
+walkStep bs h depth close at k closing = Walked.Ended (at + 1) k
+walkStep bs h depth close at k (simpleThen c k₁) = walkArm bs h depth close (at + sizeOfSimple c) k₁
+walkStep bs h depth close at k (ifThen c k₁) = thenWalk (walkIf bs h depth at k₁) (walkArm bs h depth close)
 
 walked-step : (bs : List ℕ) (h : Header) (depth close at : ℕ) (k : Counts) (s : Step)
     → walked (armStep (arm bs h) depth close at k s) ≡ walkStep bs h depth close at k s
 unfolding walkIf walkArm
-walked-step bs h depth close at k (Step.Refused fault) = refl
-walked-step bs h depth close at k Step.Closed = refl
-walked-step bs h depth close at k (Step.Plain c k₁) = walked-as (arm bs h depth close (at + sizeOfSimple c) k₁) (λ rest. plain at c k rest)
-walked-step bs h depth close at k (Step.Fork c k₁) =
+walked-step bs h depth close at k (faulty fault) = refl
+walked-step bs h depth close at k closing = refl
+walked-step bs h depth close at k (simpleThen c k₁) = walked-as (arm bs h depth close (at + sizeOfSimple c) k₁) (λ rest. plain at c k rest)
+walked-step bs h depth close at k (ifThen c k₁) =
     walked-then (ifArms (arm bs h) depth at k₁) _ _ (λ arms at₂ k₂. walked-as (arm bs h depth close at₂ k₂) (λ rest. fork at c k (arms .0) (arms .1) rest))
 
 walk-arm : (bs : List ℕ) (h : Header) (depth close at : ℕ) (k : Counts)
@@ -237,18 +238,74 @@ walk-arm : (bs : List ℕ) (h : Header) (depth close at : ℕ) (k : Counts)
 unfolding walkArm
 walk-arm bs h depth close at k = ap walked (unroll bs h depth close at k) ∙ walked-step bs h depth close at k (stepAt bs h depth close at k)
 
--- ---- the same, of what `command_at` and `step_of` answered: the command c and the step r, which is s
+-- ---- what the command at an offset is, by what `command_at` and the looks at it answered
 
-module _ (bs : List ℕ) (h : Header) (depth close at : ℕ) (k : Counts) (c : Command) (r s : Step)
-    (of : r ≡ stepOf bs h depth close c k) (stands : c ≡ commandAt bs at) (is : r ≡ s) where
-  the-step : stepAt bs h depth close at k ≡ s
-  the-step = ap (λ (x : Command). stepOf bs h depth close x k) (sym stands) ∙ sym of ∙ is
+fault-is : (s : Step) (fault : Fault) → verdictOf s ≡ Verdict.Faulty fault → s ≡ faulty fault
+fault-is (faulty f) fault e = let z : f ≡ fault = cc in ap faulty z
+fault-is closing fault e = let z : _≡_ {A = ℕ} 0 1 = cc in absurd (omega arith)
+fault-is (simpleThen c k) fault e = let z : _≡_ {A = ℕ} 0 1 = cc in absurd (omega arith)
+fault-is (ifThen c k) fault e = let z : _≡_ {A = ℕ} 0 1 = cc in absurd (omega arith)
 
-  pub fits-by : Fits bs depth at s
-  fits-by = rw the-step at (fits bs h depth close at k)
+module _ (bs : List ℕ) (h : Header) (depth close at : ℕ) (k : Counts) where
+  good-simple : (d : Simple) (s : Step) → Of bs h depth k (Command.Simple d) s → verdictOf s ≡ Verdict.Good → s ≡ simpleThen d (after d k)
+  good-simple d (faulty f) o e = let z : _≡_ {A = ℕ} 0 1 = cc in absurd (omega arith)
+  good-simple d closing o e = let f = o .1 in let z : _≡_ {A = ℕ} 0 1 = cc in absurd (omega arith)
+  good-simple d (simpleThen c k₁) o e = let f = o .command in let z : c ≡ d = cc in rw (o .counts, z)
+  good-simple d (ifThen c k₁) o e = let f = o .command in let z : _≡_ {A = ℕ} 0 1 = cc in absurd (omega arith)
 
-  pub over : (w : Walked) → walkArm bs h depth close at k ≡ w → walkStep bs h depth close at k s ≡ w
-  over w e = sym (walk-arm bs h depth close at k ∙ ap (walkStep bs h depth close at k) the-step) ∙ e
+  good-if : (d : Condition) (s : Step) → Of bs h depth k (Command.If d) s → verdictOf s ≡ Verdict.Good → s ≡ ifThen d (oneIf k)
+  good-if d (faulty f) o e = let z : _≡_ {A = ℕ} 0 1 = cc in absurd (omega arith)
+  good-if d closing o e = let f = o .1 in let z : _≡_ {A = ℕ} 0 1 = cc in absurd (omega arith)
+  good-if d (simpleThen c k₁) o e = let f = o .command in let z : _≡_ {A = ℕ} 0 1 = cc in absurd (omega arith)
+  good-if d (ifThen c k₁) o e = let f = o .command in let z : c ≡ d = cc in rw (o .counts, z)
+
+  module _ (c : Command) (stands : c ≡ commandAt bs at) where
+    by-command : (d : Command) → c ≡ d → (s : Step) → stepOf bs h depth close d k ≡ s → stepAt bs h depth close at k ≡ s
+    by-command d e s f = ap (λ (x : Command). stepOf bs h depth close x k) (sym stands ∙ e) ∙ f
+
+    pub is-missing : c ≡ Command.Missing → stepAt bs h depth close at k ≡ faulty Fault.Unknown
+    unfolding stepOf
+    is-missing e = by-command Command.Missing e (faulty Fault.Unknown) refl
+
+    pub is-misplaced : (mark : ℕ) → c ≡ Command.Close mark → (mark ≡ close → ⊥) → stepAt bs h depth close at k ≡ faulty Fault.Misplaced
+    unfolding stepOf unless
+    is-misplaced mark e f = by-command (Command.Close mark) e (faulty Fault.Misplaced) (rw (ne-eqb mark close f))
+
+    pub is-closing : (mark : ℕ) → c ≡ Command.Close mark → mark ≡ close → stepAt bs h depth close at k ≡ closing
+    unfolding stepOf unless
+    is-closing mark e f = by-command (Command.Close mark) e closing (rw (eq-eqb mark close f))
+
+    module _ (d : Simple) (e : c ≡ Command.Simple d) (v : Verdict) (by : v ≡ verdictOf (simpleStep bs h d k)) where
+      pub faulty-simple : (fault : Fault) → v ≡ Verdict.Faulty fault → stepAt bs h depth close at k ≡ faulty fault
+      unfolding stepOf
+      faulty-simple fault f = by-command (Command.Simple d) e (faulty fault) (fault-is (simpleStep bs h d k) fault (sym by ∙ f))
+
+      pub is-simple : v ≡ Verdict.Good → stepAt bs h depth close at k ≡ simpleThen d (after d k)
+      unfolding stepOf
+      is-simple f = by-command (Command.Simple d) e (simpleThen d (after d k)) (good-simple d (simpleStep bs h d k) (of-simple bs h depth k d) (sym by ∙ f))
+
+      pub few-accesses : v ≡ Verdict.Good → tooMany d k ≡ false
+      few-accesses f = (rw (good-simple d (simpleStep bs h d k) (of-simple bs h depth k d) (sym by ∙ f)) at (of-simple bs h depth k d)) .few
+
+    module _ (d : Condition) (e : c ≡ Command.If d) (v : Verdict) (by : v ≡ verdictOf (ifStep bs h depth d k)) where
+      pub faulty-if : (fault : Fault) → v ≡ Verdict.Faulty fault → stepAt bs h depth close at k ≡ faulty fault
+      unfolding stepOf
+      faulty-if fault f = by-command (Command.If d) e (faulty fault) (fault-is (ifStep bs h depth d k) fault (sym by ∙ f))
+
+      pub is-if : v ≡ Verdict.Good → stepAt bs h depth close at k ≡ ifThen d (oneIf k)
+      unfolding stepOf
+      is-if f = by-command (Command.If d) e (ifThen d (oneIf k)) (good-if d (ifStep bs h depth d k) (of-if bs h depth k d) (sym by ∙ f))
+
+      pub few-ifs : v ≡ Verdict.Good → k .ifs < 32
+      few-ifs f = (rw (good-if d (ifStep bs h depth d k) (of-if bs h depth k d) (sym by ∙ f)) at (of-if bs h depth k d)) .few
+
+  -- the command at the offset is s
+  module _ (s : Step) (is : stepAt bs h depth close at k ≡ s) where
+    pub fits-by : Fits bs depth at s
+    fits-by = rw is at (fits bs h depth close at k)
+
+    pub over : (w : Walked) → walkArm bs h depth close at k ≡ w → walkStep bs h depth close at k s ≡ w
+    over w e = sym (walk-arm bs h depth close at k ∙ ap (walkStep bs h depth close at k) is) ∙ e
 
 -- the answer r so far is x, and it is v
 pub then-by : (r x v w : Walked) (f : ℕ → Counts → Walked) → r ≡ x → r ≡ v → thenWalk x f ≡ w → thenWalk v f ≡ w

@@ -7,13 +7,12 @@ use Prim.Native.Nat.{ℕ, _+_, _≤_, _<_}
 use native.Mathlib.Omega.{arith}
 use lib.ListN.{length}
 use Rattle.routine_command.specs.Command.{sizeOfSimple, commandAt}
-use Rattle.routine_faults.specs.Step.{tooMany, after, oneIf}
+use Rattle.routine_faults.specs.Step.{Step, faulty, closing, simpleThen, ifThen, tooMany, after, oneIf}
 use Rattle.routine.specs.Routine.{Arm, Parsed, refused, parsed, done, plain, fork, andThen, armStep, stepAt, arm}
 use Rattle.routine.specs.Inner.Stands.{Stands}
 use Rattle.routine_faults.specs.Inner.Sound.{Sound, SoundIf}
 use Rattle.routine_header.specs.declared.Header.{Header}
 use Rattle.routine_faults.specs.declared.Counts.{Counts}
-use Rattle.routine_faults.specs.declared.Step.{Step}
 use Rattle.routine_command.specs.declared.Simple.{Simple}
 use Rattle.routine_command.specs.declared.Condition.{Condition}
 use Rattle.routine_command.specs.declared.Command.{Command}
@@ -101,10 +100,10 @@ module _ (bs : List ℕ) (h : Header) (depth close at : ℕ) (k : Counts) where
         view-second first else k₃ (rw (← o .counts) (record { reads = e })) (arm bs h (depth + 1) 13 else k₃) refl
 
   view-step : (s : Step) → Of bs h depth k (commandAt bs at) s → Fits bs depth at s → Viewed (armStep (arm bs h) depth close at k s)
-  view-step (Step.Refused fault) o f = tt
-  view-step Step.Closed o f = closes (o .0) (o .1) f
-  view-step (Step.Plain c k₂) o f = view-plain c k₂ o f (arm bs h depth close (at + sizeOfSimple c) k₂) refl
-  view-step (Step.Fork c k₂) o f = view-fork c k₂ o (f .0) (arm bs h (depth + 1) 12 (at + 4) k₂) refl
+  view-step (faulty fault) o f = tt
+  view-step closing o f = closes (o .0) (o .1) f
+  view-step (simpleThen c k₂) o f = view-plain c k₂ o f (arm bs h depth close (at + sizeOfSimple c) k₂) refl
+  view-step (ifThen c k₂) o f = view-fork c k₂ o (f .0) (arm bs h (depth + 1) 12 (at + 4) k₂) refl
 
   module _ (a : Arm) (end : ℕ) (k₁ : Counts) (s : Stands bs h depth close at k a end k₁) where
     pub view : View bs h depth close at k a end k₁

@@ -3,13 +3,12 @@ use Prim.Native.Nat.{ℕ, zero, suc, _+_}
 use mathlib.Core.List.{List, [], _∷_, _++_}
 use lib.ListN.{length}
 use Rattle.routine_command.specs.Command.{commandAt, sizeOfSimple}
-use Rattle.routine_faults.specs.Step.{stepOf}
+use Rattle.routine_faults.specs.Step.{Step, faulty, closing, simpleThen, ifThen, stepOf}
 use Rattle.routine_header.specs.declared.Header.{Header}
 use Rattle.routine_command.specs.declared.Condition.{Condition}
 use Rattle.routine_faults.specs.declared.Counts.{Counts}
 use Rattle.routine_command.specs.declared.Simple.{Simple}
 use Rattle.routine_faults.specs.declared.Fault.{Fault}
-use Rattle.routine_faults.specs.declared.Step.{Step}
 
 -- An arm: its commands, each with its offset and the counts before it, by which it is numbered: an if by its `ifs`, a read by its `reads`, an
 -- access by its `accesses`. An if has two arms, and the arm that it stands in goes on after it.
@@ -47,12 +46,12 @@ ifArms read depth at k =
 
 -- The arm from `at` on, by what its first command is; the rest of it, and the arms of an if, are read by `read`.
 abbrev pub armStep : Reader → (depth close at : ℕ) → Counts → Step → Parsed Arm
-armStep read depth close at k (Step.Refused fault) = refused fault at
-armStep read depth close at k Step.Closed = parsed done (at + 1) k
-armStep read depth close at k (Step.Plain c k₁) =
+armStep read depth close at k (faulty fault) = refused fault at
+armStep read depth close at k closing = parsed done (at + 1) k
+armStep read depth close at k (simpleThen c k₁) =
     andThen (read depth close (at + sizeOfSimple c) k₁) (λ rest end k₂.
     parsed (plain at c k rest) end k₂)
-armStep read depth close at k (Step.Fork c k₁) =
+armStep read depth close at k (ifThen c k₁) =
     andThen (ifArms read depth at k₁) (λ arms at₂ k₂.
     andThen (read depth close at₂ k₂) (λ rest end k₃.
     parsed (fork at c k (arms .0) (arms .1) rest) end k₃))

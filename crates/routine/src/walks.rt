@@ -3,12 +3,17 @@ use crate::Checked;
 use crate::Passed;
 use crate::Refusal;
 use crate::Walked;
+use routine_command::Command;
 use routine_command::commands::command_at;
 use routine_command::commands::simple_size;
 use routine_faults::Counts;
-use routine_faults::Step;
+use routine_faults::Fault;
+use routine_faults::Verdict;
+use routine_faults::steps::counts_after;
+use routine_faults::steps::counts_after_if;
+use routine_faults::steps::if_fault;
 use routine_faults::steps::no_counts;
-use routine_faults::steps::step_of;
+use routine_faults::steps::simple_fault;
 use routine_header::Header;
 use routine_header::first_command;
 ghost use mathlib.Core.Path.{_≡_};
@@ -33,18 +38,29 @@ pub fn walk_arm(
     let mut at = from;
     let mut k = before;
     loop {
-        match step_of(bytes, h, depth, close, command_at(bytes, at), k) {
-            Step::Refused(fault) => return Walked::Refused(fault, at),
-            Step::Closed => return Walked::Ended(at + 1, k),
-            Step::Plain(c, after) => {
-                at += simple_size(c);
-                k = after;
+        match command_at(bytes, at) {
+            Command::Missing => return Walked::Refused(Fault::Unknown, at),
+            Command::Close(mark) => {
+                if mark != close {
+                    return Walked::Refused(Fault::Misplaced, at);
+                }
+                return Walked::Ended(at + 1, k);
             }
-            Step::Fork(_, after) => match walk_if(bytes, h, depth, at, after) {
-                Walked::Refused(fault, place) => return Walked::Refused(fault, place),
-                Walked::Ended(next, counts) => {
-                    at = next;
-                    k = counts;
+            Command::If(c) => match if_fault(bytes, h, depth, c, k) {
+                Verdict::Faulty(fault) => return Walked::Refused(fault, at),
+                Verdict::Good => match walk_if(bytes, h, depth, at, counts_after_if(k)) {
+                    Walked::Refused(fault, place) => return Walked::Refused(fault, place),
+                    Walked::Ended(next, counts) => {
+                        at = next;
+                        k = counts;
+                    }
+                },
+            },
+            Command::Simple(c) => match simple_fault(bytes, h, c, k) {
+                Verdict::Faulty(fault) => return Walked::Refused(fault, at),
+                Verdict::Good => {
+                    at += simple_size(c);
+                    k = counts_after(c, k);
                 }
             },
         }

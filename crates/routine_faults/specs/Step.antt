@@ -13,7 +13,6 @@ use Rattle.routine_command.specs.declared.Simple.{Simple}
 use Rattle.routine_command.specs.declared.Touch.{Touch}
 use Rattle.routine_command.specs.declared.Command.{Command}
 use Rattle.routine_faults.specs.declared.Fault.{Fault}
-use Rattle.routine_faults.specs.declared.Step.{Step}
 
 -- the operands and the constant are in range
 unfoldable pub inRange : List ℕ → Header → Simple → Bool
@@ -71,14 +70,21 @@ afterBy (Touch.Writes array i) k = record { ifs = k .ifs; reads = k .reads; writ
 abbrev pub after : Simple → Counts → Counts
 after c k = afterBy (touches c) k
 
+-- what a command is where it stands: it has a fault, it ends its arm, or it is one that is no part of an if, or an if, with the counts after it
+pub data Step : Type 0 where
+  faulty : Fault → Step
+  closing : Step
+  simpleThen : Simple → Counts → Step
+  ifThen : Condition → Counts → Step
+
 -- a command that is no part of an if, after the counts k
 unfoldable pub simpleStep : List ℕ → Header → Simple → Counts → Step
 unfolding unless
 simpleStep bs h c k =
-    unless (inRange bs h c) (Step.Refused Fault.Operand)
-    (unless (widthsFit bs c) (Step.Refused Fault.Widths)
-    (unless (not (tooMany c k)) (Step.Refused Fault.TooMany)
-    (Step.Plain c (after c k))))
+    unless (inRange bs h c) (faulty Fault.Operand)
+    (unless (widthsFit bs c) (faulty Fault.Widths)
+    (unless (not (tooMany c k)) (faulty Fault.TooMany)
+    (simpleThen c (after c k))))
 
 -- the counts after an if was met
 abbrev pub oneIf : Counts → Counts
@@ -92,16 +98,16 @@ conditionInRange h c = ltb (c .relation) 10 && ltb (c .s) (h .variables) && ltb 
 unfoldable pub ifStep : List ℕ → Header → (depth : ℕ) → Condition → Counts → Step
 unfolding unless
 ifStep bs h depth c k =
-    unless (conditionInRange h c) (Step.Refused Fault.Operand)
-    (unless (eqb (width bs (c .s)) (width bs (c .t))) (Step.Refused Fault.Widths)
-    (unless (ltb depth 8) (Step.Refused Fault.Misplaced)
-    (unless (ltb (k .ifs) 32) (Step.Refused Fault.TooMany)
-    (Step.Fork c (oneIf k)))))
+    unless (conditionInRange h c) (faulty Fault.Operand)
+    (unless (eqb (width bs (c .s)) (width bs (c .t))) (faulty Fault.Widths)
+    (unless (ltb depth 8) (faulty Fault.Misplaced)
+    (unless (ltb (k .ifs) 32) (faulty Fault.TooMany)
+    (ifThen c (oneIf k)))))
 
 -- the command inside `depth` ifs, in an arm that the command byte `close` ends, after the counts k
 unfoldable pub stepOf : List ℕ → Header → (depth close : ℕ) → Command → Counts → Step
 unfolding unless
-stepOf bs h depth close Command.Missing k = Step.Refused Fault.Unknown
-stepOf bs h depth close (Command.Close mark) k = unless (eqb mark close) (Step.Refused Fault.Misplaced) Step.Closed
+stepOf bs h depth close Command.Missing k = faulty Fault.Unknown
+stepOf bs h depth close (Command.Close mark) k = unless (eqb mark close) (faulty Fault.Misplaced) closing
 stepOf bs h depth close (Command.If c) k = ifStep bs h depth c k
 stepOf bs h depth close (Command.Simple c) k = simpleStep bs h c k

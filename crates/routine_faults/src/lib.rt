@@ -2,9 +2,6 @@
 pub mod steps;
 pub mod words;
 
-use routine_command::Condition;
-use routine_command::Simple;
-
 // How many ifs, reads and writes were met. Reads and writes are the accesses.
 pub struct Counts {
     pub ifs: u8,
@@ -26,10 +23,8 @@ pub enum Fault {
     TooMany,
 }
 
-// What a command is where it stands: refused, the end of its arm, or a command with the counts after it.
-pub enum Step {
-    Refused(Fault),
-    Closed,
-    Plain(Simple, Counts),
-    Fork(Condition, Counts),
+// What is found of a command where it stands: it is good, or what is wrong with it.
+pub enum Verdict {
+    Good,
+    Faulty(Fault),
 }

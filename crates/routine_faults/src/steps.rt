@@ -1,8 +1,7 @@
 // What a command is where it stands: refusals 3 to 7, in their order.
 use crate::Counts;
 use crate::Fault;
-use crate::Step;
-use routine_command::Command;
+use crate::Verdict;
 use routine_command::Condition;
 use routine_command::Simple;
 use routine_command::Touch;
@@ -14,7 +13,8 @@ ghost use mathlib.Core.Path.{_≡_};
 ghost use Prim.Native.Nat.{_^_, _<_};
 ghost use lib.Dec.{ltb, eqb};
 ghost use mathlib.Core.Bool.{false, _&&_};
-ghost use Rattle.routine_faults.specs.Step.{converts, inRange, widthsFit, noCounts, accesses, isAccess, tooMany, after, simpleStep, oneIf, ifStep, stepOf};
+ghost use Rattle.routine_faults.specs.Step.{converts, inRange, widthsFit, noCounts, accesses, isAccess, tooMany, after, simpleStep, oneIf, ifStep};
+ghost use Rattle.routine_faults.specs.Inner.Verdict.{verdictOf};
 
 // c is below 2 to the width w.
 pub fn fits_width(c: u32, w: u8) -> bool
@@ -140,19 +140,20 @@ pub fn counts_after(c: Simple, k: Counts) -> Counts
     }
 }
 
-fn simple_step(bytes: &[u8], h: Header, c: Simple, k: Counts) -> Step
-    ensures { λ r. ⌜ r ≡ simpleStep (now (bytes .entry)) h c k ⌝ }
+// What is wrong with a command that is no part of an if, after the counts k.
+pub fn simple_fault(bytes: &[u8], h: Header, c: Simple, k: Counts) -> Verdict
+    ensures { λ r. ⌜ r ≡ verdictOf (simpleStep (now (bytes .entry)) h c k) ⌝ }
 {
     if !in_range(bytes, h, c) {
-        return Step::Refused(Fault::Operand);
+        return Verdict::Faulty(Fault::Operand);
     }
     if !widths_fit(bytes, c) {
-        return Step::Refused(Fault::Widths);
+        return Verdict::Faulty(Fault::Widths);
     }
     if too_many(c, k) {
-        return Step::Refused(Fault::TooMany);
+        return Verdict::Faulty(Fault::TooMany);
     }
-    Step::Plain(c, counts_after(c, k))
+    Verdict::Good
 }
 
 // The counts after an if that is not the 33rd.
@@ -167,39 +168,21 @@ pub fn counts_after_if(k: Counts) -> Counts
     }
 }
 
-// An if inside `depth` others.
-fn if_step(bytes: &[u8], h: Header, depth: u8, c: Condition, k: Counts) -> Step
-    ensures { λ r. ⌜ r ≡ ifStep (now (bytes .entry)) h depth c k ⌝ }
+// What is wrong with an if inside `depth` others, after the counts k.
+pub fn if_fault(bytes: &[u8], h: Header, depth: u8, c: Condition, k: Counts) -> Verdict
+    ensures { λ r. ⌜ r ≡ verdictOf (ifStep (now (bytes .entry)) h depth c k) ⌝ }
 {
     if !below3(c.relation, 10, c.s, h.variables, c.t, h.variables) {
-        return Step::Refused(Fault::Operand);
+        return Verdict::Faulty(Fault::Operand);
     }
     if width_of(bytes, c.s) != width_of(bytes, c.t) {
-        return Step::Refused(Fault::Widths);
+        return Verdict::Faulty(Fault::Widths);
     }
     if 8 <= depth {
-        return Step::Refused(Fault::Misplaced);
+        return Verdict::Faulty(Fault::Misplaced);
     }
     if 32 <= k.ifs {
-        return Step::Refused(Fault::TooMany);
+        return Verdict::Faulty(Fault::TooMany);
     }
-    Step::Fork(c, counts_after_if(k))
-}
-
-// What the command is inside `depth` ifs, in an arm that the command byte `close` ends, after the counts k.
-pub fn step_of(bytes: &[u8], h: Header, depth: u8, close: u8, command: Command, k: Counts) -> Step
-    ensures { λ r. ⌜ r ≡ stepOf (now (bytes .entry)) h depth close command k ⌝ }
-{
-    match command {
-        Command::Missing => Step::Refused(Fault::Unknown),
-        Command::Close(mark) => {
-            if mark == close {
-                Step::Closed
-            } else {
-                Step::Refused(Fault::Misplaced)
-            }
-        }
-        Command::If(c) => if_step(bytes, h, depth, c, k),
-        Command::Simple(c) => simple_step(bytes, h, c, k),
-    }
+    Verdict::Good
 }

@@ -5,9 +5,10 @@ use mathlib.Core.Path.{_≡_, refl, sym, _∙_}
 use Prim.Native.Nat.{ℕ, _<_, _≤_, _+_, _*_, _-_}
 use lib.ListN.{length}
 use Rattle.routine.specs.Inner.Walk.{walkArm}
-use Rattle.routine_faults.specs.declared.Step.{Step}
+use Rattle.routine_faults.specs.Step.{faulty, closing, simpleThen, ifThen}
 use Rattle.routine.specs.declared.Walked.{Walked}
 use Rattle.routine_command.proofs.Sizes.{simple-size}
+use Rattle.routine.proofs.Arms.{is-missing, is-misplaced, is-closing, faulty-simple, is-simple, few-accesses, faulty-if, is-if, few-ifs}
 use Rattle.routine.proofs.Arms.{fits-by, over, then-by, ended-arm, ended-if, walk-if}
 use borrow.Fn.Kinds.{In, Out}
 use borrow.Fn.PlainCycle.{Measures, is, falls, and}
@@ -19,7 +20,10 @@ use Rattle.routine.proofs.walks.walk_if.Kinds as walk-if-kinds
 use Rattle.routine.proofs.walks.+walk_arm+walk_if.Lts-walk_if as walk-if-lts
 use Rattle.routine_command.proofs.commands.command_at.Reads as command-at-reads
 use Rattle.routine_command.proofs.commands.simple_size.Reads as simple-size-reads
-use Rattle.routine_faults.proofs.steps.step_of.Reads as step-of-reads
+use Rattle.routine_faults.proofs.steps.counts_after.Reads as counts-after-reads
+use Rattle.routine_faults.proofs.steps.counts_after_if.Reads as counts-after-if-reads
+use Rattle.routine_faults.proofs.steps.if_fault.Reads as if-fault-reads
+use Rattle.routine_faults.proofs.steps.simple_fault.Reads as simple-fault-reads
 use Rattle.routine.proofs.walks.+walk_arm+walk_if.{statement}
 use Rattle.routine.proofs.walks.+walk_arm+walk_if.Tie.{close}
 
@@ -55,12 +59,18 @@ module _ (t : ℕ) where
   arm-calls = (
     command-at-reads.Asked,
     command-at-reads.Learnt,
-    step-of-reads.Asked,
-    step-of-reads.Learnt,
-    simple-size-reads.Asked,
-    simple-size-reads.Learnt,
+    if-fault-reads.Asked,
+    if-fault-reads.Learnt,
+    counts-after-if-reads.Asked,
+    counts-after-if-reads.Learnt,
     walk-if-below t,
     walk-if.Post,
+    simple-fault-reads.Asked,
+    simple-fault-reads.Learnt,
+    simple-size-reads.Asked,
+    simple-size-reads.Learnt,
+    counts-after-reads.Asked,
+    counts-after-reads.Learnt,
   )
 
   -- a need of walk_arm
@@ -76,94 +86,64 @@ module _ (t : ℕ) where
   walk-arm-loop-holds : Arm walk-arm-lts.Need-loop-holds
   walk-arm-loop-holds c = (omega arith, refl)
 
-  walk-arm-command-at-requires : Arm walk-arm-lts.Need-command-at-requires
-  walk-arm-command-at-requires c κs = search needs
-
-  walk-arm-step-of-requires : Arm walk-arm-lts.Need-step-of-requires
-  walk-arm-step-of-requires c κs = search needs
-
-  walk-arm-enum-known-fault : Arm walk-arm-lts.Need-enum-known-fault
-  walk-arm-enum-known-fault c = search needs
-
   walk-arm-returns : Arm walk-arm-lts.Need-returns
-  walk-arm-returns c =
-      let s = c .before .before .before in
-      over _ _ _ _ _ _ _ _ (Step.Refused _) (s .step-of .ensures) (s .before .command-at .ensures) (c .before .fault .given .1) _ (s .before .before .loop .inv .1)
-
-  walk-arm-enum-told : Arm walk-arm-lts.Need-enum-told
-  walk-arm-enum-told c = search needs
-
-  walk-arm-add-t19 : Arm walk-arm-lts.Need-add-t19
-  walk-arm-add-t19 c =
-      let s = c .before .before in
-      omega (arith, fits-by _ _ _ _ _ _ _ _ Step.Closed (s .step-of .ensures) (s .before .command-at .ensures) (c .enum-told .given .1))
+  walk-arm-returns c = over _ _ _ _ _ _ (faulty _) (is-missing _ _ (c .before .before .before .before .before .args .depth) (c .before .before .before .before .before .args .close) _ _ _ (c .before .before .command-at .ensures) (c .enum-told .given .1)) _ (c .before .before .before .loop .inv .1)
 
   walk-arm-returns-2 : Arm walk-arm-lts.Need-returns-2
-  walk-arm-returns-2 c =
-      let s = c .before .before in
-      over _ _ _ _ _ _ _ _ Step.Closed (s .step-of .ensures) (s .before .command-at .ensures) (c .enum-told .given .1) _ (s .before .before .loop .inv .1)
+  walk-arm-returns-2 c = over _ _ _ _ _ _ (faulty _) (is-misplaced _ _ (c .before .before .before .before .before .before .before .args .depth) (c .before .before .before .before .before .before .before .args .close) _ _ _ (c .before .before .before .before .command-at .ensures) _ (c .before .before .mark .given .1) (c .if1 .taken)) _ (c .before .before .before .before .before .loop .inv .1)
 
-  walk-arm-enum-known-c : Arm walk-arm-lts.Need-enum-known-c
-  walk-arm-enum-known-c c = search needs
+  walk-arm-add-t22 : Arm walk-arm-lts.Need-add-t22
+  walk-arm-add-t22 c =
+      let a = c .before .before .before .before .before .before .before .args in
+      omega (arith, fits-by _ (a .h) (a .depth) (a .close) _ (a .before) closing (is-closing _ (a .h) (a .depth) (a .close) _ (a .before) _ (c .before .before .before .before .command-at .ensures) _ (c .before .before .mark .given .1) (c .if1 .left)))
 
-  walk-arm-simple-size-requires : Arm walk-arm-lts.Need-simple-size-requires
-  walk-arm-simple-size-requires c κs = search needs
+  walk-arm-returns-3 : Arm walk-arm-lts.Need-returns-3
+  walk-arm-returns-3 c = over _ _ _ _ _ _ closing (is-closing _ _ (c .before .before .before .before .before .before .before .args .depth) (c .before .before .before .before .before .before .before .args .close) _ _ _ (c .before .before .before .before .command-at .ensures) _ (c .before .before .mark .given .1) (c .if1 .left)) _ (c .before .before .before .before .before .loop .inv .1)
 
-  walk-arm-add-at : Arm walk-arm-lts.Need-add-at
-  walk-arm-add-at c =
-      let s = c .before .before .before .before in
-      omega (arith, fits-by _ _ _ _ _ _ _ _ (Step.Plain _ _) (s .step-of .ensures) (s .before .command-at .ensures) (c .before .before .c .given .1))
+  walk-arm-returns-4 : Arm walk-arm-lts.Need-returns-4
+  walk-arm-returns-4 c = over _ _ _ _ _ _ (faulty _) (faulty-if _ _ (c .before .before .before .before .before .before .before .before .before .before .args .depth) (c .before .before .before .before .before .before .before .before .before .before .args .close) _ _ _ (c .before .before .before .before .before .before .before .command-at .ensures) _ (c .before .before .before .before .before .c .given .1) _ (c .before .before .before .if-fault .ensures) _ (c .before .fault .given .1)) _ (c .before .before .before .before .before .before .before .before .loop .inv .1)
 
-  walk-arm-loop-less : Arm walk-arm-lts.Need-loop-less
-  walk-arm-loop-less c =
-      let s = c .before .before .before .before in
-      omega (arith, fits-by _ _ _ _ _ _ _ _ (Step.Plain _ _) (s .step-of .ensures) (s .before .command-at .ensures) (c .before .before .c .given .1), simple-size (c .before .before .c .given .0 .0))
-
-  walk-arm-loop-again : Arm walk-arm-lts.Need-loop-again
-  walk-arm-loop-again c =
-      let s = c .before .before .before .before in (
-        omega arith,
-        rw (c .simple-size .ensures)
-            (over _ _ _ _ _ _ _ _ (Step.Plain _ _) (s .step-of .ensures) (s .before .command-at .ensures) (c .before .before .c .given .1) _ (s .before .before .loop .inv .1)),
-      )
-
-  walk-arm-enum-known-after : Arm walk-arm-lts.Need-enum-known-after
-  walk-arm-enum-known-after c = search needs
+  walk-arm-counts-after-if-requires : Arm walk-arm-lts.Need-counts-after-if-requires
+  walk-arm-counts-after-if-requires c κs = few-ifs _ _ (c .before .before .before .before .before .before .before .before .before .args .depth) (c .before .before .before .before .before .before .before .before .before .args .close) _ _ _ (c .before .before .before .before .before .before .command-at .ensures) _ (c .before .before .before .before .c .given .1) _ (c .before .before .if-fault .ensures) (c .enum-told2 .given .1)
 
   walk-arm-walk-if-requires : Arm walk-arm-lts.Need-walk-if-requires
   walk-arm-walk-if-requires c κs =
-      let s = c .before .before .before in
-      let f = fits-by _ _ _ _ _ _ _ _ (Step.Fork _ _) (s .step-of .ensures) (s .before .command-at .ensures) (c .before .after .given .1) in
+      let f = fits-by _ _ (c .before .before .before .before .before .before .before .before .before .before .args .depth) (c .before .before .before .before .before .before .before .before .before .before .args .close) _ _ (ifThen _ _) (is-if _ _ (c .before .before .before .before .before .before .before .before .before .before .args .depth) (c .before .before .before .before .before .before .before .before .before .before .args .close) _ _ _ (c .before .before .before .before .before .before .before .command-at .ensures) _ (c .before .before .before .before .before .c .given .1) _ (c .before .before .before .if-fault .ensures) (c .before .enum-told2 .given .1)) in
       (omega arith, f)
 
-  walk-arm-enum-known-fault-2 : Arm walk-arm-lts.Need-enum-known-fault-2
-  walk-arm-enum-known-fault-2 c = search needs
+  walk-arm-returns-5 : Arm walk-arm-lts.Need-returns-5
+  walk-arm-returns-5 c =
+      then-by _ _ (Walked.Refused _ _) _ _ (rw (c .before .before .before .before .counts-after-if .ensures) at (c .before .before .before .walk-if .ensures)) (c .before .fault2 .given .1)
+      (over _ _ _ _ _ _ (ifThen _ _) (is-if _ _ (c .before .before .before .before .before .before .before .before .before .before .before .before .before .before .args .depth) (c .before .before .before .before .before .before .before .before .before .before .before .before .before .before .args .close) _ _ _ (c .before .before .before .before .before .before .before .before .before .before .before .command-at .ensures) _ (c .before .before .before .before .before .before .before .before .before .c .given .1) _ (c .before .before .before .before .before .before .before .if-fault .ensures) (c .before .before .before .before .before .enum-told2 .given .1)) _ (c .before .before .before .before .before .before .before .before .before .before .before .before .loop .inv .1))
 
-  walk-arm-returns-3 : Arm walk-arm-lts.Need-returns-3
-  walk-arm-returns-3 c =
-      let f = c .before .before .before in
-      let s = f .before .before .before .before in
-      then-by _ _ (Walked.Refused _ _) _ _ (f .walk-if .ensures) (c .before .fault2 .given .1)
-      (over _ _ _ _ _ _ _ _ (Step.Fork _ _) (s .step-of .ensures) (s .before .command-at .ensures) (f .before .before .after .given .1) _ (s .before .before .loop .inv .1))
+  walk-arm-loop-less : Arm walk-arm-lts.Need-loop-less
+  walk-arm-loop-less c =
+      let l = ended-if _ _ _ _ _ _ _ _ (c .before .next .given .1) (c .before .before .before .walk-if .ensures) in
+      omega arith
 
-  walk-arm-enum-known-next : Arm walk-arm-lts.Need-enum-known-next
-  walk-arm-enum-known-next c = search needs
+  walk-arm-loop-again : Arm walk-arm-lts.Need-loop-again
+  walk-arm-loop-again c =
+      let l = ended-if _ _ _ _ _ _ _ _ (c .before .next .given .1) (c .before .before .before .walk-if .ensures) in (
+        omega arith,
+        then-by _ _ (Walked.Ended _ _) _ _ (rw (c .before .before .before .before .counts-after-if .ensures) at (c .before .before .before .walk-if .ensures)) (c .before .next .given .1)
+            (over _ _ _ _ _ _ (ifThen _ _) (is-if _ _ (c .before .before .before .before .before .before .before .before .before .before .before .before .before .before .args .depth) (c .before .before .before .before .before .before .before .before .before .before .before .before .before .before .args .close) _ _ _ (c .before .before .before .before .before .before .before .before .before .before .before .command-at .ensures) _ (c .before .before .before .before .before .before .before .before .before .c .given .1) _ (c .before .before .before .before .before .before .before .if-fault .ensures) (c .before .before .before .before .before .enum-told2 .given .1)) _ (c .before .before .before .before .before .before .before .before .before .before .before .before .loop .inv .1)),
+      )
+
+  walk-arm-returns-6 : Arm walk-arm-lts.Need-returns-6
+  walk-arm-returns-6 c = over _ _ _ _ _ _ (faulty _) (faulty-simple _ _ (c .before .before .before .before .before .before .before .before .before .before .args .depth) (c .before .before .before .before .before .before .before .before .before .before .args .close) _ _ _ (c .before .before .before .before .before .before .before .command-at .ensures) _ (c .before .before .before .before .before .c2 .given .1) _ (c .before .before .before .simple-fault .ensures) _ (c .before .fault3 .given .1)) _ (c .before .before .before .before .before .before .before .before .loop .inv .1)
+
+  walk-arm-add-at : Arm walk-arm-lts.Need-add-at
+  walk-arm-add-at c = omega (arith, fits-by _ _ (c .before .before .before .before .before .before .before .before .before .before .args .depth) (c .before .before .before .before .before .before .before .before .before .before .args .close) _ _ (simpleThen _ _) (is-simple _ _ (c .before .before .before .before .before .before .before .before .before .before .args .depth) (c .before .before .before .before .before .before .before .before .before .before .args .close) _ _ _ (c .before .before .before .before .before .before .before .command-at .ensures) _ (c .before .before .before .before .before .c2 .given .1) _ (c .before .before .before .simple-fault .ensures) (c .before .enum-told3 .given .1)), c .simple-size .ensures)
+
+  walk-arm-counts-after-requires : Arm walk-arm-lts.Need-counts-after-requires
+  walk-arm-counts-after-requires c κs = few-accesses _ _ (c .before .before .before .before .before .before .before .before .before .before .args .depth) (c .before .before .before .before .before .before .before .before .before .before .args .close) _ _ _ (c .before .before .before .before .before .before .before .command-at .ensures) _ (c .before .before .before .before .before .c2 .given .1) _ (c .before .before .before .simple-fault .ensures) (c .before .enum-told3 .given .1)
 
   walk-arm-loop-less-2 : Arm walk-arm-lts.Need-loop-less-2
-  walk-arm-loop-less-2 c =
-      let f = c .before .before .before in
-      let l = ended-if _ _ _ _ _ _ _ _ (c .before .next .given .1) (f .walk-if .ensures) in
-      omega arith
+  walk-arm-loop-less-2 c = omega (arith, fits-by _ _ (c .before .before .before .before .before .before .before .before .before .before .before .args .depth) (c .before .before .before .before .before .before .before .before .before .before .before .args .close) _ _ (simpleThen _ _) (is-simple _ _ (c .before .before .before .before .before .before .before .before .before .before .before .args .depth) (c .before .before .before .before .before .before .before .before .before .before .before .args .close) _ _ _ (c .before .before .before .before .before .before .before .before .command-at .ensures) _ (c .before .before .before .before .before .before .c2 .given .1) _ (c .before .before .before .before .simple-fault .ensures) (c .before .before .enum-told3 .given .1)), c .before .simple-size .ensures, simple-size (c .before .before .before .before .before .before .c2 .given .0 .0))
 
   walk-arm-loop-again-2 : Arm walk-arm-lts.Need-loop-again-2
   walk-arm-loop-again-2 c =
-      let f = c .before .before .before in
-      let s = f .before .before .before .before in
-      let l = ended-if _ _ _ _ _ _ _ _ (c .before .next .given .1) (f .walk-if .ensures) in (
-        omega arith,
-        then-by _ _ (Walked.Ended _ _) _ _ (f .walk-if .ensures) (c .before .next .given .1)
-            (over _ _ _ _ _ _ _ _ (Step.Fork _ _) (s .step-of .ensures) (s .before .command-at .ensures) (f .before .before .after .given .1) _ (s .before .before .loop .inv .1)),
-      )
+      (omega (arith, c .before .before .before .before .before .before .before .before .before .loop .inv .0), rw (c .before .simple-size .ensures, c .counts-after .ensures) (over _ _ _ _ _ _ (simpleThen _ _) (is-simple _ _ (c .before .before .before .before .before .before .before .before .before .before .before .args .depth) (c .before .before .before .before .before .before .before .before .before .before .before .args .close) _ _ _ (c .before .before .before .before .before .before .before .before .command-at .ensures) _ (c .before .before .before .before .before .before .c2 .given .1) _ (c .before .before .before .before .simple-fault .ensures) (c .before .before .enum-told3 .given .1)) _ (c .before .before .before .before .before .before .before .before .before .loop .inv .1)))
 
   walk-if-add-walk-arm : If walk-if-lts.Need-add-walk-arm
   walk-if-add-walk-arm c = omega arith
@@ -207,23 +187,33 @@ pub +walk-arm+walk-if-spec : {M : Type 1} → statement M
     walk-arm-Inv-loop
     walk-arm-μ-loop
     (walk-arm-loop-holds t)
-    (walk-arm-command-at-requires t)
-    (walk-arm-step-of-requires t)
-    (walk-arm-enum-known-fault t)
+    (λ c κs. search needs)
+    (λ c. search needs)
     (walk-arm-returns t)
-    (walk-arm-enum-told t)
-    (walk-arm-add-t19 t)
+    (λ c. search needs)
     (walk-arm-returns-2 t)
-    (walk-arm-enum-known-c t)
-    (walk-arm-simple-size-requires t)
-    (walk-arm-add-at t)
+    (walk-arm-add-t22 t)
+    (walk-arm-returns-3 t)
+    (λ c. search needs)
+    (λ c κs. search needs)
+    (λ c. search needs)
+    (walk-arm-returns-4 t)
+    (λ c. search needs)
+    (walk-arm-counts-after-if-requires t)
+    (walk-arm-walk-if-requires t)
+    (λ c. search needs)
+    (walk-arm-returns-5 t)
+    (λ c. search needs)
     (walk-arm-loop-less t)
     (walk-arm-loop-again t)
-    (walk-arm-enum-known-after t)
-    (walk-arm-walk-if-requires t)
-    (walk-arm-enum-known-fault-2 t)
-    (walk-arm-returns-3 t)
-    (walk-arm-enum-known-next t)
+    (λ c. search needs)
+    (λ c κs. search needs)
+    (λ c. search needs)
+    (walk-arm-returns-6 t)
+    (λ c. search needs)
+    (λ c κs. search needs)
+    (walk-arm-add-at t)
+    (walk-arm-counts-after-requires t)
     (walk-arm-loop-less-2 t)
     (walk-arm-loop-again-2 t))
     λ t. walk-if-lts.spec

@@ -3,8 +3,8 @@ use native.Mathlib.Omega.{arith}
 use borrow.Author.Tests.{lt-ltb, le-ltb, eq-eqb, ne-eqb, not-true, not-false}
 use Rattle.routine_faults.specs.Step.{ifStep}
 use borrow.Author.Needs.{needs}
-use Rattle.routine_faults.proofs.steps.if_step.Statement.{statement}
-use Rattle.routine_faults.proofs.steps.if_step.Tie as tie
+use Rattle.routine_faults.proofs.steps.if_fault.Statement.{statement}
+use Rattle.routine_faults.proofs.steps.if_fault.Tie as tie
 
 below3-requires : tie.Need-below3-requires
 below3-requires c κs = search needs
@@ -57,13 +57,10 @@ returns-4 c =
       le-ltb (a .k .ifs) 32 (omega arith),
     )
 
-counts-after-if-requires : tie.Need-counts-after-if-requires
-counts-after-if-requires c κs = search needs
-
 returns-5 : tie.Need-returns-5
 unfolding ifStep
 returns-5 c =
-    let d = c .before .before .before in
+    let d = c .before .before in
     let w = d .before .before in
     let r = w .before .before .before in
     let a = r .before .before .args in
@@ -73,11 +70,10 @@ returns-5 c =
       eq-eqb _ _ (sym (w .before .width-of .ensures) ∙ d .before .if2 .left ∙ w .width-of2 .ensures),
       lt-ltb (a .depth) 8 (omega arith),
       lt-ltb (a .k .ifs) 32 (omega arith),
-      c .counts-after-if .ensures,
     )
 
-pub if-step-spec : {M : Type 1} → statement M
-if-step-spec =
+pub if-fault-spec : {M : Type 1} → statement M
+if-fault-spec =
     tie.close
     (tie.spec
     below3-requires
@@ -87,5 +83,4 @@ if-step-spec =
     returns-2
     returns-3
     returns-4
-    counts-after-if-requires
     returns-5)

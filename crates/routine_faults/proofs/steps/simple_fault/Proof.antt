@@ -1,9 +1,8 @@
-use mathlib.Core.Path.{sym, _∙_}
 use borrow.Author.Tests.{not-true, not-false}
 use Rattle.routine_faults.specs.Step.{simpleStep}
 use borrow.Author.Needs.{needs}
-use Rattle.routine_faults.proofs.steps.simple_step.Statement.{statement}
-use Rattle.routine_faults.proofs.steps.simple_step.Tie as tie
+use Rattle.routine_faults.proofs.steps.simple_fault.Statement.{statement}
+use Rattle.routine_faults.proofs.steps.simple_fault.Tie as tie
 
 in-range-requires : tie.Need-in-range-requires
 in-range-requires c κs = search needs
@@ -40,13 +39,10 @@ returns-3 c =
       c .if3 .taken,
     )
 
-counts-after-requires : tie.Need-counts-after-requires
-counts-after-requires c κs = sym (c .before .too-many .ensures) ∙ c .if3 .left
-
 returns-4 : tie.Need-returns-4
 unfolding simpleStep
 returns-4 c =
-    let m = c .before .before in
+    let m = c .before in
     let w = m .before .before in
     let r = w .before .before in
     rw (
@@ -55,12 +51,11 @@ returns-4 c =
       ← w .widths-fit .ensures,
       not-false (w .widths-fit .result) (m .before .if2 .left),
       ← m .too-many .ensures,
-      c .before .if3 .left,
-      c .counts-after .ensures,
+      c .if3 .left,
     )
 
-pub simple-step-spec : {M : Type 1} → statement M
-simple-step-spec =
+pub simple-fault-spec : {M : Type 1} → statement M
+simple-fault-spec =
     tie.close
     (tie.spec
     in-range-requires
@@ -69,5 +64,4 @@ simple-step-spec =
     returns-2
     too-many-requires
     returns-3
-    counts-after-requires
     returns-4)
