@@ -5,11 +5,13 @@ use mathlib.Core.Bool.{cond}
 use lib.ListN.{length}
 use lib.Dec.{eqb}
 use Rattle.routine_header.specs.Header.{width, arraySize}
+use Rattle.routine_command.specs.Command.{touches}
 use Rattle.routine_faults.specs.Step.{accesses}
 use Rattle.routine_faults.specs.Inputs.{inputNumber}
 use Rattle.routine_header.specs.declared.Header.{Header}
 use Rattle.routine_faults.specs.declared.Counts.{Counts}
 use Rattle.routine_command.specs.declared.Simple.{Simple}
+use Rattle.routine_command.specs.declared.Touch.{Touch}
 use Rattle.netlist.specs.declared.Node.{Node}
 use Rattle.arithmetic.specs.Extend.{constBit}
 use Rattle.arithmetic.specs.Input.{inputs, inBit}
@@ -54,12 +56,22 @@ access bs h t g array i k s go =
 abbrev pub readInto : List ℕ → Header → (d : ℕ) → Counts → (g : ℕ) → Wires → Stretch
 readInto bs h d k g s = record { nodes = inputs (inputNumber h k) (width bs d); wires = put bs s d (inBit g) }
 
--- a command that is no if, the next variable being g
-unfoldable pub simple : List ℕ → Header → Target → (g : ℕ) → Simple → Counts → Wires → Stretch
-simple bs h t g (Simple.Set d c) k s = still (put bs s d (constBit c))
-simple bs h t g (Simple.Convert op d a) k s = still (put bs s d (conversion op (bitsOf bs s a) (width bs a)))
-simple bs h t g (Simple.Compute op d a b) k s =
+-- what a command touches comes first
+abbrev pub accessBy : List ℕ → Header → Target → (g : ℕ) → Touch → Counts → Wires → (ℕ → Wires → Stretch) → Stretch
+accessBy bs h t g Touch.Nothing k s go = go g s
+accessBy bs h t g (Touch.Reads d array i) k s go = access bs h t g array i k s go
+accessBy bs h t g (Touch.Writes array i) k s go = access bs h t g array i k s go
+
+-- the bits that a command gives to a variable, the next variable of the netlist being g; a write gives none
+abbrev pub bitsGiven : List ℕ → Header → Simple → Counts → (g : ℕ) → Wires → Stretch
+bitsGiven bs h (Simple.Set d c) k g s = still (put bs s d (constBit c))
+bitsGiven bs h (Simple.Convert op d a) k g s = still (put bs s d (conversion op (bitsOf bs s a) (width bs a)))
+bitsGiven bs h (Simple.Compute op d a b) k g s =
     let x : Number = computation op g (bitsOf bs s a) (bitsOf bs s b) (width bs d) in
     record { nodes = x .nodes; wires = put bs s d (x .bits) }
-simple bs h t g (Simple.Read d array i) k s = access bs h t g array i k s (readInto bs h d k)
-simple bs h t g (Simple.Write array i a) k s = access bs h t g array i k s (λ g₁. still)
+bitsGiven bs h (Simple.Read d array i) k g s = readInto bs h d k g s
+bitsGiven bs h (Simple.Write array i a) k g s = still s
+
+-- a command that is no if, the next variable being g
+unfoldable pub simple : List ℕ → Header → Target → (g : ℕ) → Simple → Counts → Wires → Stretch
+simple bs h t g c k s = accessBy bs h t g (touches c) k s (bitsGiven bs h c k)
