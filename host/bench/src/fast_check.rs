@@ -1,11 +1,7 @@
-//! The check of a routine's commands, in one pass over the bytes. Somebody may
-//! follow it: each command is handed on as soon as it is found good, so that a
-//! run needs no second pass.
+//! The check of a routine's commands, in one pass over the bytes.
 
-use crate::fast_follow::{Access, Alone, Follow};
 use crate::fast_header::{read, Header};
 use crate::fast_refusal::Refusal;
-use crate::fast_word::{copied, cut, sign_extended};
 
 const COMMAND: u8 = 3;
 const RANGE: u8 = 4;
@@ -20,40 +16,58 @@ pub struct Routine {
     pub counts: Counts,
 }
 
-/// How many ifs, accesses and reads there are, and the variable of each read.
+/// How many ifs, accesses and reads there are, the variable of each read, and
+/// where the arms of each if lie, so that a run can go past them.
 pub struct Counts {
     pub ifs: u8,
     pub accesses: u8,
     pub reads: u8,
     pub read_by: [u8; 64],
+    pub arms: [Arms; 32],
+}
+
+/// Where the else of an if begins, and where the if ends.
+#[derive(Clone, Copy, Default)]
+pub struct Arms {
+    pub second: Place,
+    pub end: Place,
+}
+
+/// An offset, and how many ifs, accesses and reads stand before it.
+#[derive(Clone, Copy, Default)]
+pub struct Place {
+    pub at: u16,
+    pub ifs: u8,
+    pub accesses: u8,
+    pub reads: u8,
 }
 
 /// 1 to 8.
 pub fn check(bytes: &[u8]) -> Result<Routine, Refusal> {
     let header = read(bytes)?;
-    let counts = walk(bytes, &header, &mut Alone)?;
+    let counts = walk(bytes, &header)?;
     Ok(Routine { header, counts })
 }
 
 /// 3 to 8.
-#[inline]
-pub fn walk(bytes: &[u8], header: &Header, follower: &mut impl Follow) -> Result<Counts, Refusal> {
+fn walk(bytes: &[u8], header: &Header) -> Result<Counts, Refusal> {
     let mut walk = Walk {
         header,
-        follower,
         counts: Counts {
             ifs: 0,
             accesses: 0,
             reads: 0,
             read_by: [0; 64],
+            arms: [Arms::default(); 32],
         },
         depth: 0,
         closes: [0; 9],
+        open: [0; 9],
     };
     let mut rest = &bytes[header.first_command..];
     loop {
         let place = bytes.len() - rest.len();
-        match walk.command(rest) {
+        match walk.command(rest, place) {
             Ok(Some(next)) => rest = next,
             Ok(None) if rest.len() > 1 => return Err(Refusal(TRAILING, place + 1)),
             Ok(None) => return Ok(walk.counts),
@@ -62,38 +76,36 @@ pub fn walk(bytes: &[u8], header: &Header, follower: &mut impl Follow) -> Result
     }
 }
 
-struct Walk<'a, F> {
+struct Walk<'a> {
     header: &'a Header,
-    follower: &'a mut F,
     counts: Counts,
     depth: usize,
     /// For each depth the byte that closes the arm there.
     closes: [u8; 9],
+    /// For each depth the number of the if that is open there.
+    open: [u8; 9],
 }
 
 /// What follows a command, or the number of its refusal.
 type Next<'b> = Result<&'b [u8], u8>;
 
-impl<F: Follow> Walk<'_, F> {
+impl Walk<'_> {
     /// What follows the command, if it is not the end.
     #[inline(always)]
-    fn command<'b>(&mut self, rest: &'b [u8]) -> Result<Option<&'b [u8]>, u8> {
+    fn command<'b>(&mut self, rest: &'b [u8], place: usize) -> Result<Option<&'b [u8]>, u8> {
         let next = match *rest.first().ok_or(COMMAND)? {
             0x00 if self.depth > 0 => return Err(NESTING),
             0x00 => return Ok(None),
             0x01 => self.set(rest),
-            0x02 => self.convert(rest, |to, from| to == from, copied),
-            0x03 => self.compute(rest, u32::wrapping_add),
-            0x04 => self.compute(rest, u32::wrapping_sub),
-            0x05 => self.compute(rest, u32::wrapping_mul),
-            0x06 => self.convert(rest, |to, from| to < from, cut),
-            0x07 => self.convert(rest, |to, from| to > from, copied),
-            0x08 => self.convert(rest, |to, from| to > from, sign_extended),
+            0x02 => self.convert(rest, |to, from| to == from),
+            0x03..=0x05 => self.compute(rest),
+            0x06 => self.convert(rest, |to, from| to < from),
+            0x07 | 0x08 => self.convert(rest, |to, from| to > from),
             0x09 => self.read(rest),
             0x0A => self.write(rest),
             0x0B => self.branch(rest),
-            0x0C => self.enter_else(rest),
-            0x0D => self.leave(rest),
+            0x0C => self.enter_else(rest, place),
+            0x0D => self.leave(rest, place),
             _ => Err(COMMAND),
         };
         next.map(Some)
@@ -107,18 +119,16 @@ impl<F: Follow> Walk<'_, F> {
         if width == 0 || u64::from(value) >> width != 0 {
             return Err(RANGE);
         }
-        self.follower.set(d, value);
         Ok(rest)
     }
 
     #[inline(always)]
-    fn compute<'b>(&mut self, rest: &'b [u8], op: impl Fn(u32, u32) -> u32) -> Next<'b> {
+    fn compute<'b>(&mut self, rest: &'b [u8]) -> Next<'b> {
         let ([_, d, s, t], rest) = split(rest)?;
         let [u, v, w] = [d, s, t].map(|variable| self.header.width(variable));
         if u != v || u != w || u == 0 {
             return Err(range_or_widths(u.min(v).min(w)));
         }
-        self.follower.compute(op, [d, s, t], u);
         Ok(rest)
     }
 
@@ -127,14 +137,12 @@ impl<F: Follow> Walk<'_, F> {
         &mut self,
         rest: &'b [u8],
         fits: impl Fn(u8, u8) -> bool,
-        op: impl Fn(u32, u8, u8) -> u32,
     ) -> Next<'b> {
         let ([_, d, s], rest) = split(rest)?;
         let (to, from) = (self.header.width(d), self.header.width(s));
         if to == 0 || from == 0 || !fits(to, from) {
             return Err(range_or_widths(to.min(from)));
         }
-        self.follower.convert(op, [d, s], [to, from]);
         Ok(rest)
     }
 
@@ -145,7 +153,6 @@ impl<F: Follow> Walk<'_, F> {
         let number = self.counts.reads;
         self.counts.reads += 1;
         self.counts.read_by[(number & 63) as usize] = d;
-        self.follower.read(number, d);
         Ok(rest)
     }
 
@@ -162,17 +169,10 @@ impl<F: Follow> Walk<'_, F> {
         if self.header.size(array) == 0 || !is_variable(index) || !is_variable(other) {
             return Err(RANGE);
         }
-        let number = self.counts.accesses;
-        if number == 64 {
+        if self.counts.accesses == 64 {
             return Err(TOO_MANY);
         }
         self.counts.accesses += 1;
-        let access = Access {
-            number,
-            array,
-            index,
-        };
-        self.follower.access(self.header, access);
         Ok(())
     }
 
@@ -192,31 +192,50 @@ impl<F: Follow> Walk<'_, F> {
         if self.counts.ifs == 32 {
             return Err(TOO_MANY);
         }
-        self.follower.branch(&self.counts, relation, [s, t], v);
-        self.counts.ifs += 1;
         self.depth += 1;
+        self.open[self.depth] = self.counts.ifs;
+        self.counts.ifs += 1;
         self.closes[self.depth] = 0x0C;
         Ok(rest)
     }
 
     #[inline(always)]
-    fn enter_else<'b>(&mut self, rest: &'b [u8]) -> Next<'b> {
+    fn enter_else<'b>(&mut self, rest: &'b [u8], place: usize) -> Next<'b> {
         if self.closes[self.depth] != 0x0C {
             return Err(NESTING);
         }
         self.closes[self.depth] = 0x0D;
-        self.follower.enter_else();
+        let after = self.after(place);
+        self.arms().second = after;
         Ok(&rest[1..])
     }
 
     #[inline(always)]
-    fn leave<'b>(&mut self, rest: &'b [u8]) -> Next<'b> {
+    fn leave<'b>(&mut self, rest: &'b [u8], place: usize) -> Next<'b> {
         if self.closes[self.depth] != 0x0D {
             return Err(NESTING);
         }
+        let after = self.after(place);
+        self.arms().end = after;
         self.depth -= 1;
-        self.follower.leave();
         Ok(&rest[1..])
+    }
+
+    /// The arms of the innermost if that is open.
+    #[inline(always)]
+    fn arms(&mut self) -> &mut Arms {
+        &mut self.counts.arms[(self.open[self.depth] & 31) as usize]
+    }
+
+    /// The place behind the one byte here.
+    #[inline(always)]
+    fn after(&self, place: usize) -> Place {
+        Place {
+            at: place as u16 + 1,
+            ifs: self.counts.ifs,
+            accesses: self.counts.accesses,
+            reads: self.counts.reads,
+        }
     }
 }
 

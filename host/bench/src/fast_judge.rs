@@ -1,11 +1,11 @@
 //! The judging of a whole report: the lead, the witness, the translation and
 //! the proof; then everything lent is zeroed.
 
-use crate::fast_check::{check, Counts, Routine};
-use crate::fast_machine::{End, Watch};
+use crate::fast_check::{check, Routine};
+use crate::fast_machine::{End, Machine, Watch};
 use crate::fast_proof::{self, Stored};
 use crate::fast_refusal::Refusal;
-use crate::fast_run::{check_inputs, watched};
+use crate::fast_run::check_inputs;
 use crate::fast_translate::{admit, fit, Claim};
 use crate::lent::Buffers;
 use pellet::MAX_ENTRIES;
@@ -74,9 +74,9 @@ fn decide(bytes: &[u8], report: &[u8], lent: &mut Buffers) -> Result<[u64; 8], R
 }
 
 impl Watch for Claim<'_> {
-    fn allows(&self, before: &Counts, arm: u8) -> bool {
-        let decision = self.decisions[before.ifs as usize];
-        before.accesses > self.access || decision == 2 || decision == arm
+    fn allows(&self, number: u8, accesses: u8, arm: u8) -> bool {
+        let decision = self.decisions[number as usize];
+        accesses > self.access || decision == 2 || decision == arm
     }
 
     fn names(&self, access: u8) -> bool {
@@ -99,7 +99,7 @@ fn witnessed(
     let inputs = &inputs[..count];
     check_inputs(&routine.header, &routine.counts, inputs)?;
     let access = claim.access as usize;
-    let (array, index) = match watched(bytes, routine, inputs, claim) {
+    let (array, index) = match Machine::new(routine, inputs, claim).run(bytes) {
         End::Arrived { array, index } => (array, index),
         End::Astray(number) => return Err(Refusal(OTHER_WAY, number as usize)),
         End::Ended | End::Stopped { .. } => return Err(Refusal(NOT_COME_TO, access)),

@@ -1,10 +1,7 @@
-//! The machine that a run takes place in: it follows the check and carries out
-//! what the run comes to.
+//! The run of a checked routine: nothing that the check told is tested again.
 
-use crate::fast_check::Counts;
-use crate::fast_follow::{Access, Follow};
-use crate::fast_header::Header;
-use crate::fast_word::{holds, reduce, signed};
+use crate::fast_check::{Arms, Place, Routine};
+use crate::fast_word::{holds, reduce, sign_extended, signed};
 
 /// How a run came out.
 #[derive(Clone, Copy)]
@@ -25,8 +22,9 @@ pub enum End {
 
 /// Who looks on.
 pub trait Watch {
-    /// Whether the arm taken at the if where the run stands is as decided.
-    fn allows(&self, before: &Counts, arm: u8) -> bool;
+    /// Whether the arm taken at the if of this number, with so many accesses
+    /// before it, is as decided.
+    fn allows(&self, number: u8, accesses: u8, arm: u8) -> bool;
     fn names(&self, access: u8) -> bool;
 }
 
@@ -34,7 +32,7 @@ pub trait Watch {
 pub struct Unwatched;
 
 impl Watch for Unwatched {
-    fn allows(&self, _: &Counts, _: u8) -> bool {
+    fn allows(&self, _: u8, _: u8, _: u8) -> bool {
         true
     }
 
@@ -45,36 +43,74 @@ impl Watch for Unwatched {
 
 /// One state, changed in place.
 pub struct Machine<'a, W> {
-    reads: &'a [u32],
+    routine: &'a Routine,
+    inputs: &'a [u32],
     watch: W,
     /// One for every byte, so that a variable is looked up without a test.
     pub values: [u32; 256],
     pub trail: [u8; 32],
-    pub end: End,
-    /// Whether the run comes to what is checked next.
-    is_here: bool,
+    /// How many ifs and accesses stand before the run's place, and the number of
+    /// the next input.
+    ifs: u8,
+    accesses: u8,
+    reads: usize,
     depth: usize,
-    /// For each depth whether the run comes to the else.
-    in_else: [bool; 8],
-    /// For each depth whether the run came to the if.
-    before: [bool; 8],
+    /// For each depth the number of the if that the run is in.
+    open: [u8; 8],
 }
 
-impl<'a, W> Machine<'a, W> {
-    pub fn new(header: &Header, inputs: &'a [u32], watch: W) -> Self {
-        let (parameters, reads) = inputs.split_at(header.parameters.min(inputs.len()));
+impl<'a, W: Watch> Machine<'a, W> {
+    pub fn new(routine: &'a Routine, inputs: &'a [u32], watch: W) -> Self {
+        let parameters = routine.header.parameters;
         let mut values = [0; 256];
-        values[..parameters.len()].copy_from_slice(parameters);
+        values[..parameters].copy_from_slice(&inputs[..parameters]);
         Machine {
-            reads,
+            routine,
+            inputs,
             watch,
             values,
             trail: [2; 32],
-            end: End::Ended,
-            is_here: true,
+            ifs: 0,
+            accesses: 0,
+            reads: parameters,
             depth: 0,
-            in_else: [false; 8],
-            before: [false; 8],
+            open: [0; 8],
+        }
+    }
+
+    /// Runs as far as the end, or as far as somebody watches.
+    #[inline]
+    pub fn run(&mut self, bytes: &[u8]) -> End {
+        let mut rest = &bytes[self.routine.header.first_command..];
+        loop {
+            rest = match rest[0] {
+                0x00 => return End::Ended,
+                0x01 => self.set(rest),
+                0x02 | 0x07 => self.convert(rest, |x, _, _| x),
+                0x03 => self.compute(rest, u32::wrapping_add),
+                0x04 => self.compute(rest, u32::wrapping_sub),
+                0x05 => self.compute(rest, u32::wrapping_mul),
+                0x06 => self.convert(rest, |x, to, _| reduce(x, to)),
+                0x08 => self.convert(rest, sign_extended),
+                0x0B => match self.branch(rest) {
+                    Ok(0) => &rest[4..],
+                    Ok(_) => self.enter(bytes, |arms| arms.second),
+                    Err(end) => return end,
+                },
+                0x0C => {
+                    let rest = self.enter(bytes, |arms| arms.end);
+                    self.depth -= 1;
+                    rest
+                }
+                0x0D => {
+                    self.depth -= 1;
+                    &rest[1..]
+                }
+                op => match self.access(op, rest) {
+                    Ok(()) => &rest[4..],
+                    Err(end) => return end,
+                },
+            };
         }
     }
 
@@ -83,91 +119,84 @@ impl<'a, W> Machine<'a, W> {
         self.values[variable as usize]
     }
 
-    /// Nothing more is come to.
-    fn stop(&mut self, end: End) {
-        self.end = end;
-        self.is_here = false;
-        self.in_else = [false; 8];
-        self.before = [false; 8];
+    #[inline(always)]
+    fn set<'b>(&mut self, rest: &'b [u8]) -> &'b [u8] {
+        let ([_, d, constant @ ..], rest) = split::<6>(rest);
+        self.values[d as usize] = u32::from_le_bytes(constant);
+        rest
+    }
+
+    #[inline(always)]
+    fn compute<'b>(&mut self, rest: &'b [u8], op: impl Fn(u32, u32) -> u32) -> &'b [u8] {
+        let ([_, d, s, t], rest) = split(rest);
+        let width = self.routine.header.width(d);
+        self.values[d as usize] = reduce(op(self.value(s), self.value(t)), width);
+        rest
+    }
+
+    #[inline(always)]
+    fn convert<'b>(&mut self, rest: &'b [u8], op: impl Fn(u32, u8, u8) -> u32) -> &'b [u8] {
+        let ([_, d, s], rest) = split(rest);
+        let header = &self.routine.header;
+        self.values[d as usize] = op(self.value(s), header.width(d), header.width(s));
+        rest
+    }
+
+    /// A read or a write.
+    #[inline(always)]
+    fn access(&mut self, op: u8, rest: &[u8]) -> Result<(), End> {
+        let ([_, a, b, c], _) = split(rest);
+        let (array, index) = if op == 0x09 { (b, c) } else { (a, b) };
+        let header = &self.routine.header;
+        let index = signed(self.value(index), header.width(index));
+        let access = self.accesses;
+        if self.watch.names(access) {
+            return Err(End::Arrived { array, index });
+        }
+        if index < 0 || index >= i32::from(header.size(array)) {
+            return Err(End::Stopped { access, index });
+        }
+        self.accesses += 1;
+        if op == 0x09 {
+            self.values[a as usize] = self.inputs[self.reads];
+            self.reads += 1;
+        }
+        Ok(())
+    }
+
+    /// The arm that the if takes.
+    #[inline(always)]
+    fn branch(&mut self, rest: &[u8]) -> Result<u8, End> {
+        let ([_, relation, s, t], _) = split(rest);
+        let width = self.routine.header.width(s);
+        let arm = u8::from(!holds(relation, self.value(s), self.value(t), width));
+        let number = self.ifs;
+        if !self.watch.allows(number, self.accesses, arm) {
+            return Err(End::Astray(number));
+        }
+        self.trail[(number & 31) as usize] = arm;
+        self.open[self.depth & 7] = number;
+        self.depth += 1;
+        self.ifs += 1;
+        Ok(arm)
+    }
+
+    /// Goes to a place of the innermost if.
+    #[inline(always)]
+    fn enter<'b>(&mut self, bytes: &'b [u8], which: impl Fn(&Arms) -> Place) -> &'b [u8] {
+        let number = self.open[(self.depth - 1) & 7];
+        let place = which(&self.routine.counts.arms[(number & 31) as usize]);
+        self.ifs = place.ifs;
+        self.accesses = place.accesses;
+        self.reads = place.reads as usize + self.routine.header.parameters;
+        &bytes[place.at as usize..]
     }
 }
 
-impl<W: Watch> Follow for Machine<'_, W> {
-    #[inline(always)]
-    fn set(&mut self, d: u8, value: u32) {
-        if self.is_here {
-            self.values[d as usize] = value;
-        }
-    }
-
-    #[inline(always)]
-    fn compute(&mut self, op: impl Fn(u32, u32) -> u32, [d, s, t]: [u8; 3], width: u8) {
-        if self.is_here {
-            self.values[d as usize] = reduce(op(self.value(s), self.value(t)), width);
-        }
-    }
-
-    #[inline(always)]
-    fn convert(&mut self, op: impl Fn(u32, u8, u8) -> u32, [d, s]: [u8; 2], [to, from]: [u8; 2]) {
-        if self.is_here {
-            self.values[d as usize] = op(self.value(s), to, from);
-        }
-    }
-
-    #[inline(always)]
-    fn access(&mut self, header: &Header, access: Access) {
-        if !self.is_here {
-            return;
-        }
-        let Access {
-            number,
-            array,
-            index,
-        } = access;
-        let index = signed(self.value(index), header.width(index));
-        if self.watch.names(number) {
-            self.stop(End::Arrived { array, index });
-        } else if index < 0 || index >= i32::from(header.size(array)) {
-            let access = number;
-            self.stop(End::Stopped { access, index });
-        }
-    }
-
-    #[inline(always)]
-    fn read(&mut self, number: u8, d: u8) {
-        if self.is_here {
-            let word = self.reads.get(number as usize);
-            self.values[d as usize] = word.copied().unwrap_or(0);
-        }
-    }
-
-    #[inline(always)]
-    fn branch(&mut self, before: &Counts, relation: u8, [s, t]: [u8; 2], width: u8) {
-        self.before[self.depth & 7] = self.is_here;
-        self.in_else[self.depth & 7] = false;
-        self.depth += 1;
-        if !self.is_here {
-            return;
-        }
-        let does = holds(relation, self.value(s), self.value(t), width);
-        let arm = u8::from(!does);
-        if !self.watch.allows(before, arm) {
-            self.stop(End::Astray(before.ifs));
-            return;
-        }
-        self.trail[(before.ifs & 31) as usize] = arm;
-        self.is_here = does;
-        self.in_else[(self.depth - 1) & 7] = !does;
-    }
-
-    #[inline(always)]
-    fn enter_else(&mut self) {
-        self.is_here = self.in_else[(self.depth - 1) & 7];
-    }
-
-    #[inline(always)]
-    fn leave(&mut self) {
-        self.depth -= 1;
-        self.is_here = self.before[self.depth & 7];
-    }
+/// The bytes of a command, and what follows.
+#[inline(always)]
+fn split<const SIZE: usize>(rest: &[u8]) -> ([u8; SIZE], &[u8]) {
+    let (command, rest) = rest.split_at(SIZE);
+    let command = command.try_into().expect("a slice of just that length");
+    (command, rest)
 }

@@ -1,8 +1,8 @@
-//! The run of a routine, carried out along with the check.
+//! The run of a routine: the check, the inputs, the buffers, and then the run.
 
-use crate::fast_check::{walk, Counts, Routine};
-use crate::fast_header::{read, Header};
-use crate::fast_machine::{End, Machine, Unwatched, Watch};
+use crate::fast_check::{check, Counts};
+use crate::fast_header::Header;
+use crate::fast_machine::{End, Machine, Unwatched};
 use crate::fast_refusal::Refusal;
 use crate::fast_word::reduce;
 
@@ -37,33 +37,22 @@ pub fn run(
     0
 }
 
-/// The run has ended before its inputs and buffers are looked at, yet nothing
-/// of it is handed out where they are refused.
 fn carry_out(
     bytes: &[u8],
     inputs: &[u32],
     values: &mut [u32],
     trail: &mut [u8],
 ) -> Result<End, Refusal> {
-    let header = read(bytes)?;
-    let mut machine = Machine::new(&header, inputs, Unwatched);
-    let counts = walk(bytes, &header, &mut machine)?;
-    check_inputs(&header, &counts, inputs)?;
-    let (variables, ifs) = (header.variables, counts.ifs as usize);
+    let routine = check(bytes)?;
+    check_inputs(&routine.header, &routine.counts, inputs)?;
+    let (variables, ifs) = (routine.header.variables, routine.counts.ifs as usize);
     let values = values.get_mut(..variables).ok_or(Refusal(BUFFER, 3))?;
     let trail = trail.get_mut(..ifs).ok_or(Refusal(BUFFER, 4))?;
+    let mut machine = Machine::new(&routine, inputs, Unwatched);
+    let end = machine.run(bytes);
     values.copy_from_slice(&machine.values[..variables]);
     trail.copy_from_slice(&machine.trail[..ifs]);
-    Ok(machine.end)
-}
-
-/// The run of a checked routine, as far as somebody watches. The check that it
-/// follows is the one that was passed before.
-pub fn watched(bytes: &[u8], routine: &Routine, inputs: &[u32], watch: impl Watch) -> End {
-    let mut machine = Machine::new(&routine.header, inputs, watch);
-    let checked = walk(bytes, &routine.header, &mut machine);
-    debug_assert!(checked.is_ok());
-    machine.end
+    Ok(end)
 }
 
 /// 9, then 10.

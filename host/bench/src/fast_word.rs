@@ -31,17 +31,6 @@ fn aligned(x: u32, width: u8) -> i32 {
     (x << (32 - width)) as i32
 }
 
-/// Copied, or extended by zeros.
-#[inline]
-pub fn copied(x: u32, _: u8, _: u8) -> u32 {
-    x
-}
-
-#[inline]
-pub fn cut(x: u32, to: u8, _: u8) -> u32 {
-    reduce(x, to)
-}
-
 #[inline]
 pub fn sign_extended(x: u32, to: u8, from: u8) -> u32 {
     reduce(signed(x, from) as u32, to)

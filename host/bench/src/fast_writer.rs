@@ -1,7 +1,7 @@
 //! The clauses of the circuits, written into buffers that suffice. A circuit
 //! takes its part of both buffers at once, so that the room is tested once.
 
-use crate::fast_clauses::{and, majority, mux, write, xor};
+use crate::fast_clauses::{and, majority, mux, xor};
 use crate::fast_sink::Sink;
 use std::mem::take;
 
@@ -83,7 +83,7 @@ impl Sink for Writer<'_> {
         let (words, starts, at) = self.next(16 * differing, 4 * differing);
         let places = a.iter().zip(b).filter(|(a, b)| a != b);
         for (gate, (&a, &b)) in words.chunks_exact_mut(16).zip(places) {
-            write(gate, mux(g, c, a, b));
+            gate.copy_from_slice(&mux(g, c, a, b));
             g = g.wrapping_add(2);
         }
         start_threes(starts, at);
@@ -93,7 +93,7 @@ impl Sink for Writer<'_> {
     fn row(&mut self, mut g: u32, bits: &[u32], b: u32) {
         let (words, starts, at) = self.next(10 * bits.len(), 3 * bits.len());
         for (gate, &bit) in words.chunks_exact_mut(10).zip(bits) {
-            write(gate, and(g, bit, b));
+            gate.copy_from_slice(&and(g, bit, b));
             g = g.wrapping_add(2);
         }
         start_gates(starts, at, AND_STARTS, 10);
@@ -104,9 +104,9 @@ impl Sink for Writer<'_> {
         let (words, starts, at) = self.next(56 * a.len(), 14 * a.len());
         for ((place, &a), &b) in words.chunks_exact_mut(56).zip(a).zip(b) {
             let (b, sum, next) = (b ^ turned, g.wrapping_add(2), g.wrapping_add(4));
-            write(&mut place[..16], xor(g, a, b));
-            write(&mut place[16..32], xor(sum, g, carry));
-            write(&mut place[32..], majority(next, a, b, carry));
+            place[..16].copy_from_slice(&xor(g, a, b));
+            place[16..32].copy_from_slice(&xor(sum, g, carry));
+            place[32..].copy_from_slice(&majority(next, a, b, carry));
             carry = next;
             g = g.wrapping_add(6);
         }
@@ -119,8 +119,8 @@ impl Sink for Writer<'_> {
         let mut equal = 2;
         for ((place, &a), &b) in words.chunks_exact_mut(26).zip(a).zip(b) {
             let next = g.wrapping_add(2);
-            write(&mut place[..16], xor(g, a, b));
-            write(&mut place[16..], and(next, equal, g ^ 1));
+            place[..16].copy_from_slice(&xor(g, a, b));
+            place[16..].copy_from_slice(&and(next, equal, g ^ 1));
             equal = next;
             g = g.wrapping_add(4);
         }

@@ -7,7 +7,6 @@ mod agreement;
 mod fast_check;
 mod fast_circuits;
 mod fast_clauses;
-mod fast_follow;
 mod fast_header;
 mod fast_judge;
 mod fast_machine;
