@@ -12,9 +12,9 @@ use Rattle.routine_faults.specs.declared.Counts.{Counts}
 use Rattle.routine.specs.Routine.{Arm}
 use Rattle.routine.specs.Access.{ifsBefore}
 use Rattle.routine.specs.Decode.{Decoded, rejected, routine, decode}
-use Rattle.run_machine.specs.Side.{isOn}
-use Rattle.run_machine.specs.State.{lies}
-use Rattle.run_machine.proofs.Sides.{on-side}
+use Rattle.run.specs.Side.{isOn}
+use Rattle.run.specs.State.{lies}
+use Rattle.run.proofs.Sides.{on-side}
 use Rattle.run.specs.Answer.{ranBy}
 use Rattle.run_inputs.specs.Inputs.{listed}
 use Rattle.run.specs.Run.{runOf}

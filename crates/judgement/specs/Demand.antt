@@ -10,9 +10,9 @@ use Rattle.routine_faults.specs.declared.Counts.{Counts}
 use Rattle.routine.specs.Routine.{Arm}
 use Rattle.routine.specs.Access.{ifsBefore}
 use Rattle.routine.specs.Decode.{routine, decode}
-use Rattle.run_machine.specs.Side.{sideNumber, isOn}
-use Rattle.run_machine.specs.State.{lies}
-use Rattle.run_machine.specs.declared.Side.{Side}
+use Rattle.run.specs.Side.{sideNumber, isOn}
+use Rattle.run.specs.State.{lies}
+use Rattle.run.specs.declared.Side.{Side}
 use Rattle.run.specs.Answer.{ranBy}
 use Rattle.run_inputs.specs.Inputs.{listed}
 use Rattle.run.specs.Run.{Stretch, runOf}

@@ -10,7 +10,7 @@ use lib.Seq.{drop-append-add}
 use lib.Dec.{lit≤}
 use borrow.Author.Tests.{eq-eqb, lt-ltb, lt-leb}
 use Rattle.routine_command.specs.Command.{sizeOfSimple, commandAt}
-use Rattle.routine_faults.specs.Step.{tooMany, after, simpleStep, oneIf, ifStep, stepOf}
+use Rattle.routine_faults.specs.Step.{closing, simpleThen, ifThen, tooMany, after, simpleStep, oneIf, ifStep, stepOf}
 use Rattle.routine_faults.specs.Step as step
 use Rattle.routine_faults.specs.Inner.Sound.{Sound, SoundIf}
 use Rattle.routine.specs.Routine.{Arm, done, plain, fork, armStep, stepAt, arm}
@@ -24,7 +24,6 @@ use Rattle.routine_faults.specs.declared.Counts.{Counts}
 use Rattle.routine_command.specs.declared.Simple.{Simple}
 use Rattle.routine_command.specs.declared.Condition.{Condition}
 use Rattle.routine_command.specs.declared.Command.{Command}
-use Rattle.routine_faults.specs.declared.Step.{Step}
 use Rattle.routine.proofs.Arms.{unroll}
 use Rattle.routine.proofs.Counting.{same-ifs}
 use Rattle.routine_rendering.proofs.Bytes.{further}
@@ -58,15 +57,15 @@ not-many (Simple.Read d a i) k l = lt-leb 64 (step.accesses k) (omega arith)
 not-many (Simple.Write a i s) k l = lt-leb 64 (step.accesses k) (omega arith)
 
 module _ (bs : List ℕ) (h : Header) (n close at : ℕ) (k : Counts) where
-  step-close : commandAt bs at ≡ Command.Close close → stepAt bs h n close at k ≡ Step.Closed
+  step-close : commandAt bs at ≡ Command.Close close → stepAt bs h n close at k ≡ closing
   unfolding stepOf
   step-close e = simp (e, eq-eqb close close refl)
 
-  step-simple : (c : Simple) → commandAt bs at ≡ Command.Simple c → Sound bs h c → tooMany c k ≡ false → stepAt bs h n close at k ≡ Step.Plain c (after c k)
+  step-simple : (c : Simple) → commandAt bs at ≡ Command.Simple c → Sound bs h c → tooMany c k ≡ false → stepAt bs h n close at k ≡ simpleThen c (after c k)
   unfolding stepOf simpleStep
   step-simple c e s m = simp (e, s .ranges, s .widths, m)
 
-  step-if : (c : Condition) → commandAt bs at ≡ Command.If c → SoundIf bs h c → n < 8 → k .ifs < 32 → stepAt bs h n close at k ≡ Step.Fork c (oneIf k)
+  step-if : (c : Condition) → commandAt bs at ≡ Command.If c → SoundIf bs h c → n < 8 → k .ifs < 32 → stepAt bs h n close at k ≡ ifThen c (oneIf k)
   unfolding stepOf ifStep
   step-if c e s l m = simp (e, s .ranges, s .widths, lt-ltb n 8 l, lt-ltb (k .ifs) 32 m)
 

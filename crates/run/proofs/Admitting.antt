@@ -19,14 +19,14 @@ use Rattle.routine.proofs.Accepted.{accepted, refused-by, decoded, commands-are
 use Rattle.routine.proofs.Counting.{few-ifs}
 use Rattle.routine_faults.proofs.Fine.{fine}
 use Rattle.run_inputs.specs.Inputs.{listed}
-use Rattle.run_machine.specs.State.{over}
+use Rattle.run.specs.State.{over}
 use Rattle.run.specs.Run.{runOf}
 use Rattle.run.specs.Answer.{Admission, refused, runs, byList, byRoutine, admission, ranBy, answer, Answers}
 use Rattle.run.specs.Inner.Admitted.{withoutTree, admittedRoom, admitted}
 use Rattle.run_inputs.specs.declared.Listed.{Listed}
 use Rattle.run.specs.declared.Refusal.{Refusal}
 use Rattle.run.specs.declared.Admitted.{Admitted}
-use Rattle.run_machine.specs.declared.State.{State}
+use Rattle.run.specs.declared.State.{State}
 use Rattle.run.specs.declared.Ran.{Ran}
 
 -- ---- the routine

@@ -19,9 +19,9 @@ use Rattle.routine.specs.Inner.Stands.{Stands, SomeArm}
 use Rattle.routine.proofs.Views.{by-if}
 use Rattle.routine.proofs.Walking as walking
 use Rattle.routine.proofs.Standing.{simple-known, if-ends}
-use Rattle.run_machine.specs.State.{carry}
-use Rattle.run_machine.specs.declared.Outcome.{Outcome}
-use Rattle.run_machine.specs.declared.State.{State}
+use Rattle.run.specs.State.{carry}
+use Rattle.run.specs.declared.Outcome.{Outcome}
+use Rattle.run.specs.declared.State.{State}
 use Rattle.run.specs.Run.{Event, Stretch, unlessStopped, andThen, eventsBy, eventsAt, runArm, runIf}
 use Rattle.run.specs.Inner.Walker.{isOver}
 use Rattle.run.specs.Course.{courseTo}
@@ -131,12 +131,6 @@ module _ (ds : List ℕ) (goal : Goal) where
   course-plain bs (Touch.Reads d array i) k s = refl
   course-plain bs (Touch.Writes array i) k s = refl
 
--- ---- a walk that is the same one
-
-pub if-from : (bs ins ds : List ℕ) (goal : Goal) (h : Header) (depth : ℕ) (c : Condition) (v w r : Way) → v ≡ w
-    → FollowsIf bs ins ds goal h depth c v r → FollowsIf bs ins ds goal h depth c w r
-if-from bs ins ds goal h depth c v w r e x = subst (λ (y : Way). FollowsIf bs ins ds goal h depth c y r) e x
-
 -- the walk after a command that is no if, put together
 pub step-is : (bs ins : List ℕ) (goal : Goal) (h : Header) (c : Simple) (at : ℕ) (k : Counts) (s : State) (n : ℕ) (k₁ : Counts) (s₁ : State) (x : Course)
     → n ≡ sizeOfSimple c → k₁ ≡ after c k → s₁ ≡ carry bs ins h c k s → x ≡ courseTo [] goal (eventsAt bs c k s)
@@ -166,10 +160,6 @@ module _ (bs ins ds : List ℕ) (goal : Goal) (h : Header) (depth close : ℕ) w
   pub onwards : (w₀ w : Way) → Going w₀ w → Going w₀ (wayAt (w .next) (w .counts) (w .state) Course.Passing)
   unfolding Going
   onwards w₀ w g = g
-
-  pub started : (w r : Way) → FollowsArm bs ins ds goal h depth close (wayAt (w .next) (w .counts) (w .state) Course.Passing) r
-      → FollowsArm bs ins ds goal h depth close w r
-  started w r x = record { tells = x .tells }
 
   module _ (w₀ w : Way) (g : Going w₀ w) where
     -- the arm that stands here now

@@ -1,7 +1,12 @@
 -- What the proofs of several functions use, and the laws for the layers above.
+mod Laid
+mod InRange
+mod Moving
+pub mod Sides
 pub mod Laws
 mod Touching
 mod Following
+mod Reaching
 mod Parting
 mod Wholes
 mod Admitting

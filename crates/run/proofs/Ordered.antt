@@ -24,10 +24,10 @@ use Rattle.routine.specs.Inner.Stands.{Stands}
 use Rattle.routine.proofs.Accepted.{decoded}
 use Rattle.routine.proofs.Numbering.{EachIf, Before, ifs-before}
 use Rattle.routine.proofs.Views.{induction}
-use Rattle.run_machine.specs.State.{start, take, holds, carry}
-use Rattle.run_machine.specs.declared.Outcome.{Outcome}
-use Rattle.run_machine.specs.declared.Side.{Side}
-use Rattle.run_machine.specs.declared.State.{State}
+use Rattle.run.specs.State.{start, take, holds, carry}
+use Rattle.run.specs.declared.Outcome.{Outcome}
+use Rattle.run.specs.declared.Side.{Side}
+use Rattle.run.specs.declared.State.{State}
 use Rattle.run.specs.Run as run
 use Rattle.run.specs.Run.{Event, took, came, Stretch, unlessStopped, andThen, eventsBy, eventsAt, runArm, runOf}
 

@@ -12,11 +12,11 @@ use Rattle.routine_faults.specs.Inputs.{given}
 use Rattle.routine_faults.specs.declared.Counts.{Counts}
 use Rattle.routine_command.specs.declared.Simple.{Simple}
 use Rattle.routine.specs.Routine.{Arm, done, plain, fork}
-use Rattle.run_machine.specs.State.{start, take, holds, indexOf, lies, arrive, carry}
-use Rattle.run_machine.specs.declared.Lies.{Lies}
-use Rattle.run_machine.specs.declared.Outcome.{Outcome}
-use Rattle.run_machine.specs.declared.Side.{Side}
-use Rattle.run_machine.specs.declared.State.{State}
+use Rattle.run.specs.State.{start, take, holds, indexOf, lies, arrive, carry}
+use Rattle.run.specs.declared.Lies.{Lies}
+use Rattle.run.specs.declared.Outcome.{Outcome}
+use Rattle.run.specs.declared.Side.{Side}
+use Rattle.run.specs.declared.State.{State}
 use Rattle.run.specs.Run.{Event, took, came, Stretch, after, unlessStopped, andThen, eventsAt, runArm, runOf}
 
 module _ (bs : List ℕ) (h : Header) where

@@ -4,6 +4,8 @@ use mathlib.Core.List.{List, [], _∷_}
 use mathlib.Core.Bool.{Bool, true, false, cond, true≢false}
 use Prim.Native.Nat.{ℕ, _+_, _*_, _-_, _≤_, _<_}
 use native.Mathlib.Omega.{arith}
+use Rattle.bitvec.specs.Relation.{relates}
+use Rattle.routine_header.specs.Header.{width}
 use Rattle.routine_header.specs.declared.Header.{Header}
 use Rattle.routine_faults.specs.Step.{oneIf}
 use Rattle.routine_command.specs.declared.Condition.{Condition}
@@ -13,8 +15,8 @@ use Rattle.routine.specs.Inner.Stands.{Stands, SomeArm, SomeIf}
 use Rattle.routine.specs.Inner.Passes.{Passes}
 use Rattle.routine.specs.declared.Passed.{Passed}
 use Rattle.routine.proofs.Standing.{second-at}
-use Rattle.run_machine.specs.State.{take, holds}
-use Rattle.run_machine.specs.declared.State.{State}
+use Rattle.run.specs.State.{value, take, holds}
+use Rattle.run.specs.declared.State.{State}
 use Rattle.run.specs.Run as run
 use Rattle.run.specs.Run.{Stretch, took, runArm, runIf}
 use Rattle.run.specs.Inner.Walker.{isOver}
@@ -27,15 +29,21 @@ use Rattle.run.proofs.Following.{going, either}
 
 -- after the first arm was followed
 pub second-after : (bs : List ℕ) (h : Header) (depth at : ℕ) (k : Counts) → SomeIf bs h depth at (oneIf k) → (inside : Counts) → inside ≡ oneIf k
-    → (ins ds : List ℕ) (goal : Goal) (s : State) (v r : Way) → v ≡ wayAt (at + 4) inside s Course.Passing
-    → FollowsArm bs ins ds goal h (depth + 1) 12 v r → isDone r ≡ false → SomeArm bs h (depth + 1) 13 (r .next) (r .counts)
-second-after bs h depth at k i inside e ins ds goal s v r q x f =
-    let y = (rw q at x) .tells (i .first) (i .else) (i .between) (rw e (i .stands-first)) in
+    → (ins ds : List ℕ) (goal : Goal) (s : State) (r : Way) → FollowsArm bs ins ds goal h (depth + 1) 12 (wayAt (at + 4) inside s Course.Passing) r
+    → isDone r ≡ false → SomeArm bs h (depth + 1) 13 (r .next) (r .counts)
+second-after bs h depth at k i inside e ins ds goal s r x f =
+    let y = x .tells (i .first) (i .else) (i .between) (rw e (i .stands-first)) in
     second-at bs h depth at k i (r .next) (r .counts) (y .next f) (y .counts f)
 
 -- the bytes left fall from an if to its first arm
 pub first-falls : (n at next else t : ℕ) → 2 * (n - at) ≡ t → at + 4 < else → else ≤ n → next ≡ at + 4 → 2 * (n - next) + 1 < t
 first-falls n at next else t e l u q = omega arith
+
+-- the arm that is taken, by the values of the condition's variables
+pub arm-is : (bs : List ℕ) (c : Condition) (s : State) (arm : ℕ) → arm ≡ cond (relates (c .relation) (width bs (c .s)) (value s (c .s)) (value s (c .t))) 0 1
+    → arm ≡ armAt bs c s
+unfolding armAt holds
+arm-is bs c s arm e = e
 
 -- which arm is taken
 zero-first : (b : Bool) (x y : Stretch) → cond {A = ℕ} b 0 1 ≡ 0 → x ≡ cond b x y
@@ -99,15 +107,15 @@ module _ (bs ins ds : List ℕ) (goal : Goal) (h : Header) (depth : ℕ) (c : Co
           counts = a .counts;
         }
 
-    module _ (z : arm ≡ 0) (t : s ≡ take (w .state) (w .counts .ifs) 0) (v : Way) (f : v ≡ wayAt (w .next + 4) inside s Course.Passing)
-        (r : Way) (x : FollowsArm bs ins ds goal h (depth + 1) 12 v r) where
+    module _ (z : arm ≡ 0) (t : s ≡ take (w .state) (w .counts .ifs) 0) (r : Way)
+        (x : FollowsArm bs ins ds goal h (depth + 1) 12 (wayAt (w .next + 4) inside s Course.Passing) r) where
       first-tells : (first second : Arm) (else : ℕ) (k₁ : Counts) → Stands bs h (depth + 1) 12 (w .next + 4) (oneIf (w .counts)) first else k₁
           → Arrives ds goal (runIf bs c (w .counts) (runArm bs ins h first) (runArm bs ins h second) (w .state)) else k₁ r
       unfolding armAt
       first-tells first second else k₁ p =
           kept first second (runArm bs ins h first s)
           (ap (runArm bs ins h first) t ∙ zero-first (holds bs c (w .state)) (firstOf first) (secondOf second) (sym is ∙ z))
-          else k₁ r ((rw f at x) .tells first else k₁ (rw k p))
+          else k₁ r (x .tells first else k₁ (rw k p))
 
       pub first-done : isDone r ≡ true → FollowsIf bs ins ds goal h depth c w r
       first-done o = record {
@@ -127,13 +135,12 @@ module _ (bs ins ds : List ℕ) (goal : Goal) (h : Header) (depth : ℕ) (c : Co
       }
 
     pub second-followed : (arm ≡ 0 → ⊥) → s ≡ take (w .state) (w .counts .ifs) 1 → (past : Passed) → Passes bs h (depth + 1) 12 (w .next + 4) inside past
-        → (v : Way) → v ≡ wayAt (past .next) (past .counts) s Course.Passing
-        → (r : Way) → FollowsArm bs ins ds goal h (depth + 1) 13 v r → FollowsIf bs ins ds goal h depth c w r
+        → (r : Way) → FollowsArm bs ins ds goal h (depth + 1) 13 (wayAt (past .next) (past .counts) s Course.Passing) r → FollowsIf bs ins ds goal h depth c w r
     unfolding armAt
-    second-followed z t past y v f r x = record {
+    second-followed z t past y r x = record {
       tells = λ first else k₁ second end k₂ p q.
           let u = y .tells first else k₁ (rw k p) in
           kept first second (runArm bs ins h second s)
           (ap (runArm bs ins h second) t ∙ else-second (holds bs c (w .state)) (firstOf first) (secondOf second) (λ n. z (is ∙ n)))
-          end k₂ r ((rw f at x) .tells second end k₂ (rw (u .0, u .1) q));
+          end k₂ r (x .tells second end k₂ (rw (u .0, u .1) q));
     }

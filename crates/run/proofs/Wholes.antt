@@ -13,14 +13,19 @@ use Rattle.routine.specs.Routine.{Arm}
 use Rattle.routine.specs.Decode.{noCounts, commandsIn, IsRoutine}
 use Rattle.routine.specs.Inner.Stands.{SomeArm}
 use Rattle.routine.proofs.Accepted.{decoded, commands-are}
-use Rattle.run_machine.specs.State.{start}
-use Rattle.run_machine.specs.declared.State.{State}
+use Rattle.run.specs.State.{start}
+use Rattle.run.specs.declared.State.{State}
 use Rattle.run.specs.Run.{runArm, runOf}
 use Rattle.run.specs.Course.{courseTo}
-use Rattle.run.specs.Inner.Walker.{settled, wayAt, FollowsArm}
+use Rattle.run.specs.Inner.Walker.{isOver, settled, wayAt, FollowsArm}
 use Rattle.run.specs.declared.Course.{Course}
 use Rattle.run.specs.declared.Goal.{Goal}
 use Rattle.run.specs.declared.Way.{Way}
+
+-- a run begins going
+pub begun-going : (ins : List ℕ) (n : ℕ) (s : State) → s ≡ start ins n → isOver (s .outcome) ≡ false
+unfolding start
+begun-going ins n s e = ap (λ (x : State). isOver (x .outcome)) e
 
 -- an accepted routine has a fine header, and its commands stand at the first of them
 module _ (bs : List ℕ) (h : Header) (i : IsRoutine bs h) where
@@ -33,12 +38,12 @@ module _ (bs : List ℕ) (h : Header) (i : IsRoutine bs h) where
       rw e (record { arm = i .commands; end = length bs; after = i .counts; stands = w .stands })
 
   -- what the commands come to is what the routine comes to
-  pub followed-whole : (ins ds : List ℕ) (goal : Goal) (at : ℕ) (s : State) (v r : Way) → at ≡ firstCommand h → s ≡ start ins (given h)
-      → v ≡ wayAt at noCounts s Course.Passing → FollowsArm bs ins ds goal h 0 0 v r
+  pub followed-whole : (ins ds : List ℕ) (goal : Goal) (at : ℕ) (s : State) (r : Way) → at ≡ firstCommand h → s ≡ start ins (given h)
+      → FollowsArm bs ins ds goal h 0 0 (wayAt at noCounts s Course.Passing) r
       → (r .course ≡ courseTo ds goal (runOf bs ins h (commandsIn bs) .events)) × (settled (r .course) ≡ false → r .state ≡ runOf bs ins h (commandsIn bs) .state)
   unfolding runOf
-  followed-whole ins ds goal at s v r e q f x =
+  followed-whole ins ds goal at s r e q x =
       let a = i .commands in
-      let y = (rw f at x) .tells a (length bs) (i .counts) (rw e (decoded bs h a (i .counts) (i .decodes) .stands)) in
+      let y = x .tells a (length bs) (i .counts) (rw e (decoded bs h a (i .counts) (i .decodes) .stands)) in
       rw (commands-are bs h a (i .counts) (i .decodes))
       (y .course ∙ ap (λ (z : State). courseTo ds goal (runArm bs ins h a z .events)) q, (λ u. y .state u ∙ ap (λ (z : State). runArm bs ins h a z .state) q))

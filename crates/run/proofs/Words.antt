@@ -28,10 +28,10 @@ use Rattle.routine.specs.Decode.{routine, decode, noCounts}
 use Rattle.routine.specs.Inner.Stands.{Stands}
 use Rattle.routine.proofs.Accepted.{decoded}
 use Rattle.routine.proofs.Views.{induction}
-use Rattle.run_machine.specs.State.{over, start, value, put, take, converted, computed, holds, indexOf, lies, arrive, carry}
-use Rattle.run_machine.specs.declared.Lies.{Lies}
-use Rattle.run_machine.specs.declared.Outcome.{Outcome}
-use Rattle.run_machine.specs.declared.State.{State}
+use Rattle.run.specs.State.{over, start, value, put, take, converted, computed, holds, indexOf, lies, arrive, carry}
+use Rattle.run.specs.declared.Lies.{Lies}
+use Rattle.run.specs.declared.Outcome.{Outcome}
+use Rattle.run.specs.declared.State.{State}
 use Rattle.run_inputs.specs.Inputs.{listed}
 use Rattle.run_inputs.specs.declared.Listed.{Listed}
 use Rattle.run_inputs.proofs.Fitting.{FitSimple, Fit, fitting}

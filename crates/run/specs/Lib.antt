@@ -1,3 +1,5 @@
+pub mod Side
+pub mod State
 pub mod Run
 pub mod Course
 pub mod Goes

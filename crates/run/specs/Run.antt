@@ -12,9 +12,9 @@ use Rattle.routine_faults.specs.declared.Counts.{Counts}
 use Rattle.routine_command.specs.declared.Condition.{Condition}
 use Rattle.routine_command.specs.declared.Simple.{Simple}
 use Rattle.routine_command.specs.declared.Touch.{Touch}
-use Rattle.run_machine.specs.State.{start, take, holds, indexOf, carry}
-use Rattle.run_machine.specs.declared.Outcome.{Outcome}
-use Rattle.run_machine.specs.declared.State.{State}
+use Rattle.run.specs.State.{start, take, holds, indexOf, carry}
+use Rattle.run.specs.declared.Outcome.{Outcome}
+use Rattle.run.specs.declared.State.{State}
 
 -- what a run comes to: an if, with the arm taken there (0 first, 1 else); or an access, with its array and its index
 pub data Event : Type 0 where

@@ -1,12 +1,12 @@
 // A whole run, and one as far as a named access: both follow it.
 use crate::Course;
 use crate::Goal;
+use crate::Outcome;
 use crate::Ran;
+use crate::State;
 use crate::ways::follow;
 use routine::seeking::ifs_before;
 use routine_header::Header;
-use run_machine::Outcome;
-use run_machine::State;
 ghost use mathlib.Core.Path.{_≡_};
 ghost use Rattle.routine.specs.Decode.{IsRoutine, commandsIn};
 ghost use Rattle.routine.specs.Access.{ifsBefore};

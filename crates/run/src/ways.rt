@@ -1,7 +1,16 @@
 // Following a run, as far as a named access or to its end. Following an arm and following an if call each other, and the arm that is not taken is passed.
 use crate::Course;
 use crate::Goal;
+use crate::Lies;
+use crate::Outcome;
+use crate::Reached;
+use crate::State;
 use crate::Way;
+use crate::moves::operands_of;
+use crate::moves::value_after;
+use crate::states::lies_at;
+use bitvec::relation;
+use bitvec::signed;
 use routine::walks::pass_arm;
 use routine_command::Command;
 use routine_command::Condition;
@@ -18,23 +27,25 @@ use routine_faults::steps::no_counts;
 use routine_faults::words::given_of;
 use routine_header::Header;
 use routine_header::first_command;
-use run_machine::Outcome;
-use run_machine::State;
+use routine_header::size_of_array;
+use routine_header::width_of;
 use slices::byte_at;
 use slices::wide;
 ghost use mathlib.Core.Path.{_≡_};
-ghost use mathlib.Core.List.{[], _∷_};
-ghost use mathlib.Core.Bool.{false};
+ghost use mathlib.Core.Bool.{false, cond};
 ghost use Prim.Native.Nat.{_<_, _≤_};
+ghost use Rattle.bitvec.specs.Signed.{signed};
+ghost use Rattle.bitvec.specs.Relation.{relates};
 ghost use Rattle.routine_header.specs.Header.{width};
+ghost use Rattle.routine_command.specs.Command.{touches};
 ghost use Rattle.routine_faults.specs.Step.{oneIf, accesses};
 ghost use Rattle.routine_faults.specs.Inner.Sound.{Sound, SoundIf, Fine};
 ghost use Rattle.routine.specs.Decode.{IsRoutine, commandsIn};
 ghost use Rattle.routine.specs.Inner.Stands.{SomeArm, SomeIf};
-ghost use Rattle.run_machine.specs.State.{indexOf};
-ghost use Rattle.run.specs.Run.{came, eventsAt, runOf};
-ghost use Rattle.run.specs.Course.{keepsTo, courseTo};
-ghost use Rattle.run.specs.Inner.Walker.{settled, isEnded, isDone, wayAt, armAt, FollowsArm, FollowsIf};
+ghost use Rattle.run.specs.Run.{runOf};
+ghost use Rattle.run.specs.Course.{keepsTo, isGoal, courseTo};
+ghost use Rattle.run.specs.Inner.Walker.{settled, isOver, isDone, wayAt, reachedAt, reachedBy, FollowsArm, FollowsIf};
+ghost use Rattle.run.specs.declared.Course.{Course};
 
 // Whether an arm taken at the if of this number is by the decisions, or the if does not matter on the way to the goal.
 fn keeps_to(decisions: &[u8], goal: Goal, number: u8, arm: u8) -> bool
@@ -55,126 +66,175 @@ fn keeps_to(decisions: &[u8], goal: Goal, number: u8, arm: u8) -> bool
     }
 }
 
-// The access before which the counts are k, if it is the goal.
-fn arrival(bytes: &[u8], s: State, goal: Goal, k: Counts, array: u8, i: u8) -> Course
-    requires { ⌜ (i < 32) × (1 ≤ width (now bytes) i) × (width (now bytes) i ≤ 32) ⌝ }
-    ensures { λ r. ⌜ r ≡ courseTo [] goal (came (accesses k) array (indexOf (now (bytes .entry)) s i) ∷ []) ⌝ }
+// Whether the access before which the counts are k is the goal.
+fn is_goal(goal: Goal, k: Counts) -> bool
+    ensures { λ r. ⌜ r ≡ isGoal goal (accesses k) ⌝ }
 {
     match goal {
-        Goal::End => Course::Passing,
-        Goal::Access { number, before: _ } => {
-            if accesses_of(k) != wide(number) {
-                return Course::Passing;
-            }
-            let index = s.index(bytes, i);
-            Course::Arrived { array, index }
-        }
+        Goal::End => false,
+        Goal::Access { number, before: _ } => accesses_of(k) == wide(number),
     }
 }
 
-// What a command that is no if says of the course.
-fn course_at(bytes: &[u8], h: Header, s: State, goal: Goal, c: Simple, k: Counts) -> Course
+// What the access before which the counts are k is to the walk, its index variable i having the value x.
+fn reached_at(bytes: &[u8], h: Header, goal: Goal, k: Counts, array: u8, i: u8, x: u32) -> Reached
+    requires { ⌜ (1 ≤ width (now bytes) i) × (width (now bytes) i ≤ 32) ⌝ }
+    ensures { λ r. ⌜ r ≡ reachedAt (now (bytes .entry)) h goal k array (signed (width (now (bytes .entry)) i) x) ⌝ }
+{
+    let index = signed::reading(width_of(bytes, i), x);
+    if is_goal(goal, k) {
+        return Reached::Arrives { array, index };
+    }
+    match lies_at(size_of_array(bytes, h, array), index) {
+        Lies::Inside => Reached::Goes,
+        Lies::Outside(side) => Reached::Stops { index, side },
+    }
+}
+
+// What a command that is no if is to the walk, its index variable having the value x.
+fn reached(bytes: &[u8], h: Header, goal: Goal, c: Simple, k: Counts, x: u32) -> Reached
     requires { ⌜ Sound (now bytes) h c × Fine (now bytes) h ⌝ }
-    ensures { λ r. ⌜ r ≡ courseTo [] goal (eventsAt (now (bytes .entry)) c k s) ⌝ }
+    ensures { λ r. ⌜ r ≡ reachedBy (now (bytes .entry)) h goal k x (touches c) ⌝ }
 {
     match touched(c) {
-        Touch::Nothing => Course::Passing,
-        Touch::Reads { d: _, array, i } => arrival(bytes, s, goal, k, array, i),
-        Touch::Writes { array, i } => arrival(bytes, s, goal, k, array, i),
+        Touch::Nothing => Reached::Goes,
+        Touch::Reads { d: _, array, i } => reached_at(bytes, h, goal, k, array, i, x),
+        Touch::Writes { array, i } => reached_at(bytes, h, goal, k, array, i, x),
     }
 }
 
-// The arm that an if takes.
-fn arm_at(bytes: &[u8], h: Header, s: State, c: Condition) -> u8
+// The arm that an if takes, its variables having the values a and b.
+fn arm_at(bytes: &[u8], h: Header, c: Condition, a: u32, b: u32) -> u8
     requires { ⌜ SoundIf (now bytes) h c × Fine (now bytes) h ⌝ }
-    ensures { λ r. ⌜ r ≡ armAt (now (bytes .entry)) c s ⌝ }
+    ensures { λ r. ⌜ r ≡ cond (relates (c .relation) (width (now (bytes .entry)) (c .s)) a b) 0 1 ⌝ }
 {
-    if s.meets(bytes, h, c) { 0 } else { 1 }
-}
-
-// Follows the arm that stands where the walk is, inside `depth` ifs and ended by the command byte `close`. Offset, counts and state are kept apart on the way,
-// so that a command moves no more than it changes.
-fn follow_arm(
-    bytes: &[u8],
-    inputs: &[u32],
-    decisions: &[u8],
-    goal: Goal,
-    h: Header,
-    depth: u8,
-    close: u8,
-    start: Way,
-) -> Way
-    requires { ⌜ SomeArm (now bytes) h depth close (start .next) (start .counts) × Fine (now bytes) h ⌝ }
-    ensures { λ r. ⌜ FollowsArm (now (bytes .entry)) (now (inputs .entry)) (now (decisions .entry)) goal h depth close start r ⌝ }
-{
-    let mut at = start.next;
-    let mut k = start.counts;
-    let mut s = start.state;
-    loop {
-        match command_at(bytes, at) {
-            Command::Missing => return way(at, k, s, Course::Passing),
-            Command::Close(_) => return way(at + 1, k, s, Course::Passing),
-            Command::If(c) => {
-                let here = way(at, k, s, Course::Passing);
-                let r = follow_if(bytes, inputs, decisions, goal, h, depth, c, here);
-                if is_done(r) {
-                    return r;
-                }
-                at = r.next;
-                k = r.counts;
-                s = r.state;
-            }
-            Command::Simple(c) => {
-                let course = course_at(bytes, h, s, goal, c, k);
-                s = s.carried(bytes, h, inputs, c, k);
-                at += simple_size(c);
-                k = counts_after(c, k);
-                if is_ended(course, s) {
-                    return way(at, k, s, course);
-                }
-            }
-        }
-    }
-}
-
-// Follows the if where the walk is. Its number is the count of the ifs before it.
-fn follow_if(
-    bytes: &[u8],
-    inputs: &[u32],
-    decisions: &[u8],
-    goal: Goal,
-    h: Header,
-    depth: u8,
-    c: Condition,
-    start: Way,
-) -> Way
-    requires { ⌜ SomeIf (now bytes) h depth (start .next) (oneIf (start .counts)) × (start .counts .ifs < 32) × SoundIf (now bytes) h c × Fine (now bytes) h ⌝ }
-    ensures { λ r. ⌜ FollowsIf (now (bytes .entry)) (now (inputs .entry)) (now (decisions .entry)) goal h depth c start r ⌝ }
-{
-    let at = start.next;
-    let k = start.counts;
-    let s = start.state;
-    let inside = counts_after_if(k);
-    let arm = arm_at(bytes, h, s, c);
-    if !keeps_to(decisions, goal, k.ifs, arm) {
-        return way(at, k, s, Course::Astray(k.ifs));
-    }
-    if arm == 0 {
-        let first = way(at + 4, inside, s.took(k.ifs, 0), Course::Passing);
-        let r = follow_arm(bytes, inputs, decisions, goal, h, depth + 1, 0x0C, first);
-        if is_done(r) {
-            return r;
-        }
-        let state = r.state;
-        let between = r.counts;
-        let past = pass_arm(bytes, h, depth + 1, 0x0D, r.next, between);
-        let counts = past.counts;
-        way(past.next, counts, state, Course::Passing)
+    if relation::holds(c.relation, width_of(bytes, c.s), a, b) {
+        0
     } else {
-        let past = pass_arm(bytes, h, depth + 1, 0x0C, at + 4, inside);
-        let between = past.counts;
-        let second = way(past.next, between, s.took(k.ifs, 1), Course::Passing);
-        follow_arm(bytes, inputs, decisions, goal, h, depth + 1, 0x0D, second)
+        1
+    }
+}
+
+impl State {
+    // Follows the arm from an offset on, where the counts are `before`, inside `depth` ifs and ended by the command byte `close`. The value that a command
+    // gives to a variable is stored in place: a state that is handed to a method and back is copied, for every command.
+    fn follow_arm(
+        mut self,
+        bytes: &[u8],
+        inputs: &[u32],
+        decisions: &[u8],
+        goal: Goal,
+        h: Header,
+        depth: u8,
+        close: u8,
+        from: usize,
+        before: Counts,
+    ) -> Way
+        requires { ⌜ SomeArm (now bytes) h depth close from before × Fine (now bytes) h × (isOver (self .outcome) ≡ false) ⌝ }
+        ensures { λ r. ⌜ FollowsArm (now (bytes .entry)) (now (inputs .entry)) (now (decisions .entry)) goal h depth close (wayAt from before self Course.Passing) r ⌝ }
+    {
+        let mut at = from;
+        let mut k = before;
+        loop {
+            match command_at(bytes, at) {
+                Command::Missing => return way(at, k, self, Course::Passing),
+                Command::Close(_) => return way(at + 1, k, self, Course::Passing),
+                Command::If(c) => {
+                    let r = self.follow_if(bytes, inputs, decisions, goal, h, depth, c, at, k);
+                    if is_done(r) {
+                        return r;
+                    }
+                    at = r.next;
+                    k = r.counts;
+                    self = r.state;
+                }
+                Command::Simple(c) => {
+                    let o = operands_of(c);
+                    let i = o.i as usize;
+                    match reached(bytes, h, goal, c, k, self.values[i]) {
+                        Reached::Goes => {
+                            let a = o.a as usize;
+                            let b = o.b as usize;
+                            let d = o.d as usize;
+                            let x = self.values[a];
+                            let y = self.values[b];
+                            self.values[d] = value_after(bytes, h, inputs, c, k, x, y);
+                            at += simple_size(c);
+                            k = counts_after(c, k);
+                        }
+                        Reached::Stops { index, side } => {
+                            let stop = self.stopped(accesses_of(k), index, side);
+                            return way(at, k, stop, Course::Passing);
+                        }
+                        Reached::Arrives { array, index } => {
+                            return way(at, k, self, Course::Arrived { array, index });
+                        }
+                    }
+                }
+            }
+        }
+    }
+
+    // Follows the if at `at`, where the counts are k. Its number is the count of the ifs before it.
+    fn follow_if(
+        self,
+        bytes: &[u8],
+        inputs: &[u32],
+        decisions: &[u8],
+        goal: Goal,
+        h: Header,
+        depth: u8,
+        c: Condition,
+        at: usize,
+        k: Counts,
+    ) -> Way
+        requires { ⌜ SomeIf (now bytes) h depth at (oneIf k) × (k .ifs < 32) × SoundIf (now bytes) h c × Fine (now bytes) h × (isOver (self .outcome) ≡ false) ⌝ }
+        ensures { λ r. ⌜ FollowsIf (now (bytes .entry)) (now (inputs .entry)) (now (decisions .entry)) goal h depth c (wayAt at k self Course.Passing) r ⌝ }
+    {
+        let inside = counts_after_if(k);
+        let a = c.s as usize;
+        let b = c.t as usize;
+        let arm = arm_at(bytes, h, c, self.values[a], self.values[b]);
+        if !keeps_to(decisions, goal, k.ifs, arm) {
+            return way(at, k, self, Course::Astray(k.ifs));
+        }
+        if arm == 0 {
+            let first = self.took(k.ifs, 0);
+            let r = first.follow_arm(
+                bytes,
+                inputs,
+                decisions,
+                goal,
+                h,
+                depth + 1,
+                0x0C,
+                at + 4,
+                inside,
+            );
+            if is_done(r) {
+                return r;
+            }
+            let state = r.state;
+            let between = r.counts;
+            let past = pass_arm(bytes, h, depth + 1, 0x0D, r.next, between);
+            let counts = past.counts;
+            way(past.next, counts, state, Course::Passing)
+        } else {
+            let past = pass_arm(bytes, h, depth + 1, 0x0C, at + 4, inside);
+            let between = past.counts;
+            let second = self.took(k.ifs, 1);
+            second.follow_arm(
+                bytes,
+                inputs,
+                decisions,
+                goal,
+                h,
+                depth + 1,
+                0x0D,
+                past.next,
+                between,
+            )
+        }
     }
 }
 
@@ -190,30 +250,23 @@ fn way(next: usize, counts: Counts, state: State, course: Course) -> Way
     }
 }
 
-// Whether the course is settled, or the run stopped.
-fn is_ended(course: Course, s: State) -> bool
-    ensures { λ r. ⌜ r ≡ isEnded course s ⌝ }
+// Whether nothing of the rest matters to the walk: its course is settled, or the run stopped.
+fn is_done(w: Way) -> bool
+    ensures { λ r. ⌜ r ≡ isDone w ⌝ }
 {
+    let course = w.course;
     match course {
         Course::Astray(_) => true,
         Course::Arrived { .. } => true,
         Course::Passing => {
-            let outcome = s.outcome;
+            let state = w.state;
+            let outcome = state.outcome;
             match outcome {
                 Outcome::Going => false,
                 Outcome::Stopped { .. } => true,
             }
         }
     }
-}
-
-// Whether nothing of the rest matters to the walk.
-fn is_done(w: Way) -> bool
-    ensures { λ r. ⌜ r ≡ isDone w ⌝ }
-{
-    let course = w.course;
-    let state = w.state;
-    is_ended(course, state)
 }
 
 // Follows the run of a routine on an input list as far as the goal. The state is that of the whole run only where the course is not settled.
@@ -224,6 +277,6 @@ pub fn follow(routine: &[u8], inputs: &[u32], decisions: &[u8], goal: Goal, h: H
 {
     let none = no_counts();
     let begun = State::begin(inputs, given_of(h));
-    let start = way(first_command(h), none, begun, Course::Passing);
-    follow_arm(routine, inputs, decisions, goal, h, 0, 0x00, start)
+    let first = first_command(h);
+    begun.follow_arm(routine, inputs, decisions, goal, h, 0, 0x00, first, none)
 }

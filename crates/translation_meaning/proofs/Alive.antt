@@ -14,10 +14,10 @@ use Rattle.routine_header.specs.declared.Header.{Header}
 use Rattle.routine_faults.specs.declared.Counts.{Counts}
 use Rattle.routine.proofs.Views.{induction}
 use Rattle.routine.proofs.Numbering.{EachIf, Before}
-use Rattle.run_machine.specs.State.{take, holds, carry}
+use Rattle.run.specs.State.{take, holds, carry}
 use Rattle.run.specs.Run as run
 use Rattle.run.specs.Run.{took, eventsAt, runArm}
-use Rattle.run_machine.specs.declared.State.{State}
+use Rattle.run.specs.declared.State.{State}
 use Rattle.run.specs.Course.{courseTo, course}
 use Rattle.cnf.specs.Meaning.{Assign}
 use Rattle.netlist.specs.Meaning.{Inputs}

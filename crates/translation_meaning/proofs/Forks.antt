@@ -15,10 +15,10 @@ use Rattle.routine_faults.specs.Inner.Sound.{SoundIf, Fine}
 use Rattle.routine_header.specs.declared.Header.{Header}
 use Rattle.routine_command.specs.declared.Condition.{Condition}
 use Rattle.routine_faults.proofs.Fine.{condition-fine}
-use Rattle.run_machine.specs.State.{take, holds}
+use Rattle.run.specs.State.{take, holds}
 use Rattle.run.specs.Run as run
 use Rattle.run.specs.Run.{took}
-use Rattle.run_machine.specs.declared.State.{State}
+use Rattle.run.specs.declared.State.{State}
 use Rattle.run.specs.Course.{follows, courseTo, course}
 use Rattle.run.specs.declared.Course.{Course}
 use Rattle.cnf.specs.Meaning.{Assign, lit}

@@ -14,10 +14,10 @@ use Rattle.routine_header.specs.declared.Header.{Header}
 use Rattle.routine_faults.specs.declared.Counts.{Counts}
 use Rattle.routine_command.specs.declared.Touch.{Touch}
 use Rattle.routine.proofs.Views.{induction}
-use Rattle.run_machine.specs.State.{take, holds, carry}
+use Rattle.run.specs.State.{take, holds, carry}
 use Rattle.run.specs.Run as run
 use Rattle.run.specs.Run.{took, came, eventsBy, eventsAt, runArm}
-use Rattle.run_machine.specs.declared.State.{State}
+use Rattle.run.specs.declared.State.{State}
 use Rattle.run.specs.Course.{keeps, courseTo, course}
 use Rattle.run.specs.declared.Course.{Course}
 use Rattle.run.proofs.Laws.{onward, course-append}

@@ -20,12 +20,12 @@ use Rattle.routine_header.specs.declared.Header.{Header}
 use Rattle.routine_faults.specs.declared.Counts.{Counts}
 use Rattle.routine_command.specs.declared.Simple.{Simple}
 use Rattle.routine_faults.proofs.Fine.{set-fine, convert-fine, compute-fine, read-fine, write-fine}
-use Rattle.run_machine.specs.State as state
-use Rattle.run_machine.specs.State.{converted, computed, indexOf, lies, arrive, accessed, carry}
+use Rattle.run.specs.State as state
+use Rattle.run.specs.State.{converted, computed, indexOf, lies, arrive, accessed, carry}
 use Rattle.run.specs.Run.{came, eventsAt}
-use Rattle.run_machine.specs.declared.Lies.{Lies}
-use Rattle.run_machine.specs.declared.Outcome.{Outcome}
-use Rattle.run_machine.specs.declared.State.{State}
+use Rattle.run.specs.declared.Lies.{Lies}
+use Rattle.run.specs.declared.Outcome.{Outcome}
+use Rattle.run.specs.declared.State.{State}
 use Rattle.run.specs.Course.{courseTo, course}
 use Rattle.run.specs.declared.Course.{Course}
 use Rattle.netlist.specs.declared.Node.{Node}

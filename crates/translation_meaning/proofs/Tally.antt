@@ -10,12 +10,12 @@ use Rattle.bitvec.specs.declared.Whole.{Whole}
 use Rattle.routine_header.specs.Header.{arraySize}
 use Rattle.routine_faults.specs.Inner.Sound.{Fine}
 use Rattle.routine_header.specs.declared.Header.{Header}
-use Rattle.run_machine.specs.Side.{isOn}
-use Rattle.run_machine.specs.State.{lies}
+use Rattle.run.specs.Side.{isOn}
+use Rattle.run.specs.State.{lies}
 use Rattle.run.specs.Run as run
 use Rattle.run.specs.Inner.Walker.{isOver}
-use Rattle.run_machine.specs.declared.Outcome.{Outcome}
-use Rattle.run_machine.specs.declared.State.{State}
+use Rattle.run.specs.declared.Outcome.{Outcome}
+use Rattle.run.specs.declared.State.{State}
 use Rattle.run.specs.Course.{course}
 use Rattle.run.specs.declared.Course.{Course}
 use Rattle.cnf.specs.Meaning.{Assign, lit}

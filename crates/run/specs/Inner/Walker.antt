@@ -3,21 +3,27 @@ use Prim.Native.Nat.{ℕ, _+_}
 use mathlib.Core.Path.{_≡_}
 use mathlib.Core.List.{List, []}
 use mathlib.Core.Bool.{Bool, true, false, cond}
+use Rattle.bitvec.specs.Signed.{signed}
+use Rattle.bitvec.specs.declared.Whole.{Whole}
+use Rattle.routine_header.specs.Header.{width, arraySize}
 use Rattle.routine_command.specs.Command.{sizeOfSimple}
-use Rattle.routine_faults.specs.Step.{oneIf, after}
+use Rattle.routine_faults.specs.Step.{oneIf, accesses, after}
 use Rattle.routine.specs.Routine.{Arm}
 use Rattle.routine.specs.Inner.Stands.{Stands}
 use Rattle.routine_header.specs.declared.Header.{Header}
 use Rattle.routine_command.specs.declared.Condition.{Condition}
 use Rattle.routine_faults.specs.declared.Counts.{Counts}
 use Rattle.routine_command.specs.declared.Simple.{Simple}
-use Rattle.run_machine.specs.State.{holds, carry}
-use Rattle.run_machine.specs.declared.Outcome.{Outcome}
-use Rattle.run_machine.specs.declared.State.{State}
+use Rattle.routine_command.specs.declared.Touch.{Touch}
+use Rattle.run.specs.State.{holds, lies, carry}
+use Rattle.run.specs.declared.Lies.{Lies}
+use Rattle.run.specs.declared.Outcome.{Outcome}
+use Rattle.run.specs.declared.State.{State}
 use Rattle.run.specs.Run.{Stretch, eventsAt, runArm, runIf}
-use Rattle.run.specs.Course.{courseTo}
+use Rattle.run.specs.Course.{isGoal, courseTo}
 use Rattle.run.specs.declared.Course.{Course}
 use Rattle.run.specs.declared.Goal.{Goal}
+use Rattle.run.specs.declared.Reached.{Reached}
 use Rattle.run.specs.declared.Way.{Way}
 
 -- an access stopped the run
@@ -31,17 +37,28 @@ settled (Course.Astray number) = true
 settled Course.Passing = false
 settled (Course.Arrived array index) = true
 
--- the course is settled, or an access before the goal stopped the run
-abbrev pub isEnded : Course → State → Bool
-isEnded course state = cond (settled course) true (isOver (state .outcome))
-
--- nothing of the rest matters to the walk
+-- nothing of the rest matters to the walk: its course is settled, or an access before the goal stopped the run
 abbrev pub isDone : Way → Bool
-isDone w = isEnded (w .course) (w .state)
+isDone w = cond (settled (w .course)) true (isOver (w .state .outcome))
 
 -- the walk at an offset, with the counts there
 abbrev pub wayAt : ℕ → Counts → State → Course → Way
 wayAt next counts state course = record { next = next; counts = counts; state = state; course = course }
+
+-- an access that is not the goal
+abbrev pub lyingAt : Whole → Lies → Reached
+lyingAt index Lies.Inside = Reached.Goes
+lyingAt index (Lies.Outside side) = Reached.Stops index side
+
+-- an access, the counts before it being k
+abbrev pub reachedAt : List ℕ → Header → Goal → Counts → (array : ℕ) → Whole → Reached
+reachedAt bs h goal k array index = cond (isGoal goal (accesses k)) (Reached.Arrives array index) (lyingAt index (lies (arraySize bs h array) index))
+
+-- what a command is to the walk, by what it touches; x is the value of its index variable
+abbrev pub reachedBy : List ℕ → Header → Goal → Counts → (x : ℕ) → Touch → Reached
+reachedBy bs h goal k x Touch.Nothing = Reached.Goes
+reachedBy bs h goal k x (Touch.Reads d array i) = reachedAt bs h goal k array (signed (width bs i) x)
+reachedBy bs h goal k x (Touch.Writes array i) = reachedAt bs h goal k array (signed (width bs i) x)
 
 -- the arm that an if takes: 0 first, 1 else
 unfoldable pub armAt : List ℕ → Condition → State → ℕ

@@ -1,19 +1,24 @@
 -- The arm that an if takes. Assumes nothing.
+use Rattle.run.proofs.InRange.{condition-operands}
 use borrow.Author.Needs.{needs}
-use Rattle.run.specs.Inner.Walker.{armAt}
 use Rattle.run.proofs.ways.arm_at.Statement.{statement}
 use Rattle.run.proofs.ways.arm_at.Tie as tie
 
-meets-requires : tie.Need-meets-requires
-meets-requires c κs = search needs
+holds-requires : tie.Need-holds-requires
+holds-requires c κs =
+    let p = c .before .before .pre in
+    let o = condition-operands _ _ (p .1) _ (p .0) in
+    rw (c .width-of .ensures) (o .2, o .3)
 
 returns : tie.Need-returns
-unfolding armAt
-returns c = rw (← c .before .meets .ensures, c .if1 .taken)
+returns c = rw (← c .before .before .width-of .ensures, ← c .before .holds .ensures, c .if1 .taken)
 
 returns-2 : tie.Need-returns-2
-unfolding armAt
-returns-2 c = rw (← c .before .meets .ensures, c .if1 .left)
+returns-2 c = rw (← c .before .before .width-of .ensures, ← c .before .holds .ensures, c .if1 .left)
 
 pub arm-at-spec : {M : Type 1} → statement M
-arm-at-spec = tie.close (tie.spec meets-requires returns returns-2)
+arm-at-spec = tie.close (tie.spec
+    (λ c κs. search needs)
+    holds-requires
+    returns
+    returns-2)

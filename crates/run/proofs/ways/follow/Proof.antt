@@ -1,7 +1,7 @@
 -- The run of a whole routine, followed from its first command. Assumes nothing.
 use native.Mathlib.Omega.{arith}
+use Rattle.run.proofs.Wholes.{header-fine, commands-stand, begun-going, followed-whole}
 use borrow.Author.Needs.{needs}
-use Rattle.run.proofs.Wholes.{header-fine, commands-stand, followed-whole}
 use Rattle.run.proofs.ways.follow.Statement.{statement}
 use Rattle.run.proofs.ways.follow.Tie as tie
 
@@ -10,13 +10,13 @@ begin-requires c κs = let f = header-fine _ _ (c .before .before .before .befor
 
 follow-arm-requires : tie.Need-follow-arm-requires
 follow-arm-requires c κs =
-    let i = c .before .before .before .before .before .before .before .before .pre in
-    rw (c .way .ensures, c .before .before .before .before .no-counts .ensures) (commands-stand _ _ i _ (c .before .first-command .ensures), header-fine _ _ i)
+    let i = c .before .before .before .before .before .before .before .pre in
+    rw (c .before .before .before .no-counts .ensures) (commands-stand _ _ i _ (c .first-command .ensures), header-fine _ _ i, begun-going _ _ _ (c .before .begin .ensures))
 
 returns : tie.Need-returns
 returns c =
-    followed-whole _ _ (c .before .before .before .before .before .before .before .before .before .pre) _ _ _ _ _ _ _ (c .before .before .first-command .ensures) (rw (c .before .before .before .before .given-of .ensures) at (c .before .before .before .begin .ensures))
-    (rw (c .before .before .before .before .before .no-counts .ensures) at (c .before .way .ensures)) (c .follow-arm .ensures)
+    followed-whole _ _ (c .before .before .before .before .before .before .before .before .pre) _ _ _ _ _ _ (c .before .first-command .ensures) (rw (c .before .before .before .given-of .ensures) at (c .before .before .begin .ensures))
+    (rw (c .before .before .before .before .no-counts .ensures) at (c .follow-arm .ensures))
 
 pub follow-spec : {M : Type 1} → statement M
 follow-spec =
@@ -25,7 +25,6 @@ follow-spec =
     (λ c κs. search needs)
     (λ c κs. search needs)
     begin-requires
-    (λ c κs. search needs)
     (λ c κs. search needs)
     follow-arm-requires
     returns)

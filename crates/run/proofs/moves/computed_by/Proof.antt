@@ -1,0 +1,35 @@
+use borrow.Author.Tests.{ne-eqb}
+use borrow.Author.Needs.{needs}
+use Rattle.run.specs.State.{computed}
+use Rattle.run.proofs.moves.computed_by.Statement.{statement}
+use Rattle.run.proofs.moves.computed_by.Tie as tie
+
+sum-requires : tie.Need-sum-requires
+sum-requires c κs = search needs
+
+difference-requires : tie.Need-difference-requires
+difference-requires c κs = search needs
+
+product-requires : tie.Need-product-requires
+product-requires c κs = search needs
+
+returns : tie.Need-returns
+unfolding computed
+returns c = rw (c .before .match .keys1) (c .sum .ensures)
+
+returns-2 : tie.Need-returns-2
+unfolding computed
+returns-2 c = rw (c .before .match .keys2) (c .difference .ensures)
+
+returns-3 : tie.Need-returns-3
+unfolding computed
+returns-3 c = rw (c .before .match .keys3) (c .product .ensures)
+
+returns-4 : tie.Need-returns-4
+unfolding computed
+returns-4 c = simp (ne-eqb _ _ (c .match .rest .0 .0 .1), ne-eqb _ _ (c .match .rest .0 .1), ne-eqb _ _ (c .match .rest .1))
+
+pub computed-by-spec : {M : Type 1} → statement M
+computed-by-spec =
+    tie.close
+    (tie.spec sum-requires difference-requires product-requires returns returns-2 returns-3 returns-4)
