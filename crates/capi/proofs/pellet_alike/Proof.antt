@@ -9,15 +9,6 @@ returns : tie.Need-returns
 unfolding alikeLeaves
 returns c = short _ _ _ _ (lt-ltb _ _ (c .if1 .taken))
 
-alike-requires : tie.Need-alike-requires
-alike-requires c κs = search needs
-
-fill-alike-requires : tie.Need-fill-alike-requires
-fill-alike-requires c κs = search needs
-
-same-length : tie.Need-same-length
-same-length c = search needs
-
 returns-2 : tie.Need-returns-2
 unfolding alikeLeaves
 returns-2 c =
@@ -26,4 +17,4 @@ returns-2 c =
 
 pub pellet-alike-spec : {M : Type 1} → statement M
 pellet-alike-spec =
-    tie.close (tie.spec returns alike-requires fill-alike-requires same-length returns-2)
+    tie.close (tie.spec returns (λ c κs. search needs) (λ c κs. search needs) (λ c. search needs) returns-2)

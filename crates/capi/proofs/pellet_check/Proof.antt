@@ -9,15 +9,6 @@ returns : tie.Need-returns
 unfolding checkLeaves
 returns c = short _ _ _ _ (lt-ltb _ _ (c .if1 .taken))
 
-check-requires : tie.Need-check-requires
-check-requires c κs = search needs
-
-fill-check-requires : tie.Need-fill-check-requires
-fill-check-requires c κs = search needs
-
-same-length : tie.Need-same-length
-same-length c = search needs
-
 returns-2 : tie.Need-returns-2
 unfolding checkLeaves
 returns-2 c =
@@ -26,4 +17,4 @@ returns-2 c =
 
 pub pellet-check-spec : {M : Type 1} → statement M
 pellet-check-spec =
-    tie.close (tie.spec returns check-requires fill-check-requires same-length returns-2)
+    tie.close (tie.spec returns (λ c κs. search needs) (λ c κs. search needs) (λ c. search needs) returns-2)

@@ -10,21 +10,6 @@ returns : tie.Need-returns
 unfolding translateLeaves
 returns c = (short _ _ _ _ (lt-ltb _ _ (c .if1 .taken)), demand _ _ _)
 
-translate-requires : tie.Need-translate-requires
-translate-requires c κs = search needs
-
-fill-translate-requires : tie.Need-fill-translate-requires
-fill-translate-requires c κs = search needs
-
-same-length : tie.Need-same-length
-same-length c = search needs
-
-same-length-2 : tie.Need-same-length-2
-same-length-2 c = search needs
-
-same-length-3 : tie.Need-same-length-3
-same-length-3 c = search needs
-
 returns-2 : tie.Need-returns-2
 unfolding translateLeaves
 returns-2 c =
@@ -36,9 +21,9 @@ pellet-translate-spec =
     tie.close
     (tie.spec
     returns
-    translate-requires
-    fill-translate-requires
-    same-length
-    same-length-2
-    same-length-3
+    (λ c κs. search needs)
+    (λ c κs. search needs)
+    (λ c. search needs)
+    (λ c. search needs)
+    (λ c. search needs)
     returns-2)

@@ -10,15 +10,6 @@ use borrow.Author.Needs.{needs}
 use Rattle.checker.proofs.check.Statement.{statement}
 use Rattle.checker.proofs.check.Tie as tie
 
-usable-requires : tie.Need-usable-requires
-usable-requires c κs = search needs
-
-usable-requires-2 : tie.Need-usable-requires-2
-usable-requires-2 c κs = search needs
-
-add-m : tie.Need-add-m
-add-m c = search needs
-
 returns : tie.Need-returns
 returns c =
     let a = c .before .before .before .before .before .before .before .args in (
@@ -35,9 +26,6 @@ returns-2 c =
       unsatisfied-unfit (clausesOf (part (a .words .now)) (part (a .starts .now)) (a .clauses)),
     )
 
-usable-requires-3 : tie.Need-usable-requires-3
-usable-requires-3 c κs = search needs
-
 returns-3 : tie.Need-returns-3
 returns-3 c =
     let a = c .before .before .before .before .before .before .before .before .before .before .args in (
@@ -46,20 +34,11 @@ returns-3 c =
       unsatisfied-unfit (clausesOf (part (a .words .now)) (part (a .starts .now)) (a .clauses)),
     )
 
-slice-relend-prefix-check-parts : tie.Need-slice-relend-prefix-check-parts
-slice-relend-prefix-check-parts c = search needs
-
 slice-aggregate-check-parts : tie.Need-slice-aggregate-check-parts
 slice-aggregate-check-parts c = used-length (c .before .before .before .before .before .before .before .before .before .before .before .args .words .now) _ (c .before .before .before .before .before .before .usable .ensures)
 
-slice-relend-prefix-check-parts-2 : tie.Need-slice-relend-prefix-check-parts-2
-slice-relend-prefix-check-parts-2 c = search needs
-
 slice-aggregate-check-parts-2 : tie.Need-slice-aggregate-check-parts-2
 slice-aggregate-check-parts-2 c = used-length (c .before .before .before .before .before .before .before .before .before .before .before .before .args .starts .now) _ (c .before .before .before .before .before .before .usable2 .ensures)
-
-slice-relend-prefix-check-parts-3 : tie.Need-slice-relend-prefix-check-parts-3
-slice-relend-prefix-check-parts-3 c = search needs
 
 slice-aggregate-check-parts-3 : tie.Need-slice-aggregate-check-parts-3
 slice-aggregate-check-parts-3 c = sym (length-take-le (c .before .before .before .before .before .before .before .before .before .before .before .before .before .args .variables + 1) (c .before .before .before .before .before .before .before .before .before .before .before .before .before .args .marks .now) (omega (arith, c .before .before .before .before .usable3 .ensures, c .before .before .before .if3 .left)))
@@ -72,15 +51,6 @@ check-parts-requires c κs =
       c .before .before .before .before .before .if2 .left,
       c .before .before .before .before .before .before .if1 .left,
     )
-
-same-length : tie.Need-same-length
-same-length c = search needs
-
-same-length-2 : tie.Need-same-length-2
-same-length-2 c = search needs
-
-same-length-3 : tie.Need-same-length-3
-same-length-3 c = search needs
 
 returns-4 : tie.Need-returns-4
 returns-4 c =
@@ -95,21 +65,21 @@ pub check-spec : {M : Type 1} → statement M
 check-spec =
     tie.close
     (tie.spec
-    usable-requires
-    usable-requires-2
-    add-m
+    (λ c κs. search needs)
+    (λ c κs. search needs)
+    (λ c. search needs)
     returns
     returns-2
-    usable-requires-3
+    (λ c κs. search needs)
     returns-3
-    slice-relend-prefix-check-parts
+    (λ c. search needs)
     slice-aggregate-check-parts
-    slice-relend-prefix-check-parts-2
+    (λ c. search needs)
     slice-aggregate-check-parts-2
-    slice-relend-prefix-check-parts-3
+    (λ c. search needs)
     slice-aggregate-check-parts-3
     check-parts-requires
-    same-length
-    same-length-2
-    same-length-3
+    (λ c. search needs)
+    (λ c. search needs)
+    (λ c. search needs)
     returns-4)

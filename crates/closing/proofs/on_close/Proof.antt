@@ -8,24 +8,12 @@ use borrow.Author.Needs.{needs}
 use Rattle.closing.proofs.on_close.Statement.{statement}
 use Rattle.closing.proofs.on_close.Tie as tie
 
-is-going-requires : tie.Need-is-going-requires
-is-going-requires c κs = search needs
-
-refused-requires : tie.Need-refused-requires
-refused-requires c κs = search needs
-
 returns : tie.Need-returns
 returns c =
     let a = c .before .before .before .before .before .before .before .before .args in (
       close-over (a .words .now) (a .starts .now) (a .marks .now) (a .p) (c .refused .result) (c .refused .ensures) (sym (c .before .before .is-going .ensures) ∙ not-true (c .before .before .is-going .result) (c .before .if1 .taken)),
       trailed-stop (a .words .now) (a .marks .now) (a .trail .now) (c .refused .result) _ (c .refused .ensures),
     )
-
-is-conflicted-requires : tie.Need-is-conflicted-requires
-is-conflicted-requires c κs = search needs
-
-refused-requires-2 : tie.Need-refused-requires-2
-refused-requires-2 c κs = search needs
 
 returns-2 : tie.Need-returns-2
 returns-2 c =
@@ -34,24 +22,12 @@ returns-2 c =
       trailed-stop (a .words .now) (a .marks .now) (a .trail .now) (c .refused2 .result) _ (c .refused2 .ensures),
     )
 
-add-if3 : tie.Need-add-if3
-add-if3 c = search needs
-
-add-if3-2 : tie.Need-add-if3-2
-add-if3-2 c = search needs
-
-refused-requires-3 : tie.Need-refused-requires-3
-refused-requires-3 c κs = search needs
-
 returns-3 : tie.Need-returns-3
 returns-3 c =
     let a = c .before .before .before .before .before .before .before .before .before .before .before .args in (
       full-words (a .words .now) (a .starts .now) (a .marks .now) (a .p) (c .refused3 .result) (c .before .before .before .before .before .before .before .before .before .before .before .pre .0) (sym (c .before .before .before .is-conflicted .ensures) ∙ not-false (c .before .before .before .is-conflicted .result) (c .before .before .if2 .left)) (c .refused3 .ensures) (c .before .if3 .taken),
       trailed-stop (a .words .now) (a .marks .now) (a .trail .now) (c .refused3 .result) _ (c .refused3 .ensures),
     )
-
-refused-requires-4 : tie.Need-refused-requires-4
-refused-requires-4 c κs = search needs
 
 returns-4 : tie.Need-returns-4
 returns-4 c =
@@ -62,39 +38,6 @@ returns-4 c =
 
 undo-requires : tie.Need-undo-requires
 undo-requires c κs = let z = c .before .before .before .before .before .before .before .before .before .before .before .before .before .before .pre in (z .0, (z .1 .0, (z .1 .1 .0, c .before .before .before .before .if3 .left)))
-
-cast-words : tie.Need-cast-words
-cast-words c = search needs
-
-mul-words : tie.Need-mul-words
-mul-words c = search needs
-
-slice-write-words : tie.Need-slice-write-words
-slice-write-words c = search needs
-
-cast-starts : tie.Need-cast-starts
-cast-starts c = search needs
-
-mul-starts : tie.Need-mul-starts
-mul-starts c = search needs
-
-slice-write-starts : tie.Need-slice-write-starts
-slice-write-starts c = search needs
-
-phase-after-requires : tie.Need-phase-after-requires
-phase-after-requires c κs = search needs
-
-with-close-requires : tie.Need-with-close-requires
-with-close-requires c κs = search needs
-
-same-length : tie.Need-same-length
-same-length c = search needs
-
-same-length-2 : tie.Need-same-length-2
-same-length-2 c = search needs
-
-same-length-3 : tie.Need-same-length-3
-same-length-3 c = search needs
 
 returns-5 : tie.Need-returns-5
 returns-5 c =
@@ -110,28 +53,28 @@ pub on-close-spec : {M : Type 1} → statement M
 on-close-spec =
     tie.close
     (tie.spec
-    is-going-requires
-    refused-requires
+    (λ c κs. search needs)
+    (λ c κs. search needs)
     returns
-    is-conflicted-requires
-    refused-requires-2
+    (λ c κs. search needs)
+    (λ c κs. search needs)
     returns-2
-    add-if3
-    add-if3-2
-    refused-requires-3
+    (λ c. search needs)
+    (λ c. search needs)
+    (λ c κs. search needs)
     returns-3
-    refused-requires-4
+    (λ c κs. search needs)
     returns-4
     undo-requires
-    cast-words
-    mul-words
-    slice-write-words
-    cast-starts
-    mul-starts
-    slice-write-starts
-    phase-after-requires
-    with-close-requires
-    same-length
-    same-length-2
-    same-length-3
+    (λ c. search needs)
+    (λ c. search needs)
+    (λ c. search needs)
+    (λ c. search needs)
+    (λ c. search needs)
+    (λ c. search needs)
+    (λ c κs. search needs)
+    (λ c κs. search needs)
+    (λ c. search needs)
+    (λ c. search needs)
+    (λ c. search needs)
     returns-5)

@@ -3,18 +3,6 @@ use borrow.Author.Needs.{needs}
 use Rattle.comparing.proofs.alike.Statement.{statement}
 use Rattle.comparing.proofs.alike.Tie as tie
 
-check-requires : tie.Need-check-requires
-check-requires c κs = search needs
-
-enum-known-refusal : tie.Need-enum-known-refusal
-enum-known-refusal c = search needs
-
-enum-known-header : tie.Need-enum-known-header
-enum-known-header c = search needs
-
-compare-requires : tie.Need-compare-requires
-compare-requires c κs = search needs
-
 returns : tie.Need-returns
 returns c = no-pair _ _ (c .before .before .before .check .ensures) _ _ _ (c .before .refusal .given .1)
 
@@ -25,9 +13,9 @@ pub alike-spec : {M : Type 1} → statement M
 alike-spec =
     tie.close
     (tie.spec
-    check-requires
-    enum-known-refusal
-    enum-known-header
-    compare-requires
+    (λ c κs. search needs)
+    (λ c. search needs)
+    (λ c. search needs)
+    (λ c κs. search needs)
     returns
     returns-2)

@@ -4,18 +4,6 @@ use Rattle.lead.proofs.Leads.{no-routine, by-lead}
 use Rattle.lead.proofs.admit.Statement.{statement}
 use Rattle.lead.proofs.admit.Tie as tie
 
-check-requires : tie.Need-check-requires
-check-requires c κs = search needs
-
-enum-known-refusal : tie.Need-enum-known-refusal
-enum-known-refusal c = search needs
-
-enum-known-header : tie.Need-enum-known-header
-enum-known-header c = search needs
-
-admit-lead-requires : tie.Need-admit-lead-requires
-admit-lead-requires c κs = search needs
-
 returns : tie.Need-returns
 returns c = no-routine _ _ _ _ _ (c .before .before .before .check .ensures) (c .before .refusal .given .1)
 
@@ -26,9 +14,9 @@ pub admit-spec : {M : Type 1} → statement M
 admit-spec =
     tie.close
     (tie.spec
-    check-requires
-    enum-known-refusal
-    enum-known-header
-    admit-lead-requires
+    (λ c κs. search needs)
+    (λ c. search needs)
+    (λ c. search needs)
+    (λ c κs. search needs)
     returns
     returns-2)

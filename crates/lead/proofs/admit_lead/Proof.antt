@@ -8,18 +8,9 @@ use Rattle.lead.proofs.Leads.{first-odd-le}
 use Rattle.lead.proofs.admit_lead.Statement.{statement}
 use Rattle.lead.proofs.admit_lead.Tie as tie
 
-cast-if1 : tie.Need-cast-if1
-cast-if1 c = search needs
-
 returns : tie.Need-returns
 unfolding admittedLead
 returns c = rw (ne-eqb _ _ (c .if1 .taken))
-
-accesses-of-requires : tie.Need-accesses-of-requires
-accesses-of-requires c κs = search needs
-
-wide-requires : tie.Need-wide-requires
-wide-requires c κs = search needs
 
 returns-2 : tie.Need-returns-2
 unfolding admittedLead
@@ -34,9 +25,6 @@ returns-3 c =
     let q = c .before .before .before .before in
     let l : q .before .before .before .before .args .t .access < accesses (q .before .before .before .before .args .k) = omega arith in
     rw (eq-eqb _ _ (q .before .if1 .left), lt-ltb _ _ l, lt-leb _ _ (c .if3 .taken))
-
-odd-decision-requires : tie.Need-odd-decision-requires
-odd-decision-requires c κs = search needs
 
 add-t15 : tie.Need-add-t15
 add-t15 c = let l = first-odd-le (c .before .before .before .before .before .before .before .before .before .before .args .decisions .now) in omega arith
@@ -59,13 +47,13 @@ pub admit-lead-spec : {M : Type 1} → statement M
 admit-lead-spec =
     tie.close
     (tie.spec
-    cast-if1
+    (λ c. search needs)
     returns
-    accesses-of-requires
-    wide-requires
+    (λ c κs. search needs)
+    (λ c κs. search needs)
     returns-2
     returns-3
-    odd-decision-requires
+    (λ c κs. search needs)
     add-t15
     returns-4
     returns-5)

@@ -7,33 +7,12 @@ use borrow.Author.Needs.{needs}
 use Rattle.line.proofs.write_line.Statement.{statement}
 use Rattle.line.proofs.write_line.Tie as tie
 
-enum-known-judged : tie.Need-enum-known-judged
-enum-known-judged c = search needs
-
-put-claim-requires : tie.Need-put-claim-requires
-put-claim-requires c κs = search needs
-
-put-shown-requires : tie.Need-put-shown-requires
-put-shown-requires c κs = search needs
-
-enum-known-judged-2 : tie.Need-enum-known-judged-2
-enum-known-judged-2 c = search needs
-
-put-refusal-requires : tie.Need-put-refusal-requires
-put-refusal-requires c κs = search needs
-
-same-length : tie.Need-same-length
-same-length c = search needs
-
 returns : tie.Need-returns
 unfolding lineOf
 returns c =
     let shows = c .before .before in
     let claims = shows .before .before .before .before in
     (said (onward (claims .put-claim .ensures .0) (shows .put-shown .ensures .0)) (sym (ap lineOf (claims .before .before .before .judged .given .1))), omega (arith, claims .put-claim .ensures .1, shows .put-shown .ensures .1))
-
-same-length-2 : tie.Need-same-length-2
-same-length-2 c = search needs
 
 returns-2 : tie.Need-returns-2
 unfolding lineOf
@@ -45,12 +24,12 @@ pub write-line-spec : {M : Type 1} → statement M
 write-line-spec =
     tie.close
     (tie.spec
-    enum-known-judged
-    put-claim-requires
-    put-shown-requires
-    enum-known-judged-2
-    put-refusal-requires
-    same-length
+    (λ c. search needs)
+    (λ c κs. search needs)
+    (λ c κs. search needs)
+    (λ c. search needs)
+    (λ c κs. search needs)
+    (λ c. search needs)
     returns
-    same-length-2
+    (λ c. search needs)
     returns-2)

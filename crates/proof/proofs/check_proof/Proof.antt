@@ -26,9 +26,6 @@ slice-aggregate-turn c = sym (c .before .before .before .before .loop .inv .4)
 turn-requires : tie.Need-turn-requires Inv-loop μ-loop
 turn-requires c κs = c .before .before .before .before .loop .inv .0 .ready
 
-enum-known-next : tie.Need-enum-known-next Inv-loop μ-loop
-enum-known-next c = search needs
-
 loop-less : tie.Need-loop-less Inv-loop μ-loop
 loop-less c =
     let a = c .before .before .before .before .before .before .before .before .before .before .before .before .before .before .before .before .before .before .before .before .args in
@@ -49,9 +46,6 @@ loop-again c =
       k .kept .1 .1 .0 ∙ l .inv .3,
       k .kept .1 .1 .1 .0 ∙ l .inv .4,
     )
-
-enum-known-next-2 : tie.Need-enum-known-next-2 Inv-loop μ-loop
-enum-known-next-2 c = search needs
 
 same-length : tie.Need-same-length Inv-loop μ-loop
 same-length c = c .before .before .before .before .before .before .before .before .before .before .turn .kept .0 ∙ c .before .before .before .before .before .before .before .before .before .before .before .before .before .before .before .loop .inv .1
@@ -82,10 +76,10 @@ check-proof-spec =
     loop-holds
     slice-aggregate-turn
     turn-requires
-    enum-known-next
+    (λ c. search needs)
     loop-less
     loop-again
-    enum-known-next-2
+    (λ c. search needs)
     same-length
     same-length-2
     same-length-3

@@ -3,12 +3,6 @@ use borrow.Author.Needs.{needs}
 use Rattle.proving.proofs.by_translation.Statement.{statement}
 use Rattle.proving.proofs.by_translation.Tie as tie
 
-enum-known-refusal : tie.Need-enum-known-refusal
-enum-known-refusal c = search needs
-
-enum-known-refusal-2 : tie.Need-enum-known-refusal-2
-enum-known-refusal-2 c = search needs
-
 returns : tie.Need-returns
 returns c = rw (c .before .refusal .given .1) refl
 
@@ -19,7 +13,7 @@ pub by-translation-spec : {M : Type 1} → statement M
 by-translation-spec =
     tie.close
     (tie.spec
-    enum-known-refusal
-    enum-known-refusal-2
+    (λ c. search needs)
+    (λ c. search needs)
     returns
     returns-2)

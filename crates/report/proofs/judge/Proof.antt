@@ -5,68 +5,23 @@ use borrow.Author.Needs.{needs}
 use Rattle.report.proofs.judge.Statement.{statement}
 use Rattle.report.proofs.judge.Tie as tie
 
-usable-requires : tie.Need-usable-requires
-usable-requires c κs = search needs
-
-usable-requires-2 : tie.Need-usable-requires-2
-usable-requires-2 c κs = search needs
-
-usable-requires-3 : tie.Need-usable-requires-3
-usable-requires-3 c κs = search needs
-
-usable-requires-4 : tie.Need-usable-requires-4
-usable-requires-4 c κs = search needs
-
-usable-requires-5 : tie.Need-usable-requires-5
-usable-requires-5 c κs = search needs
-
-slice-relend-prefix-judge-parts : tie.Need-slice-relend-prefix-judge-parts
-slice-relend-prefix-judge-parts c = search needs
-
 slice-aggregate-judge-parts : tie.Need-slice-aggregate-judge-parts
 slice-aggregate-judge-parts c = used-length (c .before .before .before .before .before .before .before .before .before .before .before .before .before .args .words .now) _ (c .before .before .before .before .before .usable .ensures)
-
-slice-relend-prefix-judge-parts-2 : tie.Need-slice-relend-prefix-judge-parts-2
-slice-relend-prefix-judge-parts-2 c = search needs
 
 slice-aggregate-judge-parts-2 : tie.Need-slice-aggregate-judge-parts-2
 slice-aggregate-judge-parts-2 c = used-length (c .before .before .before .before .before .before .before .before .before .before .before .before .before .before .args .starts .now) _ (c .before .before .before .before .before .usable2 .ensures)
 
-slice-relend-prefix-judge-parts-3 : tie.Need-slice-relend-prefix-judge-parts-3
-slice-relend-prefix-judge-parts-3 c = search needs
-
 slice-aggregate-judge-parts-3 : tie.Need-slice-aggregate-judge-parts-3
 slice-aggregate-judge-parts-3 c = used-length (c .before .before .before .before .before .before .before .before .before .before .before .before .before .before .before .args .marks .now) _ (c .before .before .before .before .before .usable3 .ensures)
 
-slice-relend-prefix-judge-parts-4 : tie.Need-slice-relend-prefix-judge-parts-4
-slice-relend-prefix-judge-parts-4 c = search needs
-
 slice-aggregate-judge-parts-4 : tie.Need-slice-aggregate-judge-parts-4
 slice-aggregate-judge-parts-4 c = used-length (c .before .before .before .before .before .before .before .before .before .before .before .before .before .before .before .before .args .values .now) _ (c .before .before .before .before .before .usable4 .ensures)
-
-slice-relend-prefix-judge-parts-5 : tie.Need-slice-relend-prefix-judge-parts-5
-slice-relend-prefix-judge-parts-5 c = search needs
 
 slice-aggregate-judge-parts-5 : tie.Need-slice-aggregate-judge-parts-5
 slice-aggregate-judge-parts-5 c = used-length (c .before .before .before .before .before .before .before .before .before .before .before .before .before .before .before .before .before .args .trail .now) _ (c .before .before .before .before .before .usable5 .ensures)
 
 judge-parts-requires : tie.Need-judge-parts-requires
 judge-parts-requires c κs = let a = c .before .before .before .before .before .before .before .before .before .before .before .before .before .before .before .before .before .args in (used-short (a .words .now) _ (c .before .before .before .before .before .before .before .before .before .usable .ensures), used-short (a .starts .now) _ (c .before .before .before .before .before .before .before .before .usable2 .ensures))
-
-same-length : tie.Need-same-length
-same-length c = search needs
-
-same-length-2 : tie.Need-same-length-2
-same-length-2 c = search needs
-
-same-length-3 : tie.Need-same-length-3
-same-length-3 c = search needs
-
-same-length-4 : tie.Need-same-length-4
-same-length-4 c = search needs
-
-same-length-5 : tie.Need-same-length-5
-same-length-5 c = search needs
 
 returns : tie.Need-returns
 returns c =
@@ -82,25 +37,25 @@ pub judge-spec : {M : Type 1} → statement M
 judge-spec =
     tie.close
     (tie.spec
-    usable-requires
-    usable-requires-2
-    usable-requires-3
-    usable-requires-4
-    usable-requires-5
-    slice-relend-prefix-judge-parts
+    (λ c κs. search needs)
+    (λ c κs. search needs)
+    (λ c κs. search needs)
+    (λ c κs. search needs)
+    (λ c κs. search needs)
+    (λ c. search needs)
     slice-aggregate-judge-parts
-    slice-relend-prefix-judge-parts-2
+    (λ c. search needs)
     slice-aggregate-judge-parts-2
-    slice-relend-prefix-judge-parts-3
+    (λ c. search needs)
     slice-aggregate-judge-parts-3
-    slice-relend-prefix-judge-parts-4
+    (λ c. search needs)
     slice-aggregate-judge-parts-4
-    slice-relend-prefix-judge-parts-5
+    (λ c. search needs)
     slice-aggregate-judge-parts-5
     judge-parts-requires
-    same-length
-    same-length-2
-    same-length-3
-    same-length-4
-    same-length-5
+    (λ c. search needs)
+    (λ c. search needs)
+    (λ c. search needs)
+    (λ c. search needs)
+    (λ c. search needs)
     returns)

@@ -17,18 +17,6 @@ returns-2 c =
     let n = length (c .before .before .before .args .routine .now) in
     rw (le-leb 1 n (omega arith), lt-leb n 4096 (omega arith))
 
-read-header-requires : tie.Need-read-header-requires
-read-header-requires c κs = search needs
-
-enum-known-place : tie.Need-enum-known-place
-enum-known-place c = search needs
-
-enum-known-h : tie.Need-enum-known-h
-enum-known-h c = search needs
-
-check-commands-requires : tie.Need-check-commands-requires
-check-commands-requires c κs = search needs
-
 returns-3 : tie.Need-returns-3
 unfolding checked decode
 returns-3 c =
@@ -50,9 +38,9 @@ check-spec =
     (tie.spec
     returns
     returns-2
-    read-header-requires
-    enum-known-place
-    enum-known-h
-    check-commands-requires
+    (λ c κs. search needs)
+    (λ c. search needs)
+    (λ c. search needs)
+    (λ c κs. search needs)
     returns-3
     returns-4)

@@ -17,9 +17,6 @@ abbrev μ-loop : tie.MeasureT-loop
 loop-holds : tie.Need-loop-holds Inv-loop μ-loop
 loop-holds c = (omega arith, refl)
 
-is-size-requires : tie.Need-is-size-requires Inv-loop μ-loop
-is-size-requires c κs = search needs
-
 returns : tie.Need-returns Inv-loop μ-loop
 returns c =
     let l = c .before .before .before in
@@ -53,7 +50,7 @@ bad-size-spec =
     Inv-loop
     μ-loop
     loop-holds
-    is-size-requires
+    (λ c κs. search needs)
     returns
     add-at
     sub-left

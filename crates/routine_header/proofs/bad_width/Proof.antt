@@ -17,9 +17,6 @@ abbrev μ-loop : tie.MeasureT-loop
 loop-holds : tie.Need-loop-holds Inv-loop μ-loop
 loop-holds c = (omega arith, refl)
 
-is-within-requires : tie.Need-is-within-requires Inv-loop μ-loop
-is-within-requires c κs = search needs
-
 returns : tie.Need-returns Inv-loop μ-loop
 returns c =
     let l = c .before .before .before in
@@ -53,7 +50,7 @@ bad-width-spec =
     Inv-loop
     μ-loop
     loop-holds
-    is-within-requires
+    (λ c κs. search needs)
     returns
     add-at
     sub-left

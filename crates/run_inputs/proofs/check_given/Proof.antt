@@ -19,9 +19,6 @@ loop-holds c = (omega arith, given-start _ _ _)
 cast-n : tie.Need-cast-n Inv-loop μ-loop
 cast-n c = omega arith
 
-fits-requires : tie.Need-fits-requires Inv-loop μ-loop
-fits-requires c κs = search needs
-
 returns : tie.Need-returns Inv-loop μ-loop
 returns c = given-great _ _ _ _ (c .before .before .before .loop .inv .1) (omega arith) (sym (c .before .fits2 .ensures) ∙ not-true _ (c .if1 .taken))
 
@@ -45,7 +42,7 @@ check-given-spec =
     μ-loop
     loop-holds
     cast-n
-    fits-requires
+    (λ c κs. search needs)
     returns
     add-v
     loop-less

@@ -5,29 +5,8 @@ use Rattle.run_inputs.proofs.Counted.{miscounted, counted}
 use Rattle.run_inputs.proofs.check_inputs.Statement.{statement}
 use Rattle.run_inputs.proofs.check_inputs.Tie as tie
 
-input-count-requires : tie.Need-input-count-requires
-input-count-requires c κs = search needs
-
 returns : tie.Need-returns
 returns c = miscounted _ _ _ _ _ _ (c .before .input-count .ensures) (c .if1 .taken)
-
-given-of-requires : tie.Need-given-of-requires
-given-of-requires c κs = search needs
-
-check-given-requires : tie.Need-check-given-requires
-check-given-requires c κs = search needs
-
-enum-told : tie.Need-enum-told
-enum-told c = search needs
-
-check-reads-requires : tie.Need-check-reads-requires
-check-reads-requires c κs = search needs
-
-enum-told-2 : tie.Need-enum-told-2
-enum-told-2 c = search needs
-
-enum-known-n : tie.Need-enum-known-n
-enum-known-n c = search needs
 
 returns-2 : tie.Need-returns-2
 returns-2 c =
@@ -48,14 +27,14 @@ pub check-inputs-spec : {M : Type 1} → statement M
 check-inputs-spec =
     tie.close
     (tie.spec
-    input-count-requires
+    (λ c κs. search needs)
     returns
-    given-of-requires
-    check-given-requires
-    enum-told
-    check-reads-requires
-    enum-told-2
-    enum-known-n
+    (λ c κs. search needs)
+    (λ c κs. search needs)
+    (λ c. search needs)
+    (λ c κs. search needs)
+    (λ c. search needs)
+    (λ c. search needs)
     returns-2
     returns-3
     returns-4)

@@ -16,34 +16,13 @@ Inv-loop bytes inputs end at₀ n₀ at n = LeftOf bytes inputs (textOf (command
 abbrev μ-loop : tie.MeasureT-loop
 μ-loop bytes inputs end at₀ n₀ at n = length bytes - at
 
-input-count-requires : tie.Need-input-count-requires Inv-loop μ-loop
-input-count-requires c κs = search needs
-
-first-command-requires : tie.Need-first-command-requires Inv-loop μ-loop
-first-command-requires c κs = search needs
-
-given-of-requires : tie.Need-given-of-requires Inv-loop μ-loop
-given-of-requires c κs = search needs
-
-cast-n : tie.Need-cast-n Inv-loop μ-loop
-cast-n c = search needs
-
 loop-holds : tie.Need-loop-holds Inv-loop μ-loop
 loop-holds c = scan-start _ _ _ _ (c .before .before .before .before .before .pre) _ _ _ (c .before .before .input-count .ensures) (c .before .first-command .ensures) (c .given-of .ensures)
-
-byte-at-requires : tie.Need-byte-at-requires Inv-loop μ-loop
-byte-at-requires c κs = search needs
 
 add-byte-at : tie.Need-add-byte-at Inv-loop μ-loop
 add-byte-at c =
     let l = read-room _ _ _ _ _ _ _ (c .before .before .before .loop .inv) (omega arith) _ (c .before .byte-at .ensures) (c .if1 .taken) in
     omega arith
-
-byte-at-requires-2 : tie.Need-byte-at-requires-2 Inv-loop μ-loop
-byte-at-requires-2 c κs = search needs
-
-fits-requires : tie.Need-fits-requires Inv-loop μ-loop
-fits-requires c κs = search needs
 
 returns : tie.Need-returns Inv-loop μ-loop
 returns c = rw (← c .before .before .before .before .before .before .before .given-of .ensures) (scan-great _ _ _ _ _ _ _ (c .before .before .before .before .before .before .loop .inv) (omega arith) _ (c .before .before .before .before .byte-at .ensures) (c .before .before .before .if1 .taken) _ (c .before .before .byte-at2 .ensures) (sym (c .before .fits2 .ensures) ∙ not-true _ (c .if2 .taken)))
@@ -63,9 +42,6 @@ loop-less c =
 
 loop-again : tie.Need-loop-again Inv-loop μ-loop
 loop-again c = scan-fits _ _ _ _ _ _ _ (c .before .before .before .before .before .before .loop .inv) (omega arith) _ (c .before .before .before .before .byte-at .ensures) (c .before .before .before .if1 .taken) _ (c .before .before .byte-at2 .ensures) (sym (c .before .fits2 .ensures) ∙ not-false _ (c .if2 .left))
-
-size-by-requires : tie.Need-size-by-requires Inv-loop μ-loop
-size-by-requires c κs = search needs
 
 add-at-2 : tie.Need-add-at-2 Inv-loop μ-loop
 add-at-2 c =
@@ -89,21 +65,21 @@ check-reads-spec =
     (tie.spec
     Inv-loop
     μ-loop
-    input-count-requires
-    first-command-requires
-    given-of-requires
-    cast-n
+    (λ c κs. search needs)
+    (λ c κs. search needs)
+    (λ c κs. search needs)
+    (λ c. search needs)
     loop-holds
-    byte-at-requires
+    (λ c κs. search needs)
     add-byte-at
-    byte-at-requires-2
-    fits-requires
+    (λ c κs. search needs)
+    (λ c κs. search needs)
     returns
     add-at
     add-n
     loop-less
     loop-again
-    size-by-requires
+    (λ c κs. search needs)
     add-at-2
     loop-less-2
     loop-again-2

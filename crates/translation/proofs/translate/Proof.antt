@@ -5,15 +5,6 @@ use Rattle.translation_meaning.proofs.Demand.{demand}
 use Rattle.translation.proofs.translate.Statement.{statement}
 use Rattle.translation.proofs.translate.Tie as tie
 
-admit-requires : tie.Need-admit-requires
-admit-requires c κs = search needs
-
-enum-known-refusal : tie.Need-enum-known-refusal
-enum-known-refusal c = search needs
-
-enum-known-h : tie.Need-enum-known-h
-enum-known-h c = search needs
-
 fit-requires : tie.Need-fit-requires
 fit-requires c κs = is-routine-by _ _ _ _ (c .before .before .before .before .before .admit .ensures) _ (c .before .before .before .h .given .1)
 
@@ -21,12 +12,6 @@ returns : tie.Need-returns
 returns c =
     let x = refuses _ _ _ _ _ _ (c .before .before .before .admit .ensures) _ (c .before .refusal .given .1) in
     (x, demand _ _ _)
-
-same-length : tie.Need-same-length
-same-length c = search needs
-
-same-length-2 : tie.Need-same-length-2
-same-length-2 c = search needs
 
 returns-2 : tie.Need-returns-2
 returns-2 c =
@@ -38,11 +23,11 @@ pub translate-spec : {M : Type 1} → statement M
 translate-spec =
     tie.close
     (tie.spec
-    admit-requires
-    enum-known-refusal
-    enum-known-h
+    (λ c κs. search needs)
+    (λ c. search needs)
+    (λ c. search needs)
     fit-requires
     returns
-    same-length
-    same-length-2
+    (λ c. search needs)
+    (λ c. search needs)
     returns-2)

@@ -4,15 +4,6 @@ use borrow.Author.Needs.{needs}
 use Rattle.witness.proofs.run_witness.Statement.{statement}
 use Rattle.witness.proofs.run_witness.Tie as tie
 
-open-requires : tie.Need-open-requires
-open-requires c κs = search needs
-
-enum-known-refusal : tie.Need-enum-known-refusal
-enum-known-refusal c = search needs
-
-enum-known-t : tie.Need-enum-known-t
-enum-known-t c = search needs
-
 settle-requires : tie.Need-settle-requires
 settle-requires c κs =
     let i = c .before .before .before .before .before .before .pre in (
@@ -30,4 +21,4 @@ returns-2 c = witness-settled _ _ _ _ _ _ (c .before .before .before .before .«
 pub run-witness-spec : {M : Type 1} → statement M
 run-witness-spec =
     tie.close
-    (tie.spec open-requires enum-known-refusal enum-known-t settle-requires returns returns-2)
+    (tie.spec (λ c κs. search needs) (λ c. search needs) (λ c. search needs) settle-requires returns returns-2)

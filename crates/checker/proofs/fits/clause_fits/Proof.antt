@@ -9,12 +9,6 @@ returns c =
     let a = c .before .before .before .args in
     clause-unlisted (a .words .now) (a .starts .now) (a .variables) (a .number) (a .at) (c .if1 .taken)
 
-mul-if2 : tie.Need-mul-if2
-mul-if2 c = search needs
-
-shared-slice-read-if2 : tie.Need-shared-slice-read-if2
-shared-slice-read-if2 c = search needs
-
 cast-if2 : tie.Need-cast-if2
 cast-if2 c = omega (arith, c .shared-slice-known3 .given (c .before .before .before .before .args .number))
 
@@ -28,15 +22,6 @@ returns-3 c =
     let a = c .before .before .before .before .before .before .args in
     clause-outside (a .words .now) (a .starts .now) (a .variables) (a .number) (a .at) (c .before .before .before .if1 .left) (c .before .if2 .left) (omega arith)
 
-add-to : tie.Need-add-to
-add-to c = search needs
-
-mul-to : tie.Need-mul-to
-mul-to c = search needs
-
-shared-slice-read-to : tie.Need-shared-slice-read-to
-shared-slice-read-to c = search needs
-
 cast-to : tie.Need-cast-to
 cast-to c = omega (arith, c .shared-slice-known4 .given (c .before .before .before .before .before .before .before .args .at))
 
@@ -48,12 +33,6 @@ returns-4 c =
     let a = c .before .before .before .before .before .before .before .before .args in
     clause-outside (a .words .now) (a .starts .now) (a .variables) (a .number) (a .at) (c .before .before .before .before .before .if1 .left) (c .before .before .before .if2 .left) (c .if4 .taken)
 
-add-literals-fit : tie.Need-add-literals-fit
-add-literals-fit c = search needs
-
-literals-fit-requires : tie.Need-literals-fit-requires
-literals-fit-requires c κs = search needs
-
 returns-5 : tie.Need-returns-5
 returns-5 c =
     let a = c .before .before .before .before .before .before .before .before .before .args in
@@ -64,17 +43,17 @@ clause-fits-spec =
     tie.close
     (tie.spec
     returns
-    mul-if2
-    shared-slice-read-if2
+    (λ c. search needs)
+    (λ c. search needs)
     cast-if2
     returns-2
     returns-3
-    add-to
-    mul-to
-    shared-slice-read-to
+    (λ c. search needs)
+    (λ c. search needs)
+    (λ c. search needs)
     cast-to
     add-to-2
     returns-4
-    add-literals-fit
-    literals-fit-requires
+    (λ c. search needs)
+    (λ c κs. search needs)
     returns-5)

@@ -19,25 +19,10 @@ abbrev μ-loop : tie.MeasureT-loop
 loop-holds : tie.Need-loop-holds Inv-loop μ-loop
 loop-holds c = (omega arith, omega arith, refl)
 
-mul-of-variable : tie.Need-mul-of-variable Inv-loop μ-loop
-mul-of-variable c = search needs
-
-shared-slice-read-of-variable : tie.Need-shared-slice-read-of-variable Inv-loop μ-loop
-shared-slice-read-of-variable c = search needs
-
-of-variable-requires : tie.Need-of-variable-requires Inv-loop μ-loop
-of-variable-requires c κs = search needs
-
 returns : tie.Need-returns Inv-loop μ-loop
 returns c =
     let a = c .before .before .before .before .before .before .args in
     fit-not (a .words .now) (a .variables) (c .before .before .before .before .loop .i) (a .to) (c .before .before .before .loop-test .taken) (c .before .before .before .before .before .before .pre .1) (sym (c .before .of-variable .ensures) ∙ not-true (c .before .of-variable .result) (c .if1 .taken)) ∙ c .before .before .before .before .loop .inv .2
-
-add-i : tie.Need-add-i Inv-loop μ-loop
-add-i c = search needs
-
-loop-less : tie.Need-loop-less Inv-loop μ-loop
-loop-less c = search needs
 
 loop-again : tie.Need-loop-again Inv-loop μ-loop
 loop-again c =
@@ -59,11 +44,11 @@ literals-fit-spec =
     Inv-loop
     μ-loop
     loop-holds
-    mul-of-variable
-    shared-slice-read-of-variable
-    of-variable-requires
+    (λ c. search needs)
+    (λ c. search needs)
+    (λ c κs. search needs)
     returns
-    add-i
-    loop-less
+    (λ c. search needs)
+    (λ c. search needs)
     loop-again
     returns-2)

@@ -7,11 +7,8 @@ use Rattle.checker.proofs.fits.of_variable.Tie as tie
 returns : tie.Need-returns
 returns c = variable-none (c .before .args .variables) (c .before .args .literal) (c .if1 .taken)
 
-cast-result : tie.Need-cast-result
-cast-result c = search needs
-
 returns-2 : tie.Need-returns-2
 returns-2 c = variable-some (c .before .args .variables) (c .before .args .literal) _ (c .if1 .left) refl
 
 pub of-variable-spec : {M : Type 1} → statement M
-of-variable-spec = tie.close (tie.spec returns cast-result returns-2)
+of-variable-spec = tie.close (tie.spec returns (λ c. search needs) returns-2)

@@ -21,9 +21,6 @@ loop-holds c =
     let a = c .before .before .args in
     (omega arith, omega arith, stand-start (a .words .now) (a .starts .now) (a .variables) (a .count))
 
-clause-fits-requires : tie.Need-clause-fits-requires Inv-loop μ-loop
-clause-fits-requires c κs = search needs
-
 returns : tie.Need-returns Inv-loop μ-loop
 returns c =
     let a = c .before .before .before .before .before .before .args in
@@ -53,12 +50,6 @@ add-at-2 c =
     let f = clause-fits (a .words .now) (a .starts .now) (a .variables) (c .before .before .before .before .loop .i) (c .before .before .before .before .loop .at) (sym (c .before .before .clause-fits .ensures) ∙ not-false (c .before .before .clause-fits .result) (c .before .if1 .left)) in
     omega (arith, f .inside, c .before .before .before .before .before .before .before .pre)
 
-add-i : tie.Need-add-i Inv-loop μ-loop
-add-i c = search needs
-
-loop-less : tie.Need-loop-less Inv-loop μ-loop
-loop-less c = search needs
-
 loop-again : tie.Need-loop-again Inv-loop μ-loop
 loop-again c =
     let a = c .before .before .before .before .before .before .before .args in
@@ -81,14 +72,14 @@ stand-spec =
     Inv-loop
     μ-loop
     loop-holds
-    clause-fits-requires
+    (λ c κs. search needs)
     returns
     mul-at
     shared-slice-read-at
     cast-at
     add-at
     add-at-2
-    add-i
-    loop-less
+    (λ c. search needs)
+    (λ c. search needs)
     loop-again
     returns-2)

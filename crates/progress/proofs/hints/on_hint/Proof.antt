@@ -11,12 +11,6 @@ use borrow.Author.Needs.{needs}
 use Rattle.progress.proofs.hints.on_hint.Statement.{statement}
 use Rattle.progress.proofs.hints.on_hint.Tie as tie
 
-is-going-requires : tie.Need-is-going-requires
-is-going-requires c κs = search needs
-
-refused-requires : tie.Need-refused-requires
-refused-requires c κs = search needs
-
 returns : tie.Need-returns
 returns c =
     let a = c .before .before .before .before .before .before .before .args in (
@@ -24,21 +18,12 @@ returns c =
       trailed-stop (a .words .now) (a .marks .now) (a .trail .now) (c .refused .result) _ (c .refused .ensures),
     )
 
-refused-requires-2 : tie.Need-refused-requires-2
-refused-requires-2 c κs = search needs
-
 returns-2 : tie.Need-returns-2
 returns-2 c =
     let a = c .before .before .before .before .before .before .before .before .before .args in (
       hint-far (a .words .now) (a .starts .now) (a .marks .now) (a .p) (a .h) (c .refused2 .result) (c .refused2 .ensures) (sym (c .before .before .before .before .is-going .ensures) ∙ not-false (c .before .before .before .before .is-going .result) (c .before .before .before .if1 .left)) (c .before .if2 .taken),
       trailed-stop (a .words .now) (a .marks .now) (a .trail .now) (c .refused2 .result) _ (c .refused2 .ensures),
     )
-
-is-conflicted-requires : tie.Need-is-conflicted-requires
-is-conflicted-requires c κs = search needs
-
-refused-requires-3 : tie.Need-refused-requires-3
-refused-requires-3 c κs = search needs
 
 returns-3 : tie.Need-returns-3
 returns-3 c =
@@ -53,15 +38,6 @@ scan-stored-requires c κs =
     let a = z .args in
     stands (a .words .now) (a .starts .now) (length (a .marks .now)) (a .p .count) (a .p .used) (z .pre .0 .store) (a .h) (c .before .before .before .if2 .left)
 
-enum-told : tie.Need-enum-told
-enum-told c = search needs
-
-with-hint-requires : tie.Need-with-hint-requires
-with-hint-requires c κs = search needs
-
-enum-known-said : tie.Need-enum-known-said
-enum-known-said c = search needs
-
 decide-requires : tie.Need-decide-requires
 decide-requires c κs =
     let z = c .before .before .before .before .before .before .before .before .before .before .before .before .before .before .before .before .before in
@@ -75,15 +51,6 @@ decide-requires c κs =
       z .pre .0 .noted,
     )
 
-enum-told-2 : tie.Need-enum-told-2
-enum-told-2 c = search needs
-
-refused-requires-4 : tie.Need-refused-requires-4
-refused-requires-4 c κs = search needs
-
-same-length : tie.Need-same-length
-same-length c = search needs
-
 returns-4 : tie.Need-returns-4
 returns-4 c =
     let z = c .before .before .before .before .before .before .before .before .before .before .before .before .before .before .before in
@@ -92,12 +59,6 @@ returns-4 c =
           (Turn.More (c .with-hint .result)) (ap Turn.More (c .with-hint .ensures)) (sym (c .before .before .before .scan-stored .ensures) ∙ c .before .enum-told .given .1),
       trailed-conflict (a .words .now) (a .marks .now) (a .trail .now) (a .p) (z .pre .1 .0) (Turn.More (c .with-hint .result)) (ap Turn.More (c .with-hint .ensures)),
     )
-
-same-length-2 : tie.Need-same-length-2
-same-length-2 c = search needs
-
-same-length-3 : tie.Need-same-length-3
-same-length-3 c = search needs
 
 returns-5 : tie.Need-returns-5
 returns-5 c =
@@ -109,9 +70,6 @@ returns-5 c =
           (Turn.More (d .result)) (c .before .before .before .before .before .before .before .before .said .given .0 .0) (ap Turn.More (d .ensures .1 .1)) (sym (c .before .before .before .before .before .before .before .before .before .before .scan-stored .ensures) ∙ c .before .before .before .before .before .before .before .before .said .given .1),
       trailed-unit (a .words .now) (a .marks .now) (a .trail .now) (a .p) (z .pre .1 .0) (Turn.More (d .result)) (c .before .before .before .before .before .before .before .before .said .given .0 .0) (ap Turn.More (d .ensures .1 .1)),
     )
-
-same-length-4 : tie.Need-same-length-4
-same-length-4 c = search needs
 
 returns-6 : tie.Need-returns-6
 returns-6 c =
@@ -126,25 +84,25 @@ pub on-hint-spec : {M : Type 1} → statement M
 on-hint-spec =
     tie.close
     (tie.spec
-    is-going-requires
-    refused-requires
+    (λ c κs. search needs)
+    (λ c κs. search needs)
     returns
-    refused-requires-2
+    (λ c κs. search needs)
     returns-2
-    is-conflicted-requires
-    refused-requires-3
+    (λ c κs. search needs)
+    (λ c κs. search needs)
     returns-3
     scan-stored-requires
-    enum-told
-    with-hint-requires
-    enum-known-said
+    (λ c. search needs)
+    (λ c κs. search needs)
+    (λ c. search needs)
     decide-requires
-    enum-told-2
-    refused-requires-4
-    same-length
+    (λ c. search needs)
+    (λ c κs. search needs)
+    (λ c. search needs)
     returns-4
-    same-length-2
-    same-length-3
+    (λ c. search needs)
+    (λ c. search needs)
     returns-5
-    same-length-4
+    (λ c. search needs)
     returns-6)

@@ -7,24 +7,12 @@ use borrow.Author.Needs.{needs}
 use Rattle.progress.proofs.literals.on_literal.Statement.{statement}
 use Rattle.progress.proofs.literals.on_literal.Tie as tie
 
-is-going-requires : tie.Need-is-going-requires
-is-going-requires c κs = search needs
-
-refused-requires : tie.Need-refused-requires
-refused-requires c κs = search needs
-
 returns : tie.Need-returns
 returns c =
     let a = c .before .before .before .before .before .args in (
       λ s h. literal-over (a .words .now) s (a .marks .now) (a .p) (a .l) h (c .refused .result) (c .refused .ensures) (sym (c .before .before .is-going .ensures) ∙ not-true (c .before .before .is-going .result) (c .before .if1 .taken)),
       λ t h. trailed-stop (a .words .now) (a .marks .now) t (c .refused .result) _ (c .refused .ensures),
     )
-
-is-in-literals-requires : tie.Need-is-in-literals-requires
-is-in-literals-requires c κs = search needs
-
-refused-requires-2 : tie.Need-refused-requires-2
-refused-requires-2 c κs = search needs
 
 returns-2 : tie.Need-returns-2
 returns-2 c =
@@ -34,21 +22,12 @@ returns-2 c =
       λ t h. trailed-stop (a .words .now) (a .marks .now) t (c .refused2 .result) _ (c .refused2 .ensures),
     )
 
-refused-requires-3 : tie.Need-refused-requires-3
-refused-requires-3 c κs = search needs
-
 returns-3 : tie.Need-returns-3
 returns-3 c =
     let a = c .before .before .before .before .before .before .before .before .args in (
       λ s h. literal-none (a .words .now) s (a .marks .now) (a .p) (a .l) h (c .refused3 .result) (c .refused3 .ensures) (sym (c .before .before .before .is-in-literals .ensures) ∙ not-false (c .before .before .before .is-in-literals .result) (c .before .before .if2 .left)) (c .before .if3 .taken),
       λ t h. trailed-stop (a .words .now) (a .marks .now) t (c .refused3 .result) _ (c .refused3 .ensures),
     )
-
-cast-v : tie.Need-cast-v
-cast-v c = search needs
-
-refused-requires-4 : tie.Need-refused-requires-4
-refused-requires-4 c κs = search needs
 
 returns-4 : tie.Need-returns-4
 returns-4 c =
@@ -57,12 +36,6 @@ returns-4 c =
       λ t h. trailed-stop (a .words .now) (a .marks .now) t (c .refused4 .result) _ (c .refused4 .ensures),
     )
 
-slice-read-if5 : tie.Need-slice-read-if5
-slice-read-if5 c = search needs
-
-refused-requires-5 : tie.Need-refused-requires-5
-refused-requires-5 c κs = search needs
-
 returns-5 : tie.Need-returns-5
 returns-5 c =
     let a = c .before .before .before .before .before .before .before .before .before .before .before .args in (
@@ -70,42 +43,12 @@ returns-5 c =
       λ t h. trailed-stop (a .words .now) (a .marks .now) t (c .refused5 .result) _ (c .refused5 .ensures),
     )
 
-add-to : tie.Need-add-to
-add-to c = search needs
-
-add-to-2 : tie.Need-add-to-2
-add-to-2 c = search needs
-
-refused-requires-6 : tie.Need-refused-requires-6
-refused-requires-6 c κs = search needs
-
 returns-6 : tie.Need-returns-6
 returns-6 c =
     let a = c .before .before .before .before .before .before .before .before .before .before .before .before .before .before .args in (
       λ s h. literal-full (a .words .now) s (a .marks .now) (a .p) (a .l) h (c .refused6 .result) (c .refused6 .ensures) (sym (c .before .before .before .before .before .before .before .before .before .is-in-literals .ensures) ∙ not-false (c .before .before .before .before .before .before .before .before .before .is-in-literals .result) (c .before .before .before .before .before .before .before .before .if2 .left)) (c .before .before .before .before .before .before .before .if3 .left) (c .before .before .before .before .before .before .if4 .left) (c .before .before .before .before .if5 .left) (c .before .if6 .taken),
       λ t h. trailed-stop (a .words .now) (a .marks .now) t (c .refused6 .result) _ (c .refused6 .ensures),
     )
-
-mul-words : tie.Need-mul-words
-mul-words c = search needs
-
-slice-write-words : tie.Need-slice-write-words
-slice-write-words c = search needs
-
-false-mark-requires : tie.Need-false-mark-requires
-false-mark-requires c κs = search needs
-
-slice-write-marks : tie.Need-slice-write-marks
-slice-write-marks c = search needs
-
-with-literal-requires : tie.Need-with-literal-requires
-with-literal-requires c κs = search needs
-
-same-length : tie.Need-same-length
-same-length c = search needs
-
-same-length-2 : tie.Need-same-length-2
-same-length-2 c = search needs
 
 returns-7 : tie.Need-returns-7
 returns-7 c =
@@ -119,29 +62,29 @@ pub on-literal-spec : {M : Type 1} → statement M
 on-literal-spec =
     tie.close
     (tie.spec
-    is-going-requires
-    refused-requires
+    (λ c κs. search needs)
+    (λ c κs. search needs)
     returns
-    is-in-literals-requires
-    refused-requires-2
+    (λ c κs. search needs)
+    (λ c κs. search needs)
     returns-2
-    refused-requires-3
+    (λ c κs. search needs)
     returns-3
-    cast-v
-    refused-requires-4
+    (λ c. search needs)
+    (λ c κs. search needs)
     returns-4
-    slice-read-if5
-    refused-requires-5
+    (λ c. search needs)
+    (λ c κs. search needs)
     returns-5
-    add-to
-    add-to-2
-    refused-requires-6
+    (λ c. search needs)
+    (λ c. search needs)
+    (λ c κs. search needs)
     returns-6
-    mul-words
-    slice-write-words
-    false-mark-requires
-    slice-write-marks
-    with-literal-requires
-    same-length
-    same-length-2
+    (λ c. search needs)
+    (λ c. search needs)
+    (λ c κs. search needs)
+    (λ c. search needs)
+    (λ c κs. search needs)
+    (λ c. search needs)
+    (λ c. search needs)
     returns-7)

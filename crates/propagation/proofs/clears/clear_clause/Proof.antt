@@ -19,21 +19,6 @@ abbrev μ-loop : tie.MeasureT-loop
 loop-holds : tie.Need-loop-holds Inv-loop μ-loop
 loop-holds c = (omega arith, omega arith, refl, refl)
 
-mul-clear-literal : tie.Need-mul-clear-literal Inv-loop μ-loop
-mul-clear-literal c = search needs
-
-shared-slice-read-clear-literal : tie.Need-shared-slice-read-clear-literal Inv-loop μ-loop
-shared-slice-read-clear-literal c = search needs
-
-clear-literal-requires : tie.Need-clear-literal-requires Inv-loop μ-loop
-clear-literal-requires c κs = search needs
-
-add-i : tie.Need-add-i Inv-loop μ-loop
-add-i c = search needs
-
-loop-less : tie.Need-loop-less Inv-loop μ-loop
-loop-less c = search needs
-
 loop-again : tie.Need-loop-again Inv-loop μ-loop
 loop-again c =
     let z = c .before .before .before .before .before .before .before .before .before in
@@ -60,11 +45,11 @@ clear-clause-spec =
     Inv-loop
     μ-loop
     loop-holds
-    mul-clear-literal
-    shared-slice-read-clear-literal
-    clear-literal-requires
-    add-i
-    loop-less
+    (λ c. search needs)
+    (λ c. search needs)
+    (λ c κs. search needs)
+    (λ c. search needs)
+    (λ c. search needs)
     loop-again
     same-length
     returns)

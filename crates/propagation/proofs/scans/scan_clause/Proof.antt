@@ -23,12 +23,6 @@ loop-holds c =
     let a = c .before .before .args in
     (omega arith, omega arith, λ n. absurd (n refl), scan-start (a .marks .now) (slice (a .from) (a .to) (a .words .now)))
 
-mul-l : tie.Need-mul-l Inv-loop μ-loop
-mul-l c = search needs
-
-shared-slice-read-l : tie.Need-shared-slice-read-l Inv-loop μ-loop
-shared-slice-read-l c = search needs
-
 is-false-requires : tie.Need-is-false-requires Inv-loop μ-loop
 is-false-requires c κs =
     let s = c .before .before .before .before .before in
@@ -42,12 +36,6 @@ returns c =
     let f = c .before .before .before .is-false in
     sym (turn-other (s .args .words .now) (s .args .marks .now) (l .i) (s .args .to) (c .before .before .before .before .before .loop-test .taken) (s .pre .1 .0) (l .found)
     (sym (f .ensures) ∙ not-true (f .result) (c .before .before .if1 .taken)) (c .before .if2 .left) (c .if3 .taken)) ∙ l .inv .3
-
-add-i : tie.Need-add-i Inv-loop μ-loop
-add-i c = search needs
-
-loop-less : tie.Need-loop-less Inv-loop μ-loop
-loop-less c = search needs
 
 loop-again : tie.Need-loop-again Inv-loop μ-loop
 loop-again c =
@@ -105,12 +93,12 @@ scan-clause-spec =
     Inv-loop
     μ-loop
     loop-holds
-    mul-l
-    shared-slice-read-l
+    (λ c. search needs)
+    (λ c. search needs)
     is-false-requires
     returns
-    add-i
-    loop-less
+    (λ c. search needs)
+    (λ c. search needs)
     loop-again
     returns-2
     cast-v

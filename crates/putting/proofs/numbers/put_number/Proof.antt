@@ -11,9 +11,6 @@ put-digits-requires c κs =
     let l = twenty (s .args .n) (s .good .0 .1) in
     omega arith
 
-same-length : tie.Need-same-length
-same-length c = search needs
-
 returns : tie.Need-returns
 returns c =
     let d = c .before .before in
@@ -22,4 +19,4 @@ returns c =
     (d .put-digits .ensures, omega (arith, d .put-digits .ensures .ends))
 
 pub put-number-spec : {M : Type 1} → statement M
-put-number-spec = tie.close (tie.spec put-digits-requires same-length returns)
+put-number-spec = tie.close (tie.spec put-digits-requires (λ c. search needs) returns)

@@ -2,60 +2,6 @@ use borrow.Author.Needs.{needs}
 use Rattle.refusals.proofs.of_proof.row_of.Statement.{statement}
 use Rattle.refusals.proofs.of_proof.row_of.Tie as tie
 
-enum-known-refusal : tie.Need-enum-known-refusal
-enum-known-refusal c = search needs
-
-of-requires : tie.Need-of-requires
-of-requires c κs = search needs
-
-enum-known-refusal-2 : tie.Need-enum-known-refusal-2
-enum-known-refusal-2 c = search needs
-
-of-requires-2 : tie.Need-of-requires-2
-of-requires-2 c κs = search needs
-
-enum-known-refusal-3 : tie.Need-enum-known-refusal-3
-enum-known-refusal-3 c = search needs
-
-of-requires-3 : tie.Need-of-requires-3
-of-requires-3 c κs = search needs
-
-enum-known-refusal-4 : tie.Need-enum-known-refusal-4
-enum-known-refusal-4 c = search needs
-
-of-requires-4 : tie.Need-of-requires-4
-of-requires-4 c κs = search needs
-
-enum-known-refusal-5 : tie.Need-enum-known-refusal-5
-enum-known-refusal-5 c = search needs
-
-of-requires-5 : tie.Need-of-requires-5
-of-requires-5 c κs = search needs
-
-enum-known-refusal-6 : tie.Need-enum-known-refusal-6
-enum-known-refusal-6 c = search needs
-
-of-requires-6 : tie.Need-of-requires-6
-of-requires-6 c κs = search needs
-
-enum-known-refusal-7 : tie.Need-enum-known-refusal-7
-enum-known-refusal-7 c = search needs
-
-of-requires-7 : tie.Need-of-requires-7
-of-requires-7 c κs = search needs
-
-enum-known-refusal-8 : tie.Need-enum-known-refusal-8
-enum-known-refusal-8 c = search needs
-
-of-requires-8 : tie.Need-of-requires-8
-of-requires-8 c κs = search needs
-
-enum-known-refusal-9 : tie.Need-enum-known-refusal-9
-enum-known-refusal-9 c = search needs
-
-of-requires-9 : tie.Need-of-requires-9
-of-requires-9 c κs = search needs
-
 returns : tie.Need-returns
 returns c = rw (c .before .before .refusal .given .1) (c .of .ensures)
 
@@ -87,24 +33,24 @@ pub row-of-spec : {M : Type 1} → statement M
 row-of-spec =
     tie.close
     (tie.spec
-    enum-known-refusal
-    of-requires
-    enum-known-refusal-2
-    of-requires-2
-    enum-known-refusal-3
-    of-requires-3
-    enum-known-refusal-4
-    of-requires-4
-    enum-known-refusal-5
-    of-requires-5
-    enum-known-refusal-6
-    of-requires-6
-    enum-known-refusal-7
-    of-requires-7
-    enum-known-refusal-8
-    of-requires-8
-    enum-known-refusal-9
-    of-requires-9
+    (λ c. search needs)
+    (λ c κs. search needs)
+    (λ c. search needs)
+    (λ c κs. search needs)
+    (λ c. search needs)
+    (λ c κs. search needs)
+    (λ c. search needs)
+    (λ c κs. search needs)
+    (λ c. search needs)
+    (λ c κs. search needs)
+    (λ c. search needs)
+    (λ c κs. search needs)
+    (λ c. search needs)
+    (λ c κs. search needs)
+    (λ c. search needs)
+    (λ c κs. search needs)
+    (λ c. search needs)
+    (λ c κs. search needs)
     returns
     returns-2
     returns-3

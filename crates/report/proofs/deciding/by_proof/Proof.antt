@@ -3,15 +3,6 @@ use borrow.Author.Needs.{needs}
 use Rattle.report.proofs.deciding.by_proof.Statement.{statement}
 use Rattle.report.proofs.deciding.by_proof.Tie as tie
 
-enum-known-proved : tie.Need-enum-known-proved
-enum-known-proved c = search needs
-
-enum-known-proved-2 : tie.Need-enum-known-proved-2
-enum-known-proved-2 c = search needs
-
-size-of-array-requires : tie.Need-size-of-array-requires
-size-of-array-requires c κs = search needs
-
 returns : tie.Need-returns
 returns c = rw (c .before .proved .given .1) refl
 
@@ -21,4 +12,4 @@ returns-2 c = rw (c .before .before .proved2 .given .1, c .size-of-array .ensure
 pub by-proof-spec : {M : Type 1} → statement M
 by-proof-spec =
     tie.close
-    (tie.spec enum-known-proved enum-known-proved-2 size-of-array-requires returns returns-2)
+    (tie.spec (λ c. search needs) (λ c. search needs) (λ c κs. search needs) returns returns-2)

@@ -3,29 +3,11 @@ use borrow.Author.Needs.{needs}
 use Rattle.report.proofs.deciding.decide.Statement.{statement}
 use Rattle.report.proofs.deciding.decide.Tie as tie
 
-check-requires : tie.Need-check-requires
-check-requires c κs = search needs
-
-enum-known-refusal : tie.Need-enum-known-refusal
-enum-known-refusal c = search needs
-
-enum-known-header : tie.Need-enum-known-header
-enum-known-header c = search needs
-
 decide-claim-requires : tie.Need-decide-claim-requires
 decide-claim-requires c κs = let p = c .before .before .before .before .before .before .before .before .before .before .before .before .pre in (counted _ _ _ _ (c .before .before .before .before .before .before .check .ensures) (c .before .before .before .before .header .given .1), p .0, p .1)
 
 returns : tie.Need-returns
 returns c = no-routine _ _ (c .before .before .before .check .ensures) _ _ _ (c .before .refusal .given .1)
-
-same-length : tie.Need-same-length
-same-length c = search needs
-
-same-length-2 : tie.Need-same-length-2
-same-length-2 c = search needs
-
-same-length-3 : tie.Need-same-length-3
-same-length-3 c = search needs
 
 returns-2 : tie.Need-returns-2
 returns-2 c = decided _ _ (c .before .before .before .before .before .before .before .before .before .before .before .before .before .check .ensures) _ _ _ _ (c .before .before .before .before .before .before .before .before .before .before .before .header .given .1) _ (c .before .before .before .before .before .before .decide-claim .ensures)
@@ -34,12 +16,12 @@ pub decide-spec : {M : Type 1} → statement M
 decide-spec =
     tie.close
     (tie.spec
-    check-requires
-    enum-known-refusal
-    enum-known-header
+    (λ c κs. search needs)
+    (λ c. search needs)
+    (λ c. search needs)
     decide-claim-requires
     returns
-    same-length
-    same-length-2
-    same-length-3
+    (λ c. search needs)
+    (λ c. search needs)
+    (λ c. search needs)
     returns-2)

@@ -3,15 +3,6 @@ use borrow.Author.Needs.{needs}
 use Rattle.report.proofs.deciding.decide_claim.Statement.{statement}
 use Rattle.report.proofs.deciding.decide_claim.Tie as tie
 
-run-witness-requires : tie.Need-run-witness-requires
-run-witness-requires c κs = search needs
-
-enum-known-refusal : tie.Need-enum-known-refusal
-enum-known-refusal c = search needs
-
-enum-known-target : tie.Need-enum-known-target
-enum-known-target c = search needs
-
 prove-requires : tie.Need-prove-requires
 prove-requires c κs =
     let a = c .before .before .before .before .before .before .before .before .before .before .before .before .args in
@@ -24,20 +15,8 @@ prove-requires c κs =
       p .2,
     )
 
-by-proof-requires : tie.Need-by-proof-requires
-by-proof-requires c κs = search needs
-
 returns : tie.Need-returns
 returns c = claim-refused _ _ _ _ _ _ (c .before .before .before .run-witness .ensures) _ (c .before .refusal .given .1)
-
-same-length : tie.Need-same-length
-same-length c = search needs
-
-same-length-2 : tie.Need-same-length-2
-same-length-2 c = search needs
-
-same-length-3 : tie.Need-same-length-3
-same-length-3 c = search needs
 
 returns-2 : tie.Need-returns-2
 returns-2 c = claim-proved _ _ _ _ _ _ (c .before .before .before .before .before .before .before .before .before .before .before .before .before .before .run-witness .ensures) _ _ _ (c .before .before .before .before .before .before .before .before .before .before .before .before .target .given .1) _ (c .before .before .before .before .before .before .before .prove .ensures) _ (c .by-proof .ensures)
@@ -46,13 +25,13 @@ pub decide-claim-spec : {M : Type 1} → statement M
 decide-claim-spec =
     tie.close
     (tie.spec
-    run-witness-requires
-    enum-known-refusal
-    enum-known-target
+    (λ c κs. search needs)
+    (λ c. search needs)
+    (λ c. search needs)
     prove-requires
-    by-proof-requires
+    (λ c κs. search needs)
     returns
-    same-length
-    same-length-2
-    same-length-3
+    (λ c. search needs)
+    (λ c. search needs)
+    (λ c. search needs)
     returns-2)

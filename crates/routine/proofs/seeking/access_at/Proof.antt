@@ -14,17 +14,8 @@ Inv-loop bytes access at₀ k₀ at k = Seeking bytes access at₀ k₀ at k
 abbrev μ-loop : tie.MeasureT-loop
 μ-loop bytes access at₀ k₀ at k = length bytes - at
 
-first-command-requires : tie.Need-first-command-requires Inv-loop μ-loop
-first-command-requires c κs = search needs
-
-no-counts-requires : tie.Need-no-counts-requires Inv-loop μ-loop
-no-counts-requires c κs = search needs
-
 loop-holds : tie.Need-loop-holds Inv-loop μ-loop
 loop-holds c = seek-start _ _ _ _
-
-command-at-requires : tie.Need-command-at-requires Inv-loop μ-loop
-command-at-requires c κs = search needs
 
 -- the command at hand is whole
 whole : (m : tie.After-command-at Inv-loop μ-loop)
@@ -34,17 +25,11 @@ whole m =
     let b = l .before .before in
     room _ _ _ _ _ _ (l .loop .inv) _ (m .command-at .ensures) (omega arith) _ (b .before .before .pre) (b .first-command .ensures) (l .before .no-counts .ensures)
 
-enum-told : tie.Need-enum-told Inv-loop μ-loop
-enum-told c = search needs
-
 returns : tie.Need-returns Inv-loop μ-loop
 returns c =
     let l = c .before .before .before .before in
     seeks _ _ _ _ _ _ (l .before .before .first-command .ensures) (l .before .no-counts .ensures)
     (never-missing _ _ _ _ _ _ (l .loop .inv) _ (c .before .before .command-at .ensures) (omega arith) (c .enum-told .given .1))
-
-enum-told-2 : tie.Need-enum-told-2 Inv-loop μ-loop
-enum-told-2 c = search needs
 
 add-at : tie.Need-add-at Inv-loop μ-loop
 add-at c = omega (arith, whole (c .before .before), ap sizeOf (c .enum-told2 .given .1))
@@ -54,9 +39,6 @@ loop-less c = omega (arith, whole (c .before .before), ap sizeOf (c .enum-told2 
 
 loop-again : tie.Need-loop-again Inv-loop μ-loop
 loop-again c = past-close _ _ _ _ _ _ (c .before .before .before .before .loop .inv) _ (c .before .before .command-at .ensures) (omega arith) _ (c .enum-told2 .given .1)
-
-enum-told-3 : tie.Need-enum-told-3 Inv-loop μ-loop
-enum-told-3 c = search needs
 
 add-at-2 : tie.Need-add-at-2 Inv-loop μ-loop
 add-at-2 c = omega (arith, whole (c .before .before), ap sizeOf (c .enum-told3 .given .1))
@@ -74,27 +56,12 @@ loop-less-2 c = omega (arith, whole (c .before .before .before), ap sizeOf (c .b
 loop-again-2 : tie.Need-loop-again-2 Inv-loop μ-loop
 loop-again-2 c = rw (c .counts-after-if .ensures) (past-if _ _ _ _ _ _ (c .before .before .before .before .before .loop .inv) _ (c .before .before .before .command-at .ensures) (omega arith) _ (c .before .enum-told3 .given .1))
 
-enum-known-c : tie.Need-enum-known-c Inv-loop μ-loop
-enum-known-c c = search needs
-
-access-here-requires : tie.Need-access-here-requires Inv-loop μ-loop
-access-here-requires c κs = search needs
-
-enum-known-counts : tie.Need-enum-known-counts Inv-loop μ-loop
-enum-known-counts c = search needs
-
 returns-2 : tie.Need-returns-2 Inv-loop μ-loop
 returns-2 c =
     let l = c .before .before .before .before .before .before .before .before .before in
     seeks _ _ _ _ _ _ (l .before .before .first-command .ensures) (l .before .no-counts .ensures)
     (found _ _ _ _ _ _ (l .loop .inv) _ (c .before .before .before .before .before .before .before .command-at .ensures) (omega arith) _
     (c .before .before .before .before .before .c .given .1) _ (c .before .before .before .access-here .ensures) _ _ _ (c .before .counts .given .1))
-
-enum-told-4 : tie.Need-enum-told-4 Inv-loop μ-loop
-enum-told-4 c = search needs
-
-simple-size-requires : tie.Need-simple-size-requires Inv-loop μ-loop
-simple-size-requires c κs = search needs
 
 add-at-3 : tie.Need-add-at-3 Inv-loop μ-loop
 add-at-3 c = omega (arith, whole (c .before .before .before .before .before .before .before), ap sizeOf (c .before .before .before .before .before .c .given .1))
@@ -127,27 +94,27 @@ access-at-spec =
     (tie.spec
     Inv-loop
     μ-loop
-    first-command-requires
-    no-counts-requires
+    (λ c κs. search needs)
+    (λ c κs. search needs)
     loop-holds
-    command-at-requires
-    enum-told
+    (λ c κs. search needs)
+    (λ c. search needs)
     returns
-    enum-told-2
+    (λ c. search needs)
     add-at
     loop-less
     loop-again
-    enum-told-3
+    (λ c. search needs)
     add-at-2
     counts-after-if-requires
     loop-less-2
     loop-again-2
-    enum-known-c
-    access-here-requires
-    enum-known-counts
+    (λ c. search needs)
+    (λ c κs. search needs)
+    (λ c. search needs)
     returns-2
-    enum-told-4
-    simple-size-requires
+    (λ c. search needs)
+    (λ c κs. search needs)
     add-at-3
     counts-after-requires
     loop-less-3

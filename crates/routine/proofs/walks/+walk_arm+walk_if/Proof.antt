@@ -154,12 +154,6 @@ module _ (t : ℕ) where
   walk-if-walk-arm-requires : If walk-if-lts.Need-walk-arm-requires
   walk-if-walk-arm-requires c κs = (omega arith, tt)
 
-  walk-if-enum-known-fault : If walk-if-lts.Need-enum-known-fault
-  walk-if-enum-known-fault c = search needs
-
-  walk-if-enum-known-next : If walk-if-lts.Need-enum-known-next
-  walk-if-enum-known-next c = search needs
-
   walk-if-add-walk-arm-3 : If walk-if-lts.Need-add-walk-arm-3
   walk-if-add-walk-arm-3 c = omega arith
 
@@ -223,8 +217,8 @@ pub +walk-arm+walk-if-spec : {M : Type 1} → statement M
     (walk-if-add-walk-arm t)
     (walk-if-add-walk-arm-2 t)
     (walk-if-walk-arm-requires t)
-    (walk-if-enum-known-fault t)
-    (walk-if-enum-known-next t)
+    (λ c. search needs)
+    (λ c. search needs)
     (walk-if-add-walk-arm-3 t)
     (walk-if-walk-arm-requires-2 t)
     (walk-if-returns t)

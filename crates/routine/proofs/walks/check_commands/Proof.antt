@@ -6,21 +6,6 @@ use borrow.Author.Needs.{needs}
 use Rattle.routine.proofs.walks.check_commands.Statement.{statement}
 use Rattle.routine.proofs.walks.check_commands.Tie as tie
 
-no-counts-requires : tie.Need-no-counts-requires
-no-counts-requires c κs = search needs
-
-first-command-requires : tie.Need-first-command-requires
-first-command-requires c κs = search needs
-
-walk-arm-requires : tie.Need-walk-arm-requires
-walk-arm-requires c κs = search needs
-
-enum-known-fault : tie.Need-enum-known-fault
-enum-known-fault c = search needs
-
-enum-known-next : tie.Need-enum-known-next
-enum-known-next c = search needs
-
 returns : tie.Need-returns
 returns c =
     let w = c .before .before .before in
@@ -44,11 +29,11 @@ pub check-commands-spec : {M : Type 1} → statement M
 check-commands-spec =
     tie.close
     (tie.spec
-    no-counts-requires
-    first-command-requires
-    walk-arm-requires
-    enum-known-fault
-    enum-known-next
+    (λ c κs. search needs)
+    (λ c κs. search needs)
+    (λ c κs. search needs)
+    (λ c. search needs)
+    (λ c. search needs)
     returns
     returns-2
     returns-3)

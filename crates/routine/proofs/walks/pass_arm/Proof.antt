@@ -3,15 +3,6 @@ use borrow.Author.Needs.{needs}
 use Rattle.routine.proofs.walks.pass_arm.Statement.{statement}
 use Rattle.routine.proofs.walks.pass_arm.Tie as tie
 
-walk-arm-requires : tie.Need-walk-arm-requires
-walk-arm-requires c κs = search needs
-
-enum-known-place : tie.Need-enum-known-place
-enum-known-place c = search needs
-
-enum-known-next : tie.Need-enum-known-next
-enum-known-next c = search needs
-
 returns : tie.Need-returns
 returns c =
     let w = c .before .before .before in
@@ -24,4 +15,4 @@ returns-2 c =
 
 pub pass-arm-spec : {M : Type 1} → statement M
 pass-arm-spec =
-    tie.close (tie.spec walk-arm-requires enum-known-place enum-known-next returns returns-2)
+    tie.close (tie.spec (λ c κs. search needs) (λ c. search needs) (λ c. search needs) returns returns-2)

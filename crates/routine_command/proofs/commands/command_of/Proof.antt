@@ -6,15 +6,6 @@ use Rattle.routine_command.proofs.Bytes.{closes, computes, converts, un
 use Rattle.routine_command.proofs.commands.command_of.Statement.{statement}
 use Rattle.routine_command.proofs.commands.command_of.Tie as tie
 
-front-at-requires : tie.Need-front-at-requires
-front-at-requires c κs = search needs
-
-add-word-at : tie.Need-add-word-at
-add-word-at c = search needs
-
-word-at-requires : tie.Need-word-at-requires
-word-at-requires c κs = search needs
-
 returns : tie.Need-returns
 unfolding commandBy
 returns c = let f = c .before .before .front-at .ensures in rw (← f .0, ← f .1, c .before .match .keys1, c .word-at .ensures)
@@ -59,9 +50,9 @@ pub command-of-spec : {M : Type 1} → statement M
 command-of-spec =
     tie.close
     (tie.spec
-    front-at-requires
-    add-word-at
-    word-at-requires
+    (λ c κs. search needs)
+    (λ c. search needs)
+    (λ c κs. search needs)
     returns
     returns-2
     returns-3

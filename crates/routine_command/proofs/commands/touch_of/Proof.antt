@@ -3,21 +3,6 @@ use Rattle.routine_command.specs.Command.{touchesOf}
 use Rattle.routine_command.proofs.commands.touch_of.Statement.{statement}
 use Rattle.routine_command.proofs.commands.touch_of.Tie as tie
 
-enum-told : tie.Need-enum-told
-enum-told c = search needs
-
-enum-told-2 : tie.Need-enum-told-2
-enum-told-2 c = search needs
-
-enum-told-3 : tie.Need-enum-told-3
-enum-told-3 c = search needs
-
-enum-known-command : tie.Need-enum-known-command
-enum-known-command c = search needs
-
-touched-requires : tie.Need-touched-requires
-touched-requires c κs = search needs
-
 returns : tie.Need-returns
 unfolding touchesOf
 returns c = rw (c .enum-told .given .1)
@@ -38,11 +23,11 @@ pub touch-of-spec : {M : Type 1} → statement M
 touch-of-spec =
     tie.close
     (tie.spec
-    enum-told
-    enum-told-2
-    enum-told-3
-    enum-known-command
-    touched-requires
+    (λ c. search needs)
+    (λ c. search needs)
+    (λ c. search needs)
+    (λ c. search needs)
+    (λ c κs. search needs)
     returns
     returns-2
     returns-3

@@ -5,15 +5,6 @@ use borrow.Author.Needs.{needs}
 use Rattle.routine_faults.proofs.steps.counts_after.Statement.{statement}
 use Rattle.routine_faults.proofs.steps.counts_after.Tie as tie
 
-touched-requires : tie.Need-touched-requires
-touched-requires c κs = search needs
-
-enum-told : tie.Need-enum-told
-enum-told c = search needs
-
-enum-told-2 : tie.Need-enum-told-2
-enum-told-2 c = search needs
-
 add-t5 : tie.Need-add-t5
 unfolding tooMany
 add-t5 c =
@@ -21,18 +12,12 @@ add-t5 c =
     let l = leb-false 64 (accesses (t .before .args .k)) (rw (← t .touched .ensures, c .before .enum-told2 .given .1) at (t .before .pre)) in
     omega arith
 
-enum-told-3 : tie.Need-enum-told-3
-enum-told-3 c = search needs
-
 add-t6 : tie.Need-add-t6
 unfolding tooMany
 add-t6 c =
     let t = c .before .before .before in
     let l = leb-false 64 (accesses (t .before .args .k)) (rw (← t .touched .ensures, c .before .enum-told3 .given .1) at (t .before .pre)) in
     omega arith
-
-returns : tie.Need-returns
-returns c = search needs
 
 returns-2 : tie.Need-returns-2
 returns-2 c = rw (← c .before .before .before .touched .ensures, c .before .enum-told2 .given .1)
@@ -44,12 +29,12 @@ pub counts-after-spec : {M : Type 1} → statement M
 counts-after-spec =
     tie.close
     (tie.spec
-    touched-requires
-    enum-told
-    enum-told-2
+    (λ c κs. search needs)
+    (λ c. search needs)
+    (λ c. search needs)
     add-t5
-    enum-told-3
+    (λ c. search needs)
     add-t6
-    returns
+    (λ c. search needs)
     returns-2
     returns-3)

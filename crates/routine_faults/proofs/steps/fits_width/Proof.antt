@@ -9,9 +9,6 @@ use lib.Pow.{pow-mono, shl-exact}
 use Rattle.routine_faults.proofs.steps.fits_width.Statement.{statement}
 use Rattle.routine_faults.proofs.steps.fits_width.Tie as tie
 
-shl-result : tie.Need-shl-result
-shl-result c = search needs
-
 returns : tie.Need-returns
 returns c = sym (lt-ltb _ _ (lt-of-lt-of-le (c .before .fits .c .fits) (pow-mono (c .if1 .taken))))
 
@@ -21,4 +18,4 @@ returns-2 c =
     ap (λ (n : ℕ). ltb (c .before .args .c) n) (shl-exact {a = 1} 1 w 32 (search needs) (omega arith) ∙ one-mul (2 ^ w))
 
 pub fits-width-spec : {M : Type 1} → statement M
-fits-width-spec = tie.close (tie.spec shl-result returns returns-2)
+fits-width-spec = tie.close (tie.spec (λ c. search needs) returns returns-2)

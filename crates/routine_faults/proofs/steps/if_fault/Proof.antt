@@ -6,18 +6,9 @@ use borrow.Author.Needs.{needs}
 use Rattle.routine_faults.proofs.steps.if_fault.Statement.{statement}
 use Rattle.routine_faults.proofs.steps.if_fault.Tie as tie
 
-below3-requires : tie.Need-below3-requires
-below3-requires c κs = search needs
-
 returns : tie.Need-returns
 unfolding ifStep
 returns c = rw (← c .before .below3 .ensures, not-true (c .before .below3 .result) (c .if1 .taken))
-
-width-of-requires : tie.Need-width-of-requires
-width-of-requires c κs = search needs
-
-width-of-requires-2 : tie.Need-width-of-requires-2
-width-of-requires-2 c κs = search needs
 
 returns-2 : tie.Need-returns-2
 unfolding ifStep
@@ -76,10 +67,10 @@ pub if-fault-spec : {M : Type 1} → statement M
 if-fault-spec =
     tie.close
     (tie.spec
-    below3-requires
+    (λ c κs. search needs)
     returns
-    width-of-requires
-    width-of-requires-2
+    (λ c κs. search needs)
+    (λ c κs. search needs)
     returns-2
     returns-3
     returns-4

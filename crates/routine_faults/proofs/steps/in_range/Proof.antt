@@ -5,39 +5,6 @@ use borrow.Author.Needs.{needs}
 use Rattle.routine_faults.proofs.steps.in_range.Statement.{statement}
 use Rattle.routine_faults.proofs.steps.in_range.Tie as tie
 
-enum-known-c : tie.Need-enum-known-c
-enum-known-c c = search needs
-
-width-of-requires : tie.Need-width-of-requires
-width-of-requires c κs = search needs
-
-fits-width-requires : tie.Need-fits-width-requires
-fits-width-requires c κs = search needs
-
-enum-known-c-2 : tie.Need-enum-known-c-2
-enum-known-c-2 c = search needs
-
-below2-requires : tie.Need-below2-requires
-below2-requires c κs = search needs
-
-enum-known-c-3 : tie.Need-enum-known-c-3
-enum-known-c-3 c = search needs
-
-below3-requires : tie.Need-below3-requires
-below3-requires c κs = search needs
-
-enum-known-c-4 : tie.Need-enum-known-c-4
-enum-known-c-4 c = search needs
-
-below3-requires-2 : tie.Need-below3-requires-2
-below3-requires-2 c κs = search needs
-
-enum-known-c-5 : tie.Need-enum-known-c-5
-enum-known-c-5 c = search needs
-
-below3-requires-3 : tie.Need-below3-requires-3
-below3-requires-3 c κs = search needs
-
 returns : tie.Need-returns
 unfolding inRange
 returns c = c .fits-width .ensures ∙ rw (c .before .before .before .before .c .given .1, lt-ltb _ _ (c .before .before .if1 .taken), c .before .width-of .ensures)
@@ -66,17 +33,17 @@ pub in-range-spec : {M : Type 1} → statement M
 in-range-spec =
     tie.close
     (tie.spec
-    enum-known-c
-    width-of-requires
-    fits-width-requires
-    enum-known-c-2
-    below2-requires
-    enum-known-c-3
-    below3-requires
-    enum-known-c-4
-    below3-requires-2
-    enum-known-c-5
-    below3-requires-3
+    (λ c. search needs)
+    (λ c κs. search needs)
+    (λ c κs. search needs)
+    (λ c. search needs)
+    (λ c κs. search needs)
+    (λ c. search needs)
+    (λ c κs. search needs)
+    (λ c. search needs)
+    (λ c κs. search needs)
+    (λ c. search needs)
+    (λ c κs. search needs)
     returns
     returns-2
     returns-3

@@ -4,15 +4,9 @@ use borrow.Author.Needs.{needs}
 use Rattle.routine_faults.proofs.steps.simple_fault.Statement.{statement}
 use Rattle.routine_faults.proofs.steps.simple_fault.Tie as tie
 
-in-range-requires : tie.Need-in-range-requires
-in-range-requires c κs = search needs
-
 returns : tie.Need-returns
 unfolding simpleStep
 returns c = rw (← c .before .in-range .ensures, not-true (c .before .in-range .result) (c .if1 .taken))
-
-widths-fit-requires : tie.Need-widths-fit-requires
-widths-fit-requires c κs = search needs
 
 returns-2 : tie.Need-returns-2
 unfolding simpleStep
@@ -20,9 +14,6 @@ returns-2 c =
     let w = c .before in
     let r = w .before .before in
     rw (← r .in-range .ensures, not-false (r .in-range .result) (w .before .if1 .left), ← w .widths-fit .ensures, not-true (w .widths-fit .result) (c .if2 .taken))
-
-too-many-requires : tie.Need-too-many-requires
-too-many-requires c κs = search needs
 
 returns-3 : tie.Need-returns-3
 unfolding simpleStep
@@ -58,10 +49,10 @@ pub simple-fault-spec : {M : Type 1} → statement M
 simple-fault-spec =
     tie.close
     (tie.spec
-    in-range-requires
+    (λ c κs. search needs)
     returns
-    widths-fit-requires
+    (λ c κs. search needs)
     returns-2
-    too-many-requires
+    (λ c κs. search needs)
     returns-3
     returns-4)

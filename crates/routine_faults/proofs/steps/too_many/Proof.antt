@@ -3,12 +3,6 @@ use borrow.Author.Needs.{needs}
 use Rattle.routine_faults.proofs.steps.too_many.Statement.{statement}
 use Rattle.routine_faults.proofs.steps.too_many.Tie as tie
 
-is-access-requires : tie.Need-is-access-requires
-is-access-requires c κs = search needs
-
-accesses-of-requires : tie.Need-accesses-of-requires
-accesses-of-requires c κs = search needs
-
 returns : tie.Need-returns
 unfolding tooMany
 returns c = rw (← c .before .before .is-access .ensures, c .before .if1 .taken, c .accesses-of .ensures)
@@ -18,4 +12,4 @@ unfolding tooMany
 returns-2 c = rw (← c .before .is-access .ensures, c .if1 .left)
 
 pub too-many-spec : {M : Type 1} → statement M
-too-many-spec = tie.close (tie.spec is-access-requires accesses-of-requires returns returns-2)
+too-many-spec = tie.close (tie.spec (λ c κs. search needs) (λ c κs. search needs) returns returns-2)

@@ -4,29 +4,8 @@ use Rattle.run.proofs.Admitting.{is-counted, no-routine, roomed, too-fe
 use Rattle.run.proofs.admission.admit.Statement.{statement}
 use Rattle.run.proofs.admission.admit.Tie as tie
 
-check-requires : tie.Need-check-requires
-check-requires c κs = search needs
-
-enum-known-refusal : tie.Need-enum-known-refusal
-enum-known-refusal c = search needs
-
-enum-known-header : tie.Need-enum-known-header
-enum-known-header c = search needs
-
 check-inputs-requires : tie.Need-check-inputs-requires
 check-inputs-requires c κs = is-counted _ _ _ _ (c .before .before .before .check .ensures) (c .before .header .given .1)
-
-enum-told : tie.Need-enum-told
-enum-told c = search needs
-
-admit-room-requires : tie.Need-admit-room-requires
-admit-room-requires c κs = search needs
-
-enum-told-2 : tie.Need-enum-told-2
-enum-told-2 c = search needs
-
-enum-known-n : tie.Need-enum-known-n
-enum-known-n c = search needs
 
 returns : tie.Need-returns
 returns c = no-routine _ _ _ _ _ _ (c .before .before .before .check .ensures) (c .before .refusal .given .1)
@@ -54,14 +33,14 @@ pub admit-spec : {M : Type 1} → statement M
 admit-spec =
     tie.close
     (tie.spec
-    check-requires
-    enum-known-refusal
-    enum-known-header
+    (λ c κs. search needs)
+    (λ c. search needs)
+    (λ c. search needs)
     check-inputs-requires
-    enum-told
-    admit-room-requires
-    enum-told-2
-    enum-known-n
+    (λ c. search needs)
+    (λ c κs. search needs)
+    (λ c. search needs)
+    (λ c. search needs)
     returns
     returns-2
     returns-3

@@ -4,15 +4,9 @@ use Rattle.run.specs.Inner.Admitted.{admittedRoom}
 use Rattle.run.proofs.admission.admit_room.Statement.{statement}
 use Rattle.run.proofs.admission.admit_room.Tie as tie
 
-cast-if1 : tie.Need-cast-if1
-cast-if1 c = search needs
-
 returns : tie.Need-returns
 unfolding admittedRoom
 returns c = rw (lt-leb _ _ (c .if1 .taken))
-
-cast-if2 : tie.Need-cast-if2
-cast-if2 c = search needs
 
 returns-2 : tie.Need-returns-2
 unfolding admittedRoom
@@ -23,4 +17,4 @@ unfolding admittedRoom
 returns-3 c = rw (le-leb _ _ (c .before .before .if1 .left), le-leb _ _ (c .if2 .left))
 
 pub admit-room-spec : {M : Type 1} → statement M
-admit-room-spec = tie.close (tie.spec cast-if1 returns cast-if2 returns-2 returns-3)
+admit-room-spec = tie.close (tie.spec (λ c. search needs) returns (λ c. search needs) returns-2 returns-3)

@@ -4,15 +4,6 @@ use Rattle.run.specs.State.{computed}
 use Rattle.run.proofs.moves.computed_by.Statement.{statement}
 use Rattle.run.proofs.moves.computed_by.Tie as tie
 
-sum-requires : tie.Need-sum-requires
-sum-requires c κs = search needs
-
-difference-requires : tie.Need-difference-requires
-difference-requires c κs = search needs
-
-product-requires : tie.Need-product-requires
-product-requires c κs = search needs
-
 returns : tie.Need-returns
 unfolding computed
 returns c = rw (c .before .match .keys1) (c .sum .ensures)
@@ -32,4 +23,4 @@ returns-4 c = simp (ne-eqb _ _ (c .match .rest .0 .0 .1), ne-eqb _ _ (c .match .
 pub computed-by-spec : {M : Type 1} → statement M
 computed-by-spec =
     tie.close
-    (tie.spec sum-requires difference-requires product-requires returns returns-2 returns-3 returns-4)
+    (tie.spec (λ c κs. search needs) (λ c κs. search needs) (λ c κs. search needs) returns returns-2 returns-3 returns-4)

@@ -4,15 +4,6 @@ use Rattle.run.specs.State.{converted}
 use Rattle.run.proofs.moves.converted_by.Statement.{statement}
 use Rattle.run.proofs.moves.converted_by.Tie as tie
 
-cut-to-requires : tie.Need-cut-to-requires
-cut-to-requires c κs = search needs
-
-zero-extended-requires : tie.Need-zero-extended-requires
-zero-extended-requires c κs = search needs
-
-sign-extended-requires : tie.Need-sign-extended-requires
-sign-extended-requires c κs = search needs
-
 returns : tie.Need-returns
 unfolding converted
 returns c = rw (c .match .keys1)
@@ -37,9 +28,9 @@ pub converted-by-spec : {M : Type 1} → statement M
 converted-by-spec =
     tie.close
     (tie.spec
-    cut-to-requires
-    zero-extended-requires
-    sign-extended-requires
+    (λ c κs. search needs)
+    (λ c κs. search needs)
+    (λ c κs. search needs)
     returns
     returns-2
     returns-3

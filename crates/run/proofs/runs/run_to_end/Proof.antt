@@ -6,14 +6,8 @@ use Rattle.run.proofs.Laws.{course-end}
 use Rattle.run.proofs.runs.run_to_end.Statement.{statement}
 use Rattle.run.proofs.runs.run_to_end.Tie as tie
 
-slice-aggregate-follow : tie.Need-slice-aggregate-follow
-slice-aggregate-follow c = search needs
-
-follow-requires : tie.Need-follow-requires
-follow-requires c κs = search needs
-
 returns : tie.Need-returns
 returns c = let f = c .before .follow .ensures in f .1 (ap settled (f .0 ∙ course-end _ _))
 
 pub run-to-end-spec : {M : Type 1} → statement M
-run-to-end-spec = tie.close (tie.spec slice-aggregate-follow follow-requires returns)
+run-to-end-spec = tie.close (tie.spec (λ c. search needs) (λ c κs. search needs) returns)

@@ -4,12 +4,6 @@ use Rattle.run.specs.State.{lies}
 use Rattle.run.proofs.states.lies_at.Statement.{statement}
 use Rattle.run.proofs.states.lies_at.Tie as tie
 
-enum-told : tie.Need-enum-told
-enum-told c = search needs
-
-enum-known-index : tie.Need-enum-known-index
-enum-known-index c = search needs
-
 returns : tie.Need-returns
 unfolding lies
 returns c = rw (c .enum-told .given .1)
@@ -23,4 +17,4 @@ unfolding lies
 returns-3 c = rw (c .before .before .index .given .1, lt-leb _ _ (c .if1 .left))
 
 pub lies-at-spec : {M : Type 1} → statement M
-lies-at-spec = tie.close (tie.spec enum-told enum-known-index returns returns-2 returns-3)
+lies-at-spec = tie.close (tie.spec (λ c. search needs) (λ c. search needs) returns returns-2 returns-3)

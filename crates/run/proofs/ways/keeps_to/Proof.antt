@@ -3,25 +3,13 @@ use borrow.Author.Tests.{lt-ltb, le-ltb, eq-eqb, ne-eqb}
 use Rattle.run.proofs.ways.keeps_to.Statement.{statement}
 use Rattle.run.proofs.ways.keeps_to.Tie as tie
 
-enum-told : tie.Need-enum-told
-enum-told c = search needs
-
-enum-known-goal : tie.Need-enum-known-goal
-enum-known-goal c = search needs
-
 returns : tie.Need-returns
 returns c = rw (c .before .before .goal .given .1, le-ltb _ _ (c .if1 .taken))
-
-byte-at-requires : tie.Need-byte-at-requires
-byte-at-requires c κs = search needs
 
 returns-2 : tie.Need-returns-2
 returns-2 c =
     let t = c .before .before in
     rw (t .before .before .goal .given .1, lt-ltb _ _ (t .if1 .left), ← c .before .byte-at .ensures, eq-eqb _ _ (c .if2 .taken))
-
-returns-3 : tie.Need-returns-3
-returns-3 c = search needs
 
 returns-4 : tie.Need-returns-4
 returns-4 c =
@@ -32,10 +20,10 @@ pub keeps-to-spec : {M : Type 1} → statement M
 keeps-to-spec =
     tie.close
     (tie.spec
-    enum-told
-    enum-known-goal
+    (λ c. search needs)
+    (λ c. search needs)
     returns
-    byte-at-requires
+    (λ c κs. search needs)
     returns-2
-    returns-3
+    (λ c. search needs)
     returns-4)

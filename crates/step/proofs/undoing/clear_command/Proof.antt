@@ -7,44 +7,14 @@ use borrow.Author.Needs.{needs}
 use Rattle.step.proofs.undoing.clear_command.Statement.{statement}
 use Rattle.step.proofs.undoing.clear_command.Tie as tie
 
-read-command-requires : tie.Need-read-command-requires
-read-command-requires c κs = search needs
-
-enum-known-command : tie.Need-enum-known-command
-enum-known-command c = search needs
-
-clear-literal-requires : tie.Need-clear-literal-requires
-clear-literal-requires c κs = search needs
-
-enum-known-command-2 : tie.Need-enum-known-command-2
-enum-known-command-2 c = search needs
-
-cast-i : tie.Need-cast-i
-cast-i c = search needs
-
 clear-stored-requires : tie.Need-clear-stored-requires
 clear-stored-requires c κs = c .before .before .before .before .before .before .before .before .before .before .pre (c .before .before .before .command2 .given .0 .0) (c .before .if1 .taken)
-
-enum-told : tie.Need-enum-told
-enum-told c = search needs
-
-enum-told-2 : tie.Need-enum-told-2
-enum-told-2 c = search needs
-
-enum-told-3 : tie.Need-enum-told-3
-enum-told-3 c = search needs
-
-same-length : tie.Need-same-length
-same-length c = search needs
 
 returns : tie.Need-returns
 returns c =
     let a = c .before .before .before .before .before .before .before .before .before .before .before .before .args in
     undo-literal (a .words .now) (a .starts .now) (a .marks .now) (c .before .before .clear-literal .last .0) (a .count) (commandAt (a .report .now) (a .at)) (c .before .before .before .before .before .command .given .0 .0)
     (sym (c .before .before .before .before .before .before .before .read-command .ensures) ∙ c .before .before .before .before .before .command .given .1) (c .before .before .clear-literal .ensures)
-
-same-length-2 : tie.Need-same-length-2
-same-length-2 c = search needs
 
 returns-2 : tie.Need-returns-2
 returns-2 c =
@@ -74,18 +44,18 @@ pub clear-command-spec : {M : Type 1} → statement M
 clear-command-spec =
     tie.close
     (tie.spec
-    read-command-requires
-    enum-known-command
-    clear-literal-requires
-    enum-known-command-2
-    cast-i
+    (λ c κs. search needs)
+    (λ c. search needs)
+    (λ c κs. search needs)
+    (λ c. search needs)
+    (λ c. search needs)
     clear-stored-requires
-    enum-told
-    enum-told-2
-    enum-told-3
-    same-length
+    (λ c. search needs)
+    (λ c. search needs)
+    (λ c. search needs)
+    (λ c. search needs)
     returns
-    same-length-2
+    (λ c. search needs)
     returns-2
     returns-3
     returns-4

@@ -21,17 +21,8 @@ abbrev μ-loop : tie.MeasureT-loop
 loop-holds : tie.Need-loop-holds Inv-loop μ-loop
 loop-holds c = (c .before .before .before .before .pre .0, omega arith, omega arith, refl, refl)
 
-sub-left : tie.Need-sub-left Inv-loop μ-loop
-sub-left c = search needs
-
-sub-to : tie.Need-sub-to Inv-loop μ-loop
-sub-to c = search needs
-
 clear-command-requires : tie.Need-clear-command-requires Inv-loop μ-loop
 clear-command-requires c κs = rw (c .before .before .loop .inv .3) (c .before .before .before .before .before .before .before .pre .1)
-
-loop-less : tie.Need-loop-less Inv-loop μ-loop
-loop-less c = search needs
 
 loop-again : tie.Need-loop-again Inv-loop μ-loop
 loop-again c =
@@ -60,10 +51,10 @@ clear-step-spec =
     Inv-loop
     μ-loop
     loop-holds
-    sub-left
-    sub-to
+    (λ c. search needs)
+    (λ c. search needs)
     clear-command-requires
-    loop-less
+    (λ c. search needs)
     loop-again
     same-length
     returns)

@@ -6,23 +6,8 @@ use native.Mathlib.Omega.{arith}
 use Rattle.translation.proofs.wholes.make.Statement.{statement}
 use Rattle.translation.proofs.wholes.make.Tie as tie
 
-emit-requires : tie.Need-emit-requires
-emit-requires c κs = search needs
-
-slice-aggregate-begin : tie.Need-slice-aggregate-begin
-slice-aggregate-begin c = search needs
-
 begin-requires : tie.Need-begin-requires
 begin-requires c κs = let i = c .before .before .before .before .before .before .before .before .before .before .before .before .pre in (refl, ((begin-ready i (c .before .before .before .before .before .emit .ensures), c .before .before .before .before .before .emit .ensures .next), fine-here _ _ i))
-
-first-command-requires : tie.Need-first-command-requires
-first-command-requires c κs = search needs
-
-first-walk-requires : tie.Need-first-walk-requires
-first-walk-requires c κs = search needs
-
-slice-aggregate-arm-made : tie.Need-slice-aggregate-arm-made
-slice-aggregate-arm-made c = search needs
 
 arm-made-requires : tie.Need-arm-made-requires
 arm-made-requires c κs = let i = c .before .before .before .before .before .before .before .before .before .before .before .before .before .before .before .before .before .before .before .pre in
@@ -53,12 +38,12 @@ pub make-spec : {M : Type 1} → statement M
 make-spec =
     tie.close
     (tie.spec
-    emit-requires
-    slice-aggregate-begin
+    (λ c κs. search needs)
+    (λ c. search needs)
     begin-requires
-    first-command-requires
-    first-walk-requires
-    slice-aggregate-arm-made
+    (λ c κs. search needs)
+    (λ c κs. search needs)
+    (λ c. search needs)
     arm-made-requires
     append-claim-requires
     sub-t37

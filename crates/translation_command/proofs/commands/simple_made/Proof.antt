@@ -11,17 +11,11 @@ use denote.Ref.{now}
 use Rattle.translation_command.proofs.commands.simple_made.Statement.{statement}
 use Rattle.translation_command.proofs.commands.simple_made.Tie as tie
 
-enum-known-c : tie.Need-enum-known-c
-enum-known-c c = search needs
-
 set-made-requires : tie.Need-set-made-requires
 set-made-requires c κs = let a = c .before .before .before .before .before .before .before .before .args in
     let p = c .before .before .before .before .before .before .before .before .pre in
     let q = c .before .before .c .given .1 in
     (p .1 .0, (rw q at (p .1 .1 .0), p .1 .1 .1))
-
-enum-known-c-2 : tie.Need-enum-known-c-2
-enum-known-c-2 c = search needs
 
 convert-made-requires : tie.Need-convert-made-requires
 convert-made-requires c κs = let a = c .before .before .before .before .before .before .before .before .args in
@@ -29,17 +23,11 @@ convert-made-requires c κs = let a = c .before .before .before .before .before 
     let q = c .before .before .c2 .given .1 in
     (p .1 .0, (rw q at (p .1 .1 .0), p .1 .1 .1))
 
-enum-known-c-3 : tie.Need-enum-known-c-3
-enum-known-c-3 c = search needs
-
 compute-made-requires : tie.Need-compute-made-requires
 compute-made-requires c κs = let a = c .before .before .before .before .before .before .before .before .before .before .args in
     let p = c .before .before .before .before .before .before .before .before .before .before .pre in
     let q = c .before .before .before .before .c3 .given .1 in
     (p .0, (p .1 .0, (rw q at (p .1 .1 .0), p .1 .1 .1)))
-
-enum-known-c-4 : tie.Need-enum-known-c-4
-enum-known-c-4 c = search needs
 
 read-made-requires : tie.Need-read-made-requires
 read-made-requires c κs = let a = c .before .before .before .before .before .before .before .before .before .before .args in
@@ -47,39 +35,21 @@ read-made-requires c κs = let a = c .before .before .before .before .before .be
     let q = c .before .before .before .before .c4 .given .1 in
     (p .0, (p .1 .0, rw q at (p .1 .1)))
 
-enum-known-c-5 : tie.Need-enum-known-c-5
-enum-known-c-5 c = search needs
-
 access-made-requires : tie.Need-access-made-requires
 access-made-requires c κs = let a = c .before .before .before .before .before .before .before .before .before .before .args in
     let p = c .before .before .before .before .before .before .before .before .before .before .pre in
     let q = c .before .before .before .before .c5 .given .1 in
     (p .0, (p .1 .0, (write-fine (now (a .bytes)) (a .h) _ _ _ (rw q at (p .1 .1 .0)) .1, p .1 .1 .1)))
 
-same-length : tie.Need-same-length
-same-length c = search needs
-
 returns : tie.Need-returns
 unfolding simple
 returns c = let a = c .before .before .before .before .before .before .before .before .before .before .before .args in
     rw (c .before .before .before .before .before .c .given .1) (record { emitted = emitted-none _ _ _; wires = ap (λ (l : List ℕ). wiresOf l (a .s)) (c .before .before .set-made .ensures) })
 
-same-length-2 : tie.Need-same-length-2
-same-length-2 c = search needs
-
 returns-2 : tie.Need-returns-2
 unfolding simple
 returns-2 c = let a = c .before .before .before .before .before .before .before .before .before .before .before .args in
     rw (c .before .before .before .before .before .c2 .given .1) (record { emitted = emitted-none _ _ _; wires = ap (λ (l : List ℕ). wiresOf l (a .s)) (c .before .before .convert-made .ensures) })
-
-same-length-3 : tie.Need-same-length-3
-same-length-3 c = search needs
-
-same-length-4 : tie.Need-same-length-4
-same-length-4 c = search needs
-
-same-length-5 : tie.Need-same-length-5
-same-length-5 c = search needs
 
 returns-3 : tie.Need-returns-3
 unfolding simple
@@ -87,26 +57,8 @@ returns-3 c = let a = c .before .before .before .before .before .before .before 
     let m = c .before .before .before .before .before .before .compute-made .ensures in
     rw (c .before .before .before .before .before .before .before .before .before .before .before .c3 .given .1) (record { emitted = m .0; wires = ap (λ (l : List ℕ). wiresOf l (a .s)) (m .1) })
 
-same-length-6 : tie.Need-same-length-6
-same-length-6 c = search needs
-
-same-length-7 : tie.Need-same-length-7
-same-length-7 c = search needs
-
-same-length-8 : tie.Need-same-length-8
-same-length-8 c = search needs
-
 returns-4 : tie.Need-returns-4
 returns-4 c = rw (c .before .before .before .before .before .before .before .before .before .before .before .c4 .given .1) (c .before .before .before .before .before .before .read-made .ensures)
-
-same-length-9 : tie.Need-same-length-9
-same-length-9 c = search needs
-
-same-length-10 : tie.Need-same-length-10
-same-length-10 c = search needs
-
-same-length-11 : tie.Need-same-length-11
-same-length-11 c = search needs
 
 returns-5 : tie.Need-returns-5
 returns-5 c = let a = c .before .before .before .before .before .before .before .before .before .before .before .before .before .before .before .args in
@@ -116,29 +68,29 @@ pub simple-made-spec : {M : Type 1} → statement M
 simple-made-spec =
     tie.close
     (tie.spec
-    enum-known-c
+    (λ c. search needs)
     set-made-requires
-    enum-known-c-2
+    (λ c. search needs)
     convert-made-requires
-    enum-known-c-3
+    (λ c. search needs)
     compute-made-requires
-    enum-known-c-4
+    (λ c. search needs)
     read-made-requires
-    enum-known-c-5
+    (λ c. search needs)
     access-made-requires
-    same-length
+    (λ c. search needs)
     returns
-    same-length-2
+    (λ c. search needs)
     returns-2
-    same-length-3
-    same-length-4
-    same-length-5
+    (λ c. search needs)
+    (λ c. search needs)
+    (λ c. search needs)
     returns-3
-    same-length-6
-    same-length-7
-    same-length-8
+    (λ c. search needs)
+    (λ c. search needs)
+    (λ c. search needs)
     returns-4
-    same-length-9
-    same-length-10
-    same-length-11
+    (λ c. search needs)
+    (λ c. search needs)
+    (λ c. search needs)
     returns-5)

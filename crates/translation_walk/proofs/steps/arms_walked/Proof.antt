@@ -7,15 +7,6 @@ use Rattle.translation_walk.proofs.steps.arms_walked.Tie as tie
 join-arms-requires : tie.Need-join-arms-requires
 join-arms-requires c κs = let p = c .before .before .before .before .before .before .before .before .before .before .before .pre in (p .0, ((p .1, p .2), p .3))
 
-same-length : tie.Need-same-length
-same-length c = search needs
-
-same-length-2 : tie.Need-same-length-2
-same-length-2 c = search needs
-
-same-length-3 : tie.Need-same-length-3
-same-length-3 c = search needs
-
 returns : tie.Need-returns
 returns c = arrives-by (c .before .before .before .before .before .before .before .before .before .join-arms .ensures) refl refl
 
@@ -24,7 +15,7 @@ arms-walked-spec =
     tie.close
     (tie.spec
     join-arms-requires
-    same-length
-    same-length-2
-    same-length-3
+    (λ c. search needs)
+    (λ c. search needs)
+    (λ c. search needs)
     returns)

@@ -2,9 +2,6 @@ use borrow.Author.Needs.{needs}
 use Rattle.translation_walk.proofs.steps.in_else.Statement.{statement}
 use Rattle.translation_walk.proofs.steps.in_else.Tie as tie
 
-with-arrival-requires : tie.Need-with-arrival-requires
-with-arrival-requires c κs = search needs
-
 returns : tie.Need-returns
 returns c = let a = c .before .before .before .before .args in
     λ j. record { next = a .x .next; counts = a .x .counts; net = a .x .net; reach = c .with-arrival .ensures j }
@@ -13,5 +10,5 @@ pub in-else-spec : {M : Type 1} → statement M
 in-else-spec =
     tie.close
     (tie.spec
-    with-arrival-requires
+    (λ c κs. search needs)
     returns)

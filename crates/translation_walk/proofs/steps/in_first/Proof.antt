@@ -2,12 +2,6 @@ use borrow.Author.Needs.{needs}
 use Rattle.translation_walk.proofs.steps.in_first.Statement.{statement}
 use Rattle.translation_walk.proofs.steps.in_first.Tie as tie
 
-counts-after-if-requires : tie.Need-counts-after-if-requires
-counts-after-if-requires c κs = search needs
-
-with-arrival-requires : tie.Need-with-arrival-requires
-with-arrival-requires c κs = search needs
-
 returns : tie.Need-returns
 returns c = let a = c .before .before .before .before .args in
     λ j. record { next = a .next; counts = c .before .before .counts-after-if .ensures j; net = a .b .net; reach = c .with-arrival .ensures j }
@@ -16,6 +10,6 @@ pub in-first-spec : {M : Type 1} → statement M
 in-first-spec =
     tie.close
     (tie.spec
-    counts-after-if-requires
-    with-arrival-requires
+    (λ c κs. search needs)
+    (λ c κs. search needs)
     returns)

@@ -6,9 +6,6 @@ use native.Mathlib.Omega.{arith}
 use Rattle.translation_walk.proofs.steps.simple_walked.Statement.{statement}
 use Rattle.translation_walk.proofs.steps.simple_walked.Tie as tie
 
-simple-size-requires : tie.Need-simple-size-requires
-simple-size-requires c κs = search needs
-
 add-next : tie.Need-add-next
 add-next c = let p = c .before .before .before .before .before .before .before .before .before .pre in omega (arith, p .1 .0 .2, c .before .simple-size .ensures, c .before .before .before .before .before .before .before .before .before .good .1 .1 .1 .0)
 
@@ -18,15 +15,6 @@ counts-after-requires c κs = c .before .before .before .before .before .before 
 simple-made-requires : tie.Need-simple-made-requires
 simple-made-requires c κs = let p = c .before .before .before .before .before .before .before .before .before .before .before .before .before .pre in (p .0 .0, (p .0 .1, (p .1 .0 .0, p .1 .1 .0, p .1 .1 .1)))
 
-same-length : tie.Need-same-length
-same-length c = search needs
-
-same-length-2 : tie.Need-same-length-2
-same-length-2 c = search needs
-
-same-length-3 : tie.Need-same-length-3
-same-length-3 c = search needs
-
 returns : tie.Need-returns
 returns c = let a = c .before .before .before .before .before .before .before .before .before .before .before .before .before .before .before .before .before .before .before .before .before .before .args in
     arrives-by (c .before .before .before .before .before .before .before .before .simple-made .ensures) (ap (λ (z : ℕ). a .start .next + z) (c .before .before .before .before .before .before .before .before .before .before .before .before .before .before .simple-size .ensures)) (c .before .before .before .before .before .before .before .before .before .before .before .before .counts-after .ensures)
@@ -35,11 +23,11 @@ pub simple-walked-spec : {M : Type 1} → statement M
 simple-walked-spec =
     tie.close
     (tie.spec
-    simple-size-requires
+    (λ c κs. search needs)
     add-next
     counts-after-requires
     simple-made-requires
-    same-length
-    same-length-2
-    same-length-3
+    (λ c. search needs)
+    (λ c. search needs)
+    (λ c. search needs)
     returns)

@@ -93,12 +93,6 @@ arm-made-μ-loop words₀ starts₀ lits₀ bytes h t decisions depth close p₀
 arm-made-loop-holds : (t : ℕ) → arm-made-lts.Need-loop-holds (arm-made-calls t) (arm-made-at t) arm-made.Post arm-made-Inv-loop arm-made-μ-loop
 arm-made-loop-holds t c = let p = c .before .before .before .before .before .pre .1 in begins (p .0) (p .2)
 
-arm-made-command-at-requires : (t : ℕ) → arm-made-lts.Need-command-at-requires (arm-made-calls t) (arm-made-at t) arm-made.Post arm-made-Inv-loop arm-made-μ-loop
-arm-made-command-at-requires t c κs = search needs
-
-arm-made-enum-told : (t : ℕ) → arm-made-lts.Need-enum-told (arm-made-calls t) (arm-made-at t) arm-made.Post arm-made-Inv-loop arm-made-μ-loop
-arm-made-enum-told t c = search needs
-
 arm-made-returns : (t : ℕ) → arm-made-lts.Need-returns (arm-made-calls t) (arm-made-at t) arm-made.Post arm-made-Inv-loop arm-made-μ-loop
 arm-made-returns t c = absurd (no-missing (c .before .before .before .before .before .before .before .before .before .pre .1 .0) (c .before .before .before .loop .inv) (c .before .before .command-at .ensures) (c .enum-told .given .1))
 
@@ -110,9 +104,6 @@ arm-made-same-length-2 t c = same-starts (c .before .before .before .before .bef
 
 arm-made-same-length-3 : (t : ℕ) → arm-made-lts.Need-same-length-3 (arm-made-calls t) (arm-made-at t) arm-made.Post arm-made-Inv-loop arm-made-μ-loop
 arm-made-same-length-3 t c = same-lits (c .before .before .before .before .before .before .before .before .before .pre .1 .0) (c .before .before .before .loop .inv)
-
-arm-made-enum-told-2 : (t : ℕ) → arm-made-lts.Need-enum-told-2 (arm-made-calls t) (arm-made-at t) arm-made.Post arm-made-Inv-loop arm-made-μ-loop
-arm-made-enum-told-2 t c = search needs
 
 arm-made-add-p : (t : ℕ) → arm-made-lts.Need-add-p (arm-made-calls t) (arm-made-at t) arm-made.Post arm-made-Inv-loop arm-made-μ-loop
 arm-made-add-p t c = let l = close-fits (c .before .before .before .before .before .before .before .before .before .before .pre .1 .0) (c .before .before .before .before .loop .inv) (c .before .before .before .command-at .ensures) (c .before .enum-told2 .given .1) in omega arith
@@ -129,15 +120,9 @@ arm-made-same-length-5 t c = same-starts (c .before .before .before .before .bef
 arm-made-same-length-6 : (t : ℕ) → arm-made-lts.Need-same-length-6 (arm-made-calls t) (arm-made-at t) arm-made.Post arm-made-Inv-loop arm-made-μ-loop
 arm-made-same-length-6 t c = same-lits (c .before .before .before .before .before .before .before .before .before .before .pre .1 .0) (c .before .before .before .before .loop .inv)
 
-arm-made-enum-known-c : (t : ℕ) → arm-made-lts.Need-enum-known-c (arm-made-calls t) (arm-made-at t) arm-made.Post arm-made-Inv-loop arm-made-μ-loop
-arm-made-enum-known-c t c = search needs
-
 arm-made-if-made-requires : (t : ℕ) → arm-made-lts.Need-if-made-requires (arm-made-calls t) (arm-made-at t) arm-made.Post arm-made-Inv-loop arm-made-μ-loop
 arm-made-if-made-requires t c κs = let k = c .before .before .before .before in let r = k .before .before in let p = r .before .before .before .before .before .before .before .pre in
     if-asks (p .1 .0) (r .before .loop .inv) (r .command-at .ensures) (k .c .given .1) (p .0) (p .1 .1)
-
-arm-made-is-over-requires : (t : ℕ) → arm-made-lts.Need-is-over-requires (arm-made-calls t) (arm-made-at t) arm-made.Post arm-made-Inv-loop arm-made-μ-loop
-arm-made-is-over-requires t c κs = search needs
 
 arm-made-returns-3 : (t : ℕ) → arm-made-lts.Need-returns-3 (arm-made-calls t) (arm-made-at t) arm-made.Post arm-made-Inv-loop arm-made-μ-loop
 arm-made-returns-3 t c = let m = c .before .before .before .before .before .before .before .before in let k = m .before .before .before .before .before in let r = k .before .before in let s = r .before .before .before .before .before .before .before in
@@ -160,15 +145,9 @@ arm-made-loop-again : (t : ℕ) → arm-made-lts.Need-loop-again (arm-made-calls
 arm-made-loop-again t c = let m = c .before .before .before .before .before .before .before .before in let k = m .before .before .before .before .before in let r = k .before .before in let s = r .before .before .before .before .before .before .before in
     if-again (s .pre .1 .0) (r .before .loop .inv) (r .command-at .ensures) (k .c .given .1) (m .if-made .ensures) (c .before .is-over .ensures) (c .if1 .left) (m .if-made .kept .1 .1 .0)
 
-arm-made-enum-known-c-2 : (t : ℕ) → arm-made-lts.Need-enum-known-c-2 (arm-made-calls t) (arm-made-at t) arm-made.Post arm-made-Inv-loop arm-made-μ-loop
-arm-made-enum-known-c-2 t c = search needs
-
 arm-made-simple-walked-requires : (t : ℕ) → arm-made-lts.Need-simple-walked-requires (arm-made-calls t) (arm-made-at t) arm-made.Post arm-made-Inv-loop arm-made-μ-loop
 arm-made-simple-walked-requires t c κs = let k = c .before .before .before .before in let r = k .before .before in let p = r .before .before .before .before .before .before .before .pre .1 in
     simple-asks (p .0) (r .before .loop .inv) (r .command-at .ensures) (k .c2 .given .1) (p .1)
-
-arm-made-is-over-requires-2 : (t : ℕ) → arm-made-lts.Need-is-over-requires-2 (arm-made-calls t) (arm-made-at t) arm-made.Post arm-made-Inv-loop arm-made-μ-loop
-arm-made-is-over-requires-2 t c κs = search needs
 
 arm-made-returns-4 : (t : ℕ) → arm-made-lts.Need-returns-4 (arm-made-calls t) (arm-made-at t) arm-made.Post arm-made-Inv-loop arm-made-μ-loop
 arm-made-returns-4 t c = let m = c .before .before .before .before .before .before .before .before in let k = m .before .before .before .before .before in let r = k .before .before in let s = r .before .before .before .before .before .before .before in
@@ -198,12 +177,6 @@ if-made-add-deep t c = omega (arith, c .before .before .before .before .before .
 if-made-copied-requires : (t : ℕ) → if-made-lts.Need-copied-requires (if-made-calls t) (if-made-at t) if-made.Post
 if-made-copied-requires t c κs = c .before .before .before .before .before .before .before .before .before .pre .1 .0 .places
 
-if-made-cast-byte-at : (t : ℕ) → if-made-lts.Need-cast-byte-at (if-made-calls t) (if-made-at t) if-made.Post
-if-made-cast-byte-at t c = search needs
-
-if-made-byte-at-requires : (t : ℕ) → if-made-lts.Need-byte-at-requires (if-made-calls t) (if-made-at t) if-made.Post
-if-made-byte-at-requires t c κs = search needs
-
 if-made-branch-requires : (t : ℕ) → if-made-lts.Need-branch-requires (if-made-calls t) (if-made-at t) if-made.Post
 if-made-branch-requires t c κs = let p = c .before .before .before .before .before .before .before .before .before .before .before .before .before .before .before .pre .1 in (ready-weaken (omega arith) (p .0 .room), (p .0 .places, (p .2, p .3)))
 
@@ -216,9 +189,6 @@ if-made-in-first-requires t c κs = c .before .before .before .before .before .b
 if-made-arm-made-requires : (t : ℕ) → if-made-lts.Need-arm-made-requires (if-made-calls t) (if-made-at t) if-made.Post
 if-made-arm-made-requires t c κs = let f = c .before .before .before in let b = f .before .before .before .before .before .before in let d = b .before .before .before .before in let p = d .before .before .before .before .before .before .before .before .before .before .before .before .pre in
     first-asks (p .1 .0) (d .byte-at .ensures) (b .branch .ensures) (f .in-first .ensures) (p .0) (p .1 .3) (p .1 .4)
-
-if-made-is-over-requires : (t : ℕ) → if-made-lts.Need-is-over-requires (if-made-calls t) (if-made-at t) if-made.Post
-if-made-is-over-requires t c κs = search needs
 
 if-made-returns : (t : ℕ) → if-made-lts.Need-returns (if-made-calls t) (if-made-at t) if-made.Post
 if-made-returns t c = let x = c .before .before .before .before .before .before .before .before in let f = x .before .before .before .before in let b = f .before .before .before .before .before .before in let d = b .before .before .before .before in let p = d .before .before .before .before .before .before .before .before .before .before .before .before .pre in
@@ -233,18 +203,12 @@ if-made-same-length-2 t c = if-starts (c .before .before .before .before .before
 if-made-same-length-3 : (t : ℕ) → if-made-lts.Need-same-length-3 (if-made-calls t) (if-made-at t) if-made.Post
 if-made-same-length-3 t c = c .before .before .before .before .before .before .before .before .arm-made .kept .1 .1 .0
 
-if-made-in-else-requires : (t : ℕ) → if-made-lts.Need-in-else-requires (if-made-calls t) (if-made-at t) if-made.Post
-if-made-in-else-requires t c κs = search needs
-
 if-made-slice-aggregate-arm-made : (t : ℕ) → if-made-lts.Need-slice-aggregate-arm-made (if-made-calls t) (if-made-at t) if-made.Post
 if-made-slice-aggregate-arm-made t c = search (needs, ap length (c .before .before .before .before .before .before .before .before .before .before .before .before .before .before .before .before .before .before .before .before .before .before .before .before .before .before .before .before .copied .ensures), c .before .before .before .before .before .before .before .before .before .before .before .before .before .before .before .before .before .before .before .before .before .before .before .before .before .before .before .before .before .before .before .before .before .before .before .before .before .before .pre .1 .0 .places)
 
 if-made-arm-made-requires-2 : (t : ℕ) → if-made-lts.Need-arm-made-requires-2 (if-made-calls t) (if-made-at t) if-made.Post
 if-made-arm-made-requires-2 t c κs = let e = c .before .before .before in let x = e .before .before .before .before .before .before .before .before .before in let f = x .before .before .before .before in let b = f .before .before .before .before .before .before in let d = b .before .before .before .before in let p = d .before .before .before .before .before .before .before .before .before .before .before .before .pre in
     second-asks (p .1 .0) (d .byte-at .ensures) (b .branch .ensures) (f .in-first .ensures) (x .arm-made .ensures) (e .before .before .is-over .ensures) (e .before .if1 .left) (d .before .before .copied .ensures) (e .in-else .ensures) (p .0) (p .1 .3) (p .1 .4)
-
-if-made-is-over-requires-2 : (t : ℕ) → if-made-lts.Need-is-over-requires-2 (if-made-calls t) (if-made-at t) if-made.Post
-if-made-is-over-requires-2 t c κs = search needs
 
 if-made-returns-2 : (t : ℕ) → if-made-lts.Need-returns-2 (if-made-calls t) (if-made-at t) if-made.Post
 if-made-returns-2 t c = let y = c .before .before .before .before .before .before .before in let e = y .before .before .before .before in let x = e .before .before .before .before .before .before .before .before .before in let f = x .before .before .before .before in let b = f .before .before .before .before .before .before in let d = b .before .before .before .before in let p = d .before .before .before .before .before .before .before .before .before .before .before .before .pre in
@@ -286,30 +250,30 @@ pub +arm-made+if-made-spec : {M : Type 1} → statement M
     arm-made-Inv-loop
     arm-made-μ-loop
     (arm-made-loop-holds t)
-    (arm-made-command-at-requires t)
-    (arm-made-enum-told t)
+    (λ c κs. search needs)
+    (λ c. search needs)
     (arm-made-same-length t)
     (arm-made-same-length-2 t)
     (arm-made-same-length-3 t)
     (arm-made-returns t)
-    (arm-made-enum-told-2 t)
+    (λ c. search needs)
     (arm-made-add-p t)
     (arm-made-same-length-4 t)
     (arm-made-same-length-5 t)
     (arm-made-same-length-6 t)
     (arm-made-returns-2 t)
-    (arm-made-enum-known-c t)
+    (λ c. search needs)
     (arm-made-if-made-requires t)
-    (arm-made-is-over-requires t)
+    (λ c κs. search needs)
     (arm-made-same-length-7 t)
     (arm-made-same-length-8 t)
     (arm-made-same-length-9 t)
     (arm-made-returns-3 t)
     (arm-made-loop-less t)
     (arm-made-loop-again t)
-    (arm-made-enum-known-c-2 t)
+    (λ c. search needs)
     (arm-made-simple-walked-requires t)
-    (arm-made-is-over-requires-2 t)
+    (λ c κs. search needs)
     (arm-made-same-length-10 t)
     (arm-made-same-length-11 t)
     (arm-made-same-length-12 t)
@@ -321,21 +285,21 @@ pub +arm-made+if-made-spec : {M : Type 1} → statement M
     if-made.Post
     (if-made-add-deep t)
     (if-made-copied-requires t)
-    (if-made-cast-byte-at t)
-    (if-made-byte-at-requires t)
+    (λ c. search needs)
+    (λ c κs. search needs)
     (if-made-branch-requires t)
     (if-made-add-in-first t)
     (if-made-in-first-requires t)
     (if-made-arm-made-requires t)
-    (if-made-is-over-requires t)
+    (λ c κs. search needs)
     (if-made-same-length t)
     (if-made-same-length-2 t)
     (if-made-same-length-3 t)
     (if-made-returns t)
-    (if-made-in-else-requires t)
+    (λ c κs. search needs)
     (if-made-slice-aggregate-arm-made t)
     (if-made-arm-made-requires-2 t)
-    (if-made-is-over-requires-2 t)
+    (λ c κs. search needs)
     (if-made-same-length-4 t)
     (if-made-same-length-5 t)
     (if-made-same-length-6 t)

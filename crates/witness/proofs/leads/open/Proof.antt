@@ -10,42 +10,9 @@ returns : tie.Need-returns
 unfolding leadOf
 returns c = rw (lt-leb _ _ (c .if1 .taken)) refl
 
-proof-at-requires : tie.Need-proof-at-requires
-proof-at-requires c κs = search needs
-
 returns-2 : tie.Need-returns-2
 unfolding leadOf
 returns-2 c = rw (le-leb _ _ (c .before .before .if1 .left), lt-leb _ _ (rw (c .before .proof-at .ensures) at (c .if2 .taken))) refl
-
-shared-slice-read-t15 : tie.Need-shared-slice-read-t15
-shared-slice-read-t15 c = search needs
-
-shared-slice-read-t17 : tie.Need-shared-slice-read-t17
-shared-slice-read-t17 c = search needs
-
-cast-end : tie.Need-cast-end
-cast-end c = search needs
-
-add-end : tie.Need-add-end
-add-end c = search needs
-
-sub-admit-lead : tie.Need-sub-admit-lead
-sub-admit-lead c = search needs
-
-part-admit-lead-start : tie.Need-part-admit-lead-start
-part-admit-lead-start c = search needs
-
-part-admit-lead-end : tie.Need-part-admit-lead-end
-part-admit-lead-end c = search needs
-
-admit-lead-requires : tie.Need-admit-lead-requires
-admit-lead-requires c κs = search needs
-
-enum-known-refusal : tie.Need-enum-known-refusal
-enum-known-refusal c = search needs
-
-enum-told : tie.Need-enum-told
-enum-told c = search needs
 
 returns-3 : tie.Need-returns-3
 returns-3 c =
@@ -66,17 +33,17 @@ open-spec =
     tie.close
     (tie.spec
     returns
-    proof-at-requires
+    (λ c κs. search needs)
     returns-2
-    shared-slice-read-t15
-    shared-slice-read-t17
-    cast-end
-    add-end
-    sub-admit-lead
-    part-admit-lead-start
-    part-admit-lead-end
-    admit-lead-requires
-    enum-known-refusal
-    enum-told
+    (λ c. search needs)
+    (λ c. search needs)
+    (λ c. search needs)
+    (λ c. search needs)
+    (λ c. search needs)
+    (λ c. search needs)
+    (λ c. search needs)
+    (λ c κs. search needs)
+    (λ c. search needs)
+    (λ c. search needs)
     returns-3
     returns-4)

@@ -4,24 +4,6 @@ use borrow.Author.Needs.{needs}
 use Rattle.witness.proofs.settling.by_course.Statement.{statement}
 use Rattle.witness.proofs.settling.by_course.Tie as tie
 
-enum-known-course : tie.Need-enum-known-course
-enum-known-course c = search needs
-
-enum-told : tie.Need-enum-told
-enum-told c = search needs
-
-enum-known-course-2 : tie.Need-enum-known-course-2
-enum-known-course-2 c = search needs
-
-size-of-array-requires : tie.Need-size-of-array-requires
-size-of-array-requires c κs = search needs
-
-lies-at-requires : tie.Need-lies-at-requires
-lies-at-requires c κs = search needs
-
-is-on-requires : tie.Need-is-on-requires
-is-on-requires c κs = search needs
-
 returns : tie.Need-returns
 unfolding byCourse
 returns c = rw (c .before .course .given .1) refl
@@ -42,12 +24,12 @@ pub by-course-spec : {M : Type 1} → statement M
 by-course-spec =
     tie.close
     (tie.spec
-    enum-known-course
-    enum-told
-    enum-known-course-2
-    size-of-array-requires
-    lies-at-requires
-    is-on-requires
+    (λ c. search needs)
+    (λ c. search needs)
+    (λ c. search needs)
+    (λ c κs. search needs)
+    (λ c κs. search needs)
+    (λ c κs. search needs)
     returns
     returns-2
     returns-3

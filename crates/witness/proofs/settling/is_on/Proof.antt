@@ -3,21 +3,6 @@ use borrow.Author.Needs.{needs}
 use Rattle.witness.proofs.settling.is_on.Statement.{statement}
 use Rattle.witness.proofs.settling.is_on.Tie as tie
 
-enum-told : tie.Need-enum-told
-enum-told c = search needs
-
-enum-known-lies : tie.Need-enum-known-lies
-enum-known-lies c = search needs
-
-enum-told-2 : tie.Need-enum-told-2
-enum-told-2 c = search needs
-
-enum-told-3 : tie.Need-enum-told-3
-enum-told-3 c = search needs
-
-returns : tie.Need-returns
-returns c = search needs
-
 returns-2 : tie.Need-returns-2
 returns-2 c = rw (c .before .before .before .lies .given .1, c .enum-told2 .given .1) refl
 
@@ -27,4 +12,4 @@ returns-3 c = rw (c .before .before .before .lies .given .1, c .enum-told3 .give
 pub is-on-spec : {M : Type 1} → statement M
 is-on-spec =
     tie.close
-    (tie.spec enum-told enum-known-lies enum-told-2 enum-told-3 returns returns-2 returns-3)
+    (tie.spec (λ c. search needs) (λ c. search needs) (λ c. search needs) (λ c. search needs) (λ c. search needs) returns-2 returns-3)
