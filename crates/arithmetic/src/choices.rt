@@ -13,7 +13,7 @@ ghost use Rattle.arithmetic.specs.Choose.{choose, chooser};
 ghost use Rattle.arithmetic.specs.Inner.Made.{Makes};
 ghost use Rattle.cnf.specs.Inner.Append.{Lent, Written};
 ghost use Rattle.netlist.specs.Inner.Emit.{Ready};
-ghost use Rattle.netlist.specs.Node.{clausesOf};
+ghost use Rattle.netlist.specs.Node.{netlistClauses};
 
 // Writes a choice for which there is room.
 fn write_choice(
@@ -29,7 +29,7 @@ fn write_choice(
     requires { ⌜ Lent (length (now words)) (length (now starts)) at start (4 * length (now a)) (16 * length (now a)) ⌝ }
     requires { ⌜ first + length (now a) ≤ 2 ^ 26 ⌝ }
     requires { ⌜ length (now b) ≡ length (now a) ⌝ }
-    ensures { λ _. ⌜ Written (now (words .entry)) (now (starts .entry)) at start (clausesOf first (chooser c (litAt (now (a .entry))) (litAt (now (b .entry))) (length (now (a .entry))))) (now (words .exit)) (now (starts .exit)) ⌝ }
+    ensures { λ _. ⌜ Written (now (words .entry)) (now (starts .entry)) at start (netlistClauses first (chooser c (litAt (now (a .entry))) (litAt (now (b .entry))) (length (now (a .entry))))) (now (words .exit)) (now (starts .exit)) ⌝ }
 {
     let mut i = at;
     let mut k = start;

@@ -26,7 +26,7 @@ use Rattle.netlist.specs.Literal.{neg, opp}
 use Rattle.cnf.specs.Meaning.{Assign, lit}
 use Rattle.netlist.specs.Meaning.{Inputs}
 use Rattle.netlist.specs.Inner.Value.{nodeVal, xorB}
-use Rattle.netlist.specs.Node.{chain, clausesOf}
+use Rattle.netlist.specs.Node.{chain, netlistClauses}
 use Rattle.netlist.specs.declared.Node.{Node}
 use Rattle.netlist.specs.declared.Node.the-variants.{And, Xor}
 use Rattle.arithmetic.specs.Circuit.{Predicate, opposite}
@@ -171,12 +171,12 @@ equality-formed g a b w z ha hb =
 
 -- a turn of the loop that writes
 pub equality-written : {w t w₁ t₁ w₂ t₂ : List ℕ} {i₀ k₀ i k : ℕ} (g₀ g : ℕ) (a b : Bits) (x j : ℕ)
-    → Written w t i₀ k₀ (clausesOf g₀ (equality g₀ a b j)) w₁ t₁ → Written w₁ t₁ i k (clausesOf g (same g (a j) (b j) x)) w₂ t₂
-    → i ≡ i₀ + 26 * j → k ≡ k₀ + 7 * j → g ≡ g₀ + 2 * j → x ≡ sameAt g₀ j → Written w t i₀ k₀ (clausesOf g₀ (equality g₀ a b (j + 1))) w₂ t₂
+    → Written w t i₀ k₀ (netlistClauses g₀ (equality g₀ a b j)) w₁ t₁ → Written w₁ t₁ i k (netlistClauses g (same g (a j) (b j) x)) w₂ t₂
+    → i ≡ i₀ + 26 * j → k ≡ k₀ + 7 * j → g ≡ g₀ + 2 * j → x ≡ sameAt g₀ j → Written w t i₀ k₀ (netlistClauses g₀ (equality g₀ a b (j + 1))) w₂ t₂
 unfolding equality
 equality-written {w₁ = w₁} {t₁} {w₂} {t₂} {i = i} {k} g₀ g a b x j p q ei ek eg ex =
     chain-written _ 2 7 26 (λ i. place-sized (g₀ + 2 * i) (a i) (b i) (sameAt g₀ i)) g₀ j p
-    (subst (λ (ns : List Node). Written w₁ t₁ i k (clausesOf g ns) w₂ t₂) (λ z. same (eg z) (a j) (b j) (ex z)) q) ei ek eg
+    (subst (λ (ns : List Node). Written w₁ t₁ i k (netlistClauses g ns) w₂ t₂) (λ z. same (eg z) (a j) (b j) (ex z)) q) ei ek eg
 
 pub same-written : (g₀ g j : ℕ) → g ≡ g₀ + 2 * j → 2 * g + 2 ≡ sameAt g₀ (j + 1)
 same-written g₀ g j e = rw (add-one j) (omega arith)

@@ -2,7 +2,7 @@
 use crate::turned;
 use arithmetic::PLACES;
 use arithmetic::Test;
-use arithmetic::sums::subtract;
+use arithmetic::sums::emit_difference;
 use cnf::fits;
 use netlist::Net;
 use netlist::counted;
@@ -17,7 +17,7 @@ ghost use Rattle.arithmetic.specs.Inner.Made.{Decides};
 ghost use Rattle.cnf.specs.Inner.Append.{Lent, Written};
 ghost use Rattle.comparison.specs.Compare.{atLeastSigned, below, belowSigned, equality, flipped, same, sameNumber};
 ghost use Rattle.netlist.specs.Inner.Emit.{Ready};
-ghost use Rattle.netlist.specs.Node.{clausesOf};
+ghost use Rattle.netlist.specs.Node.{netlistClauses};
 
 // Whether the first number is below the second, unsigned: the opposite of the last carry.
 pub fn less(words: &mut [u32], starts: &mut [u32], n: Net, a: &[u32], b: &[u32]) -> Test
@@ -26,7 +26,7 @@ pub fn less(words: &mut [u32], starts: &mut [u32], n: Net, a: &[u32], b: &[u32])
     requires { ⌜ (0 < length (now a)) × (length (now a) ≤ places) ⌝ }
     ensures { λ r. ⌜ Decides (now (words .entry)) (now (starts .entry)) n (below (n .next) (litAt (now (a .entry))) (litAt (now (b .entry))) (length (now (a .entry)))) (now (words .exit)) (now (starts .exit)) r ⌝ }
 {
-    let net = subtract(words, starts, n, a, b);
+    let net = emit_difference(words, starts, n, a, b);
     let carry = 2 * (net.next - 1);
     let lit = netlist::opposite(carry);
     Test { net, lit }
@@ -75,7 +75,7 @@ pub fn at_least_signed(words: &mut [u32], starts: &mut [u32], n: Net, a: &[u32],
 fn write_same(words: &mut [u32], starts: &mut [u32], i: u32, k: u32, g: u32, a: u32, b: u32, e: u32)
     requires { ⌜ Lent (length (now words)) (length (now starts)) i k 7 26 ⌝ }
     requires { ⌜ g + 2 ≤ 2 ^ 26 ⌝ }
-    ensures { λ _. ⌜ Written (now (words .entry)) (now (starts .entry)) i k (clausesOf g (same g a b e)) (now (words .exit)) (now (starts .exit)) ⌝ }
+    ensures { λ _. ⌜ Written (now (words .entry)) (now (starts .entry)) i k (netlistClauses g (same g a b e)) (now (words .exit)) (now (starts .exit)) ⌝ }
 {
     xor_gate(words, starts, i, k, g, a, b);
     and_gate(words, starts, i + 16, k + 4, g + 1, e, 2 * g + 1);
@@ -94,7 +94,7 @@ fn write_equal(
     requires { ⌜ Lent (length (now words)) (length (now starts)) at start (7 * length (now a)) (26 * length (now a)) ⌝ }
     requires { ⌜ first + 2 * length (now a) ≤ 2 ^ 26 ⌝ }
     requires { ⌜ length (now b) ≡ length (now a) ⌝ }
-    ensures { λ _. ⌜ Written (now (words .entry)) (now (starts .entry)) at start (clausesOf first (equality first (litAt (now (a .entry))) (litAt (now (b .entry))) (length (now (a .entry))))) (now (words .exit)) (now (starts .exit)) ⌝ }
+    ensures { λ _. ⌜ Written (now (words .entry)) (now (starts .entry)) at start (netlistClauses first (equality first (litAt (now (a .entry))) (litAt (now (b .entry))) (length (now (a .entry))))) (now (words .exit)) (now (starts .exit)) ⌝ }
 {
     let mut i = at;
     let mut k = start;

@@ -9,10 +9,10 @@ use Rattle.routine.specs.Decode.{checked}
 use Rattle.routine.specs.declared.Checked as routine
 use Rattle.comparing.specs.Alike.{alike}
 use Rattle.comparing.specs.declared.Compared.{Compared}
-use Rattle.run.specs.Answer as ran
+use Rattle.run.specs.Answer.{RunAnswer, RunAnswers}
 use Rattle.run.specs.declared.Ran.{Ran}
 use Rattle.lead.specs.Lead.{targetOf}
-use Rattle.translation.specs.Answer as translated
+use Rattle.translation.specs.Answer.{TranslationAnswer, TranslationAnswers}
 use Rattle.translation.specs.declared.Translated.{Translated}
 use Rattle.checker.specs.Checking.{Checking, Checks}
 use Rattle.checker.specs.declared.Checked.{Checked}
@@ -39,18 +39,18 @@ unfolding alikeLeaves
 alike-leaves bs first second ans ans₁ r f e q = rw (← e) (filled [] [] ans _ ans₁ r f q)
 
 pub run-leaves : (bs ins values trail ans values₁ trail₁ ans₁ : List ℕ) (r : ℕ) {o : Ran} → Fills (runFills o ans) ans₁ r
-    → ran.Answers bs ins values trail values₁ trail₁ o → ltb (length ans) 8 ≡ false
+    → RunAnswers bs ins values trail values₁ trail₁ o → ltb (length ans) 8 ≡ false
     → Leaves (runLeaves bs ins values trail ans) (values₁ ∷ trail₁ ∷ []) ans₁ r
 unfolding runLeaves
 run-leaves bs ins values trail ans values₁ trail₁ ans₁ r f x e =
-    subst (λ (y : ran.Answer). Leaves (ranLeft values trail ans y) (values₁ ∷ trail₁ ∷ []) ans₁ r) (x .equal) (filled _ _ ans _ ans₁ r f e)
+    subst (λ (y : RunAnswer). Leaves (ranLeft values trail ans y) (values₁ ∷ trail₁ ∷ []) ans₁ r) (x .equal) (filled _ _ ans _ ans₁ r f e)
 
 pub translate-leaves : (bs : List ℕ) (access side : ℕ) (ds words starts ans words₁ starts₁ ans₁ : List ℕ) (r : ℕ) {t : Translated}
-    → Fills (translateFills t ans) ans₁ r → translated.Answers bs (targetOf access side) ds words starts words₁ starts₁ t
+    → Fills (translateFills t ans) ans₁ r → TranslationAnswers bs (targetOf access side) ds words starts words₁ starts₁ t
     → ltb (length ans) 8 ≡ false → Leaves (translateLeaves bs access side ds words starts ans) (words₁ ∷ starts₁ ∷ []) ans₁ r
 unfolding translateLeaves
 translate-leaves bs access side ds words starts ans words₁ starts₁ ans₁ r f x e =
-    subst (λ (y : translated.Answer). Leaves (translatedLeft words starts ans y) (words₁ ∷ starts₁ ∷ []) ans₁ r) (x .equal) (filled _ _ ans _ ans₁ r f e)
+    subst (λ (y : TranslationAnswer). Leaves (translatedLeft words starts ans y) (words₁ ∷ starts₁ ∷ []) ans₁ r) (x .equal) (filled _ _ ans _ ans₁ r f e)
 
 pub prove-leaves : (r : List ℕ) (from clauses variables : ℕ) (words starts marks ans words₁ starts₁ marks₁ ans₁ : List ℕ) (code : ℕ) {c : Checked}
     → Fills (proveFills c ans) ans₁ code → Checks words starts marks r from clauses variables words₁ starts₁ marks₁ c

@@ -9,9 +9,9 @@ use lib.Seq.{sets}
 use lib.Dec.{ltb}
 use Rattle.bitvec.specs.declared.Whole.{Whole}
 use Rattle.routine.specs.Decode.{checked}
-use Rattle.run.specs.Answer as ran
+use Rattle.run.specs.Answer.{RunAnswer, runAnswer}
 use Rattle.lead.specs.Lead.{targetOf}
-use Rattle.translation.specs.Answer as translated
+use Rattle.translation.specs.Answer.{TranslationAnswer, translationAnswer}
 use Rattle.checker.specs.Checking.{Checking, checking}
 use Rattle.judgement.specs.Judging.{judgement}
 use Rattle.report.specs.Zeroed.{zeroed, roomIn}
@@ -43,20 +43,20 @@ unfoldable pub checkLeaves : (bs ans : List ℕ) → Left
 checkLeaves bs ans = unlessShort [] ans [] (checkFills (checked bs) ans)
 
 -- a run's answer
-abbrev pub ranLeft : (values trail ans : List ℕ) → ran.Answer → Left
+abbrev pub ranLeft : (values trail ans : List ℕ) → RunAnswer → Left
 ranLeft values trail ans x = unlessShort (values ∷ trail ∷ []) ans (x .values ∷ x .trail ∷ []) (runFills (x .ran) ans)
 
 -- `pellet_run`
 unfoldable pub runLeaves : (bs ins values trail ans : List ℕ) → Left
-runLeaves bs ins values trail ans = ranLeft values trail ans (ran.answer bs ins values trail)
+runLeaves bs ins values trail ans = ranLeft values trail ans (runAnswer bs ins values trail)
 
 -- a translation's answer
-abbrev pub translatedLeft : (words starts ans : List ℕ) → translated.Answer → Left
+abbrev pub translatedLeft : (words starts ans : List ℕ) → TranslationAnswer → Left
 translatedLeft words starts ans x = unlessShort (words ∷ starts ∷ []) ans (x .words ∷ x .starts ∷ []) (translateFills (x .translated) ans)
 
 -- `pellet_translate`
 unfoldable pub translateLeaves : (bs : List ℕ) → (access side : ℕ) → (ds words starts ans : List ℕ) → Left
-translateLeaves bs access side ds words starts ans = translatedLeft words starts ans (translated.answer bs (targetOf access side) ds words starts)
+translateLeaves bs access side ds words starts ans = translatedLeft words starts ans (translationAnswer bs (targetOf access side) ds words starts)
 
 -- the answer of a proof's check
 abbrev pub provedLeft : (words starts marks ans : List ℕ) → Checking → Left

@@ -24,21 +24,21 @@ use Rattle.run.specs.Goes.{goesWay, Comes}
 use Rattle.run.proofs.Arriving.{arrival}
 use Rattle.cnf.specs.Clause.{Clause}
 use Rattle.cnf.specs.Meaning.{Assign, lit, satClause, sat}
-use Rattle.netlist.specs.Node.{clausesOf}
+use Rattle.netlist.specs.Node.{netlistClauses}
 use Rattle.netlist.proofs.Literals.{lit-opp}
 use Rattle.netlist.proofs.Truth.{sat-append}
-use Rattle.lead.specs.Lead.{translates, admission}
+use Rattle.lead.specs.Lead.{translates, claimAdmission}
 use Rattle.lead.specs.declared.Target.{Target}
 use Rattle.lead.proofs.Leads.{admitted-range, admission-by}
 use Rattle.translation_meaning.specs.Faithful.{Faithful, Demand2}
-use Rattle.translation_meaning.specs.Translation.{whole, lastClauses, clausesOfAll, sizeOf}
+use Rattle.translation_meaning.specs.Translation.{translationOf, lastClauses, clausesOfAll, translationSize}
 use Rattle.translation_meaning.proofs.Demand as translation
 use Rattle.progress.specs.Check.{checkProof}
 use Rattle.progress.specs.State.{Limits}
 use Rattle.proof.specs.Sound.{Refutes}
 use Rattle.proof.proofs.Soundness.{sound}
 use Rattle.step.specs.declared.Verdict.{Verdict}
-use Rattle.translation_command.specs.Command.{Stretch}
+use Rattle.translation_command.specs.Command.{Encoding}
 use Rattle.translation_state.specs.declared.Claim.{Claim}
 use Rattle.witness.specs.Lead.{decisionsIn, witnessIn, proofAt}
 use Rattle.witness.specs.Witness.{witnessOf}
@@ -79,30 +79,30 @@ module _ (steps hints : ℕ) where
       rw (p, q) refl
   by-verdict (Verdict.Refused refusal) e = let z : _≡_ {A = ℕ} 0 1 = cc in absurd (omega arith)
 
-  verdict-was : (r : List ℕ) (from : ℕ) (m : Room) (h : Header) (k : Counts) (x : Stretch) → provedBy r from m h k x ≡ Proved.Closed steps hints
+  verdict-was : (r : List ℕ) (from : ℕ) (m : Room) (h : Header) (k : Counts) (x : Encoding) → provedBy r from m h k x ≡ Proved.Closed steps hints
       → checkProof (clausesOfAll x) (limitsIn m x) r from .verdict ≡ Verdict.Accepted steps hints
   unfolding provedBy
   verdict-was r from m h k x e =
       by-verdict _
       (past (leb (k .ifs) (m .trail)) _ _
       (past (leb (h .variables) (m .values)) _ _
-      (past (leb (sizeOf x .variables + 1) (m .marks)) _ _
-      (past (leb (sizeOf x .clauses) (m .starts)) _ _
-      (past (leb (sizeOf x .words) (m .words)) _ _ e)))))
+      (past (leb (translationSize x .variables + 1) (m .marks)) _ _
+      (past (leb (translationSize x .clauses) (m .starts)) _ _
+      (past (leb (translationSize x .words) (m .words)) _ _ e)))))
 
 -- ---- what an accepted report says of the runs
 
 module _ (bs r : List ℕ) (h : Header) (a : Arm) (k : Counts) (d : decode bs ≡ routine h a k) (t : Target) (array : ℕ) (index : Whole)
     (s : Stood bs r h a k t array index)
-    (translated : Demand2 bs t (decisionsIn r k)) (v : Verdict) (refuted : Refutes (clausesOfAll (whole bs t (decisionsIn r k) h a)) v)
+    (translated : Demand2 bs t (decisionsIn r k)) (v : Verdict) (refuted : Refutes (clausesOfAll (translationOf bs t (decisionsIn r k) h a)) v)
     (steps hints : ℕ) (closed : v ≡ Verdict.Accepted steps hints) where
   abbrev ds : List ℕ
   ds = decisionsIn r k
 
-  abbrev x : Stretch
-  x = whole bs t ds h a
+  abbrev x : Encoding
+  x = translationOf bs t ds h a
 
-  admitted : admission bs t ds ≡ translates h a k
+  admitted : claimAdmission bs t ds ≡ translates h a k
   admitted = admission-by bs t ds h a k d (lets r h k t _ (sym (s .opens)) refl .admits a)
 
   claim : Faithful bs t ds h a k
@@ -117,8 +117,8 @@ module _ (bs r : List ℕ) (h : Header) (a : Arm) (k : Counts) (d : decode bs �
       let ρ : Assign = claim .solution ins ok in
       let y = claim .solves ins ok in
       let come : lit ρ (claim .arrival) ≡ true = claim .arrives ins ok ρ y .1 (record { array = array₁; index = index₁; goes = way; comes = there }) in
-      let none : sat ρ (clausesOf 1 (x .nodes) ++ lastClauses (Claim.Made (claim .arrival) (claim .side))) ≡ false = rw (claim .claims) at (refuted .none steps hints closed ρ) in
-      claim .lies ins ok ρ y way array₁ index₁ there .0 (side-true ρ (claim .arrival) (claim .side) (clausesOf 1 (x .nodes)) none (y .satisfies) come)
+      let none : sat ρ (netlistClauses 1 (x .nodes) ++ lastClauses (Claim.Made (claim .arrival) (claim .side))) ≡ false = rw (claim .claims) at (refuted .none steps hints closed ρ) in
+      claim .lies ins ok ρ y way array₁ index₁ there .0 (side-true ρ (claim .arrival) (claim .side) (netlistClauses 1 (x .nodes)) none (y .satisfies) come)
 
   finding : Finding bs ds (witnessIn r h k) h a k (t .access) (t .side) array index
   finding =
@@ -165,8 +165,8 @@ module _ (bs r : List ℕ) (m : Room) (translated : (t : Target) (ds : List ℕ)
         → Finding bs (decisionsIn r k) (witnessIn r h k) h a k access side array index
     by-witness (Witness.Refused refusal) is e = let z : _≡_ {A = ℕ} 0 1 = cc in absurd (omega arith)
     by-witness (Witness.Stands t array₁ index₁) is e =
-        let p = by-proof h t array₁ index₁ (provedBy r (proofAt h k) m h k (whole bs t (decisionsIn r k) h a)) e in
-        let x = whole bs t (decisionsIn r k) h a in
+        let p = by-proof h t array₁ index₁ (provedBy r (proofAt h k) m h k (translationOf bs t (decisionsIn r k) h a)) e in
+        let x = translationOf bs t (decisionsIn r k) h a in
         let v = verdict-was steps hints r (proofAt h k) m h k x (p .4) in
         rw (← p .0, ← p .1, ← p .2, ← p .3)
         (finding bs r h a k d t array₁ index₁ (stood bs r h a k t array₁ index₁ is) (translated t (decisionsIn r k)) _

@@ -15,7 +15,7 @@ use Rattle.run.specs.State.{lies}
 use Rattle.run.specs.declared.Side.{Side}
 use Rattle.run.specs.Answer.{ranBy}
 use Rattle.run_inputs.specs.Inputs.{listed}
-use Rattle.run.specs.Run.{Stretch, runOf}
+use Rattle.run.specs.Run.{Execution, runOf}
 use Rattle.run_inputs.specs.declared.Listed.{Listed}
 use Rattle.run.specs.declared.Ran.{Ran}
 use Rattle.run.specs.Goes.{goesWay, Comes}
@@ -23,7 +23,7 @@ use Rattle.witness.specs.Lead.{decisionsIn, witnessIn}
 use Rattle.judgement.specs.declared.Judged.{Judged}
 
 -- the run stops at the access, with the index, which lies outside the array, on the side of the number
-pub record StopsOutside (bs : List ℕ) (h : Header) (access side array : ℕ) (index : Whole) (x : Stretch) : Type 0 where
+pub record StopsOutside (bs : List ℕ) (h : Header) (access side array : ℕ) (index : Whole) (x : Execution) : Type 0 where
   pub on : Side
   pub named : sideNumber on ≡ side
   pub stops : ranBy (x .state .outcome) ≡ Ran.Stopped access index on

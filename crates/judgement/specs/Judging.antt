@@ -13,7 +13,7 @@ use Rattle.witness.specs.Lead.{decisionsIn, proofAt}
 use Rattle.witness.specs.Witness.{witnessOf}
 use Rattle.witness.specs.declared.Refusal as witness
 use Rattle.witness.specs.declared.Witness.{Witness}
-use Rattle.translation_meaning.specs.Translation.{whole}
+use Rattle.translation_meaning.specs.Translation.{translationOf}
 use Rattle.proving.specs.Proving.{Room, provedBy}
 use Rattle.proving.specs.declared.Refusal.{Refusal}
 use Rattle.proving.specs.declared.Proved.{Proved}
@@ -28,7 +28,7 @@ byProof bs h t array index (Proved.Closed steps hints) = Judged.Accepted (t .acc
 abbrev pub byWitness : (bs r : List ℕ) → Room → Header → Arm → Counts → Witness → Judged
 byWitness bs r m h a k (Witness.Refused refusal) = Judged.Refused (Refusal.Witness refusal)
 byWitness bs r m h a k (Witness.Stands t array index) =
-    byProof bs h t array index (provedBy r (proofAt h k) m h k (whole bs t (decisionsIn r k) h a))
+    byProof bs h t array index (provedBy r (proofAt h k) m h k (translationOf bs t (decisionsIn r k) h a))
 
 -- 1 to 8, then the rest
 abbrev pub byRoutine : (bs r : List ℕ) → Room → Decoded → Judged

@@ -19,11 +19,11 @@ use Rattle.routine.specs.Decode.{Decoded, rejected, routine, decode, checked, I
 use Rattle.routine.specs.declared.Checked.{Checked}
 use Rattle.routine.specs.declared.Refusal as declared
 use Rattle.routine.proofs.Accepted.{accepted, refused-by}
-use Rattle.lead.specs.Lead.{Admission, refused, translates, firstOdd, byLead, byRoutine, admission, withoutTree, admittedLead}
-use Rattle.lead.specs.Inner.Admitted.{admitted}
+use Rattle.lead.specs.Lead.{ClaimAdmission, refused, translates, firstOdd, byLead, claimByRoutine, claimAdmission, claimWithoutTree, admittedLead}
+use Rattle.lead.specs.Inner.Admitted.{claimAdmitted}
 use Rattle.lead.specs.declared.Refusal.{Refusal}
 use Rattle.lead.specs.declared.Target.{Target}
-use Rattle.lead.specs.declared.Admitted.{Admitted}
+use Rattle.lead.specs.declared.AdmittedClaim.{AdmittedClaim}
 
 -- ---- the decisions
 
@@ -67,14 +67,14 @@ pub record InRange (t : Target) (ds : List ℕ) (k : Counts) : Type 0 where
   pub side : t .side ≤ 1
   pub decisions : (n : ℕ) → entry ds n ≤ 2
 
-passed : (b : Bool) (refusal : Refusal) (x : Admission) (h : Header) → withoutTree (unless b (refused refusal) x) ≡ Admitted.Translates h
-    → (b ≡ true) × (withoutTree x ≡ Admitted.Translates h)
+passed : (b : Bool) (refusal : Refusal) (x : ClaimAdmission) (h : Header) → claimWithoutTree (unless b (refused refusal) x) ≡ AdmittedClaim.Translates h
+    → (b ≡ true) × (claimWithoutTree x ≡ AdmittedClaim.Translates h)
 unfolding unless
 passed true refusal x h e = (refl, e)
 passed false refusal x h e = let z : _≡_ {A = ℕ} 0 1 = cc in absurd (omega arith)
 
 module _ (t : Target) (ds : List ℕ) (h : Header) (a : Arm) (k : Counts) (h₁ : Header) where
-  pub lead-range : withoutTree (byLead t ds h a k) ≡ Admitted.Translates h₁ → InRange t ds k
+  pub lead-range : claimWithoutTree (byLead t ds h a k) ≡ AdmittedClaim.Translates h₁ → InRange t ds k
   lead-range e =
       let p = passed (eqb (length ds) (k .ifs)) _ _ h₁ e in
       let q = passed (ltb (t .access) (accesses k)) _ _ h₁ (p .1) in
@@ -88,7 +88,7 @@ module _ (t : Target) (ds : List ℕ) (h : Header) (a : Arm) (k : Counts) (h₁ 
       }
 
 -- the tree does not matter to 11 and 12
-pub lead-admits : (t : Target) (ds : List ℕ) (h : Header) (k : Counts) (r : Admitted) → r ≡ admittedLead t ds h k → (h₁ : Header) → r ≡ Admitted.Translates h₁
+pub lead-admits : (t : Target) (ds : List ℕ) (h : Header) (k : Counts) (r : AdmittedClaim) → r ≡ admittedLead t ds h k → (h₁ : Header) → r ≡ AdmittedClaim.Translates h₁
     → (a : Arm) → byLead t ds h a k ≡ translates h a k
 unfolding admittedLead unless
 lead-admits t ds h k r is h₁ e a =
@@ -101,14 +101,14 @@ lead-admits t ds h k r is h₁ e a =
 -- ---- what `admit` answers
 
 -- a test that two admissions have in common hides no difference of their trees
-same-unless : (b : Bool) (refusal : Refusal) (x y : Admission) → withoutTree x ≡ withoutTree y
-    → withoutTree (unless b (refused refusal) x) ≡ withoutTree (unless b (refused refusal) y)
+same-unless : (b : Bool) (refusal : Refusal) (x y : ClaimAdmission) → claimWithoutTree x ≡ claimWithoutTree y
+    → claimWithoutTree (unless b (refused refusal) x) ≡ claimWithoutTree (unless b (refused refusal) y)
 unfolding unless
 same-unless true refusal x y e = e
 same-unless false refusal x y e = refl
 
 module _ (bs : List ℕ) (t : Target) (ds : List ℕ) where
-  lead-alone : (h : Header) (a : Arm) (k : Counts) → withoutTree (byLead t ds h done k) ≡ withoutTree (byLead t ds h a k)
+  lead-alone : (h : Header) (a : Arm) (k : Counts) → claimWithoutTree (byLead t ds h done k) ≡ claimWithoutTree (byLead t ds h a k)
   lead-alone h a k =
       same-unless (eqb (length ds) (k .ifs)) _ _ _
       (same-unless (ltb (t .access) (accesses k)) _ _ _
@@ -116,12 +116,12 @@ module _ (bs : List ℕ) (t : Target) (ds : List ℕ) where
       (same-unless (eqb (firstOdd ds) (length ds)) _ (translates h done k) (translates h a k) refl)))
 
   pub no-routine : (refusal : declared.Refusal) (r : Checked) → r ≡ checked bs → r ≡ Checked.Refused refusal
-      → Admitted.Refused (Refusal.Routine refusal) ≡ admitted bs t ds
-  unfolding admitted admission
+      → AdmittedClaim.Refused (Refusal.Routine refusal) ≡ claimAdmitted bs t ds
+  unfolding claimAdmitted claimAdmission
   no-routine refusal r is e = rw (refused-by bs refusal r is e)
 
-  pub by-lead : (h : Header) (k : Counts) (r : Checked) → r ≡ checked bs → r ≡ Checked.Accepted h k → admittedLead t ds h k ≡ admitted bs t ds
-  unfolding admitted admission admittedLead
+  pub by-lead : (h : Header) (k : Counts) (r : Checked) → r ≡ checked bs → r ≡ Checked.Accepted h k → admittedLead t ds h k ≡ claimAdmitted bs t ds
+  unfolding claimAdmitted claimAdmission admittedLead
   by-lead h k r is e = let x = accepted bs h k r is e in rw (x .decodes) (lead-alone h (x .arm) k)
 
 -- ---- what an admitted translation has
@@ -131,19 +131,19 @@ pub record Admits (bs : List ℕ) (t : Target) (ds : List ℕ) (h : Header) : Ty
   pub commands : Arm
   pub counts : Counts
   pub decodes : decode bs ≡ routine h commands counts
-  pub admits : admission bs t ds ≡ translates h commands counts
+  pub admits : claimAdmission bs t ds ≡ translates h commands counts
 
 module _ (bs : List ℕ) (t : Target) (ds : List ℕ) where
-  abbrev Of : Admission → Type 0
+  abbrev Of : ClaimAdmission → Type 0
   Of (refused refusal) = Unit {0}
   Of (translates h a k) = decode bs ≡ routine h a k
 
-  of-unless : (b : Bool) (refusal : Refusal) (x : Admission) → Of x → Of (unless b (refused refusal) x)
+  of-unless : (b : Bool) (refusal : Refusal) (x : ClaimAdmission) → Of x → Of (unless b (refused refusal) x)
   unfolding unless
   of-unless true refusal x o = o
   of-unless false refusal x o = tt
 
-  of-routine : (d : Decoded) → decode bs ≡ d → Of (byRoutine t ds d)
+  of-routine : (d : Decoded) → decode bs ≡ d → Of (claimByRoutine t ds d)
   of-routine (rejected refusal) e = tt
   of-routine (routine h a k) e =
       of-unless (eqb (length ds) (k .ifs)) _ _
@@ -151,41 +151,41 @@ module _ (bs : List ℕ) (t : Target) (ds : List ℕ) where
       (of-unless (leb (t .side) 1) _ _
       (of-unless (eqb (firstOdd ds) (length ds)) _ (translates h a k) e)))
 
-  of-admission : Of (admission bs t ds)
-  unfolding admission
+  of-admission : Of (claimAdmission bs t ds)
+  unfolding claimAdmission
   of-admission = of-routine (decode bs) refl
 
   -- the routine of an admitted claim, and its range
-  pub admitted-range : (h : Header) (a : Arm) (k : Counts) → admission bs t ds ≡ translates h a k → (decode bs ≡ routine h a k) × InRange t ds k
-  unfolding admission
+  pub admitted-range : (h : Header) (a : Arm) (k : Counts) → claimAdmission bs t ds ≡ translates h a k → (decode bs ≡ routine h a k) × InRange t ds k
+  unfolding claimAdmission
   admitted-range h a k e =
       let d : decode bs ≡ routine h a k = subst Of e of-admission in
-      (d, lead-range t ds h a k h (ap withoutTree (rw d at e)))
+      (d, lead-range t ds h a k h (ap claimWithoutTree (rw d at e)))
 
   -- a claim on a routine is admitted where 11 and 12 let it through
-  pub admission-by : (h : Header) (a : Arm) (k : Counts) → decode bs ≡ routine h a k → byLead t ds h a k ≡ translates h a k → admission bs t ds ≡ translates h a k
-  unfolding admission
+  pub admission-by : (h : Header) (a : Arm) (k : Counts) → decode bs ≡ routine h a k → byLead t ds h a k ≡ translates h a k → claimAdmission bs t ds ≡ translates h a k
+  unfolding claimAdmission
   admission-by h a k d e = rw d e
 
-  admits-by : (h : Header) (x : Admission) → admission bs t ds ≡ x → Of x → withoutTree x ≡ Admitted.Translates h → Admits bs t ds h
+  admits-by : (h : Header) (x : ClaimAdmission) → claimAdmission bs t ds ≡ x → Of x → claimWithoutTree x ≡ AdmittedClaim.Translates h → Admits bs t ds h
   admits-by h (refused refusal) e o q = let z : _≡_ {A = ℕ} 0 1 = cc in absurd (omega arith)
   admits-by h (translates h₁ a k) e o q =
       let x : h₁ ≡ h = cc in
       rw (← x) (record { commands = a; counts = k; decodes = o; admits = e })
 
-  pub admits : (r : Admitted) → r ≡ admitted bs t ds → (h : Header) → r ≡ Admitted.Translates h → Admits bs t ds h
-  unfolding admitted
-  admits r is h e = admits-by h (admission bs t ds) refl of-admission (sym is ∙ e)
+  pub admits : (r : AdmittedClaim) → r ≡ claimAdmitted bs t ds → (h : Header) → r ≡ AdmittedClaim.Translates h → Admits bs t ds h
+  unfolding claimAdmitted
+  admits r is h e = admits-by h (claimAdmission bs t ds) refl of-admission (sym is ∙ e)
 
-  pub is-routine-by : (r : Admitted) → r ≡ admitted bs t ds → (h : Header) → r ≡ Admitted.Translates h → IsRoutine bs h
+  pub is-routine-by : (r : AdmittedClaim) → r ≡ claimAdmitted bs t ds → (h : Header) → r ≡ AdmittedClaim.Translates h → IsRoutine bs h
   is-routine-by r is h e =
       let x = admits r is h e in
       record { commands = x .commands; counts = x .counts; decodes = x .decodes }
 
-  pub refused-with : (r : Admitted) → r ≡ admitted bs t ds → (refusal : Refusal) → r ≡ Admitted.Refused refusal → admission bs t ds ≡ refused refusal
-  unfolding admitted
-  refused-with r is refusal e = go (admission bs t ds) (sym is ∙ e)
+  pub refused-with : (r : AdmittedClaim) → r ≡ claimAdmitted bs t ds → (refusal : Refusal) → r ≡ AdmittedClaim.Refused refusal → claimAdmission bs t ds ≡ refused refusal
+  unfolding claimAdmitted
+  refused-with r is refusal e = go (claimAdmission bs t ds) (sym is ∙ e)
     where
-      go : (x : Admission) → withoutTree x ≡ Admitted.Refused refusal → x ≡ refused refusal
+      go : (x : ClaimAdmission) → claimWithoutTree x ≡ AdmittedClaim.Refused refusal → x ≡ refused refusal
       go (refused refusal₁) q = cc
       go (translates h a k) q = let z : _≡_ {A = ℕ} 0 1 = cc in absurd (omega arith)

@@ -13,23 +13,23 @@ use Rattle.routine.specs.Routine.{Arm, done}
 use Rattle.routine.specs.Decode.{Decoded, rejected, routine, decode}
 use Rattle.lead.specs.declared.Target.{Target}
 use Rattle.lead.specs.declared.Refusal.{Refusal}
-use Rattle.lead.specs.declared.Admitted.{Admitted}
+use Rattle.lead.specs.declared.AdmittedClaim.{AdmittedClaim}
 
 -- the named access and side
 abbrev pub targetOf : (access side : ℕ) → Target
 targetOf access side = record { access = access; side = side }
 
 -- whether there is a claim to translate: the refusal, or the routine
-pub data Admission : Type 0 where
-  refused : Refusal → Admission
-  translates : Header → Arm → Counts → Admission
+pub data ClaimAdmission : Type 0 where
+  refused : Refusal → ClaimAdmission
+  translates : Header → Arm → Counts → ClaimAdmission
 
 -- the number of the first decision above 2, or how many there are
 unfoldable pub firstOdd : List ℕ → ℕ
 firstOdd ds = firstBad (λ i. leb (entry ds i) 2) 1 (length ds) 0
 
 -- 11, then 12: the access at offset 0, the side at 1, the decision of if n at 2 + n
-abbrev pub byLead : Target → (ds : List ℕ) → Header → Arm → Counts → Admission
+abbrev pub byLead : Target → (ds : List ℕ) → Header → Arm → Counts → ClaimAdmission
 byLead t ds h a k =
     unless (eqb (length ds) (k .ifs)) (refused (Refusal.DecisionCount (length ds)))
     (unless (ltb (t .access) (accesses k)) (refused (Refusal.OutOfRange 0))
@@ -38,21 +38,21 @@ byLead t ds h a k =
     (translates h a k))))
 
 -- 1 to 8, then 11 and 12
-abbrev pub byRoutine : Target → (ds : List ℕ) → Decoded → Admission
-byRoutine t ds (rejected refusal) = refused (Refusal.Routine refusal)
-byRoutine t ds (routine h a k) = byLead t ds h a k
+abbrev pub claimByRoutine : Target → (ds : List ℕ) → Decoded → ClaimAdmission
+claimByRoutine t ds (rejected refusal) = refused (Refusal.Routine refusal)
+claimByRoutine t ds (routine h a k) = byLead t ds h a k
 
 -- whether there is a claim to translate
-unfoldable pub admission : (bs : List ℕ) → Target → (ds : List ℕ) → Admission
+unfoldable pub claimAdmission : (bs : List ℕ) → Target → (ds : List ℕ) → ClaimAdmission
 unfolding unless
-admission bs t ds = byRoutine t ds (decode bs)
+claimAdmission bs t ds = claimByRoutine t ds (decode bs)
 
 -- the same without the tree
-abbrev pub withoutTree : Admission → Admitted
-withoutTree (refused refusal) = Admitted.Refused refusal
-withoutTree (translates h a k) = Admitted.Translates h
+abbrev pub claimWithoutTree : ClaimAdmission → AdmittedClaim
+claimWithoutTree (refused refusal) = AdmittedClaim.Refused refusal
+claimWithoutTree (translates h a k) = AdmittedClaim.Translates h
 
 -- what 11 and 12 say to a routine with these counts
-unfoldable pub admittedLead : Target → (ds : List ℕ) → Header → Counts → Admitted
+unfoldable pub admittedLead : Target → (ds : List ℕ) → Header → Counts → AdmittedClaim
 unfolding unless
-admittedLead t ds h k = withoutTree (byLead t ds h done k)
+admittedLead t ds h k = claimWithoutTree (byLead t ds h done k)

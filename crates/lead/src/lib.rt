@@ -7,7 +7,7 @@ use routine_header::Header;
 use slices::wide;
 ghost use mathlib.Core.Path.{_≡_};
 ghost use Rattle.lead.specs.Lead.{firstOdd, admittedLead};
-ghost use Rattle.lead.specs.Inner.Admitted.{admitted};
+ghost use Rattle.lead.specs.Inner.Admitted.{claimAdmitted};
 
 // What a claim names: an access, and a side (0 below, 1 above).
 pub struct Target {
@@ -25,7 +25,7 @@ pub enum Refusal {
 }
 
 // Whether there is such a claim.
-pub enum Admitted {
+pub enum AdmittedClaim {
     Refused(Refusal),
     Translates(Header),
 }
@@ -47,31 +47,31 @@ fn odd_decision(decisions: &[u8]) -> usize
 }
 
 // 11, then 12, for a routine with these counts.
-pub fn admit_lead(h: Header, k: Counts, t: Target, decisions: &[u8]) -> Admitted
+pub fn admit_lead(h: Header, k: Counts, t: Target, decisions: &[u8]) -> AdmittedClaim
     ensures { λ r. ⌜ r ≡ admittedLead t (now (decisions .entry)) h k ⌝ }
 {
     if decisions.len() != k.ifs as usize {
-        return Admitted::Refused(Refusal::DecisionCount(decisions.len()));
+        return AdmittedClaim::Refused(Refusal::DecisionCount(decisions.len()));
     }
     if accesses_of(k) <= wide(t.access) {
-        return Admitted::Refused(Refusal::OutOfRange(0));
+        return AdmittedClaim::Refused(Refusal::OutOfRange(0));
     }
     if 1 < t.side {
-        return Admitted::Refused(Refusal::OutOfRange(1));
+        return AdmittedClaim::Refused(Refusal::OutOfRange(1));
     }
     let odd = odd_decision(decisions);
     if odd != decisions.len() {
-        return Admitted::Refused(Refusal::OutOfRange(2 + odd));
+        return AdmittedClaim::Refused(Refusal::OutOfRange(2 + odd));
     }
-    Admitted::Translates(h)
+    AdmittedClaim::Translates(h)
 }
 
 // Whether there is a claim to translate.
-pub fn admit(routine: &[u8], t: Target, decisions: &[u8]) -> Admitted
-    ensures { λ r. ⌜ r ≡ admitted (now (routine .entry)) t (now (decisions .entry)) ⌝ }
+pub fn admit(routine: &[u8], t: Target, decisions: &[u8]) -> AdmittedClaim
+    ensures { λ r. ⌜ r ≡ claimAdmitted (now (routine .entry)) t (now (decisions .entry)) ⌝ }
 {
     match routine::check(routine) {
-        Checked::Refused(refusal) => Admitted::Refused(Refusal::Routine(refusal)),
+        Checked::Refused(refusal) => AdmittedClaim::Refused(Refusal::Routine(refusal)),
         Checked::Accepted { header, counts } => admit_lead(header, counts, t, decisions),
     }
 }

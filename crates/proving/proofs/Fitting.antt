@@ -15,13 +15,13 @@ use Rattle.routine_header.specs.declared.Header.{Header}
 use Rattle.routine_faults.specs.declared.Counts.{Counts}
 use Rattle.routine.specs.Routine.{Arm}
 use Rattle.routine.specs.Decode.{routine, decode}
-use Rattle.routine.specs.Inner.Known.{Counted}
+use Rattle.routine.specs.Inner.Known.{IsRoutineWith}
 use Rattle.cnf.specs.Clause.{Clause, flatten, offsets}
-use Rattle.translation_command.specs.Command.{Stretch}
+use Rattle.translation_command.specs.Command.{Encoding}
 use Rattle.lead.specs.declared.Target.{Target}
-use Rattle.translation.specs.Answer as answer
+use Rattle.translation.specs.Answer.{TranslationAnswer, fitted}
 use Rattle.translation.specs.Inner.Fitted.{Fitted}
-use Rattle.translation_meaning.specs.Translation.{whole, clausesOfAll, sizeOf}
+use Rattle.translation_meaning.specs.Translation.{translationOf, clausesOfAll, translationSize}
 use Rattle.translation.specs.declared.Refusal as translating
 use Rattle.translation_meaning.specs.declared.Size.{Size}
 use Rattle.translation.specs.declared.Translated.{Translated}
@@ -60,68 +60,68 @@ module _ (w s m m₁ r : List ℕ) (from count used : ℕ) (zeros : m₁ ≡ rep
 -- ---- the translation
 
 -- what was made: of this size, in buffers that have room for it
-pub record Made (words starts words₁ starts₁ : List ℕ) (size : Size) (x : Stretch) : Type 0 where
-  pub sized : size ≡ sizeOf x
-  pub words-room : sizeOf x .words ≤ length words
-  pub starts-room : sizeOf x .clauses ≤ length starts
+pub record Made (words starts words₁ starts₁ : List ℕ) (size : Size) (x : Encoding) : Type 0 where
+  pub sized : size ≡ translationSize x
+  pub words-room : translationSize x .words ≤ length words
+  pub starts-room : translationSize x .clauses ≤ length starts
   pub words-are : words₁ ≡ sets words 0 (flatten (clausesOfAll x))
   pub starts-are : starts₁ ≡ sets starts 0 (offsets 0 (clausesOfAll x))
 
-module _ (words starts words₁ starts₁ : List ℕ) (short : length words ≤ 16777216) (few : length starts ≤ 16777216) (z : Translated) (x : Stretch)
-    (e : _≡_ {A = answer.Answer} (record { translated = z; words = words₁; starts = starts₁ }) (answer.fitted words starts x)) where
-  abbrev by : (b c : Bool) → answer.Answer
+module _ (words starts words₁ starts₁ : List ℕ) (short : length words ≤ 16777216) (few : length starts ≤ 16777216) (z : Translated) (x : Encoding)
+    (e : _≡_ {A = TranslationAnswer} (record { translated = z; words = words₁; starts = starts₁ }) (fitted words starts x)) where
+  abbrev by : (b c : Bool) → TranslationAnswer
   by b c =
       cond b
       (cond c
-      (record { translated = Translated.Made (sizeOf x); words = sets words 0 (flatten (clausesOfAll x)); starts = sets starts 0 (offsets 0 (clausesOfAll x)) })
+      (record { translated = Translated.Made (translationSize x); words = sets words 0 (flatten (clausesOfAll x)); starts = sets starts 0 (offsets 0 (clausesOfAll x)) })
       (record { translated = Translated.Refused (translating.Refusal.TooSmall Buffer.Starts); words = words; starts = starts }))
       (record { translated = Translated.Refused (translating.Refusal.TooSmall Buffer.Words); words = words; starts = starts })
 
-  made-by : (size : Size) → z ≡ Translated.Made size → (b c : Bool) → leb (sizeOf x .words) (usable words) ≡ b → leb (sizeOf x .clauses) (usable starts) ≡ c
-      → _≡_ {A = answer.Answer} (record { translated = z; words = words₁; starts = starts₁ }) (by b c) → Made words starts words₁ starts₁ size x
+  made-by : (size : Size) → z ≡ Translated.Made size → (b c : Bool) → leb (translationSize x .words) (usable words) ≡ b → leb (translationSize x .clauses) (usable starts) ≡ c
+      → _≡_ {A = TranslationAnswer} (record { translated = z; words = words₁; starts = starts₁ }) (by b c) → Made words starts words₁ starts₁ size x
   made-by size is true true p q f =
-      let y : Translated.Made size ≡ Translated.Made (sizeOf x) = sym is ∙ ap (λ (v : answer.Answer). v .translated) f in
+      let y : Translated.Made size ≡ Translated.Made (translationSize x) = sym is ∙ ap (λ (v : TranslationAnswer). v .translated) f in
       record {
         sized = cc;
-        words-room = rw (used-whole words short) at (leb-true (sizeOf x .words) (usable words) p);
-        starts-room = rw (used-whole starts few) at (leb-true (sizeOf x .clauses) (usable starts) q);
-        words-are = ap (λ (v : answer.Answer). v .words) f;
-        starts-are = ap (λ (v : answer.Answer). v .starts) f;
+        words-room = rw (used-whole words short) at (leb-true (translationSize x .words) (usable words) p);
+        starts-room = rw (used-whole starts few) at (leb-true (translationSize x .clauses) (usable starts) q);
+        words-are = ap (λ (v : TranslationAnswer). v .words) f;
+        starts-are = ap (λ (v : TranslationAnswer). v .starts) f;
       }
   made-by size is true false p q f =
-      let y : Translated.Made size ≡ Translated.Refused (translating.Refusal.TooSmall Buffer.Starts) = sym is ∙ ap (λ (v : answer.Answer). v .translated) f in
+      let y : Translated.Made size ≡ Translated.Refused (translating.Refusal.TooSmall Buffer.Starts) = sym is ∙ ap (λ (v : TranslationAnswer). v .translated) f in
       let n : _≡_ {A = ℕ} 0 1 = cc in
       absurd (omega arith)
   made-by size is false c p q f =
-      let y : Translated.Made size ≡ Translated.Refused (translating.Refusal.TooSmall Buffer.Words) = sym is ∙ ap (λ (v : answer.Answer). v .translated) f in
+      let y : Translated.Made size ≡ Translated.Refused (translating.Refusal.TooSmall Buffer.Words) = sym is ∙ ap (λ (v : TranslationAnswer). v .translated) f in
       let n : _≡_ {A = ℕ} 0 1 = cc in
       absurd (omega arith)
 
   made : (size : Size) → z ≡ Translated.Made size → Made words starts words₁ starts₁ size x
-  made size is = made-by size is (leb (sizeOf x .words) (usable words)) (leb (sizeOf x .clauses) (usable starts)) refl refl e
+  made size is = made-by size is (leb (translationSize x .words) (usable words)) (leb (translationSize x .clauses) (usable starts)) refl refl e
 
   -- what was not made has no room in words, or in starts
   refused-by : (r : List ℕ) (from : ℕ) (m : Room) (h : Header) (k : Counts) → m .words ≡ length words → m .starts ≡ length starts
-      → (refusal : translating.Refusal) → z ≡ Translated.Refused refusal → (b c : Bool) → leb (sizeOf x .words) (usable words) ≡ b → leb (sizeOf x .clauses) (usable starts) ≡ c
-      → _≡_ {A = answer.Answer} (record { translated = z; words = words₁; starts = starts₁ }) (by b c) → Proved.Refused (byTranslation refusal) ≡ provedBy r from m h k x
+      → (refusal : translating.Refusal) → z ≡ Translated.Refused refusal → (b c : Bool) → leb (translationSize x .words) (usable words) ≡ b → leb (translationSize x .clauses) (usable starts) ≡ c
+      → _≡_ {A = TranslationAnswer} (record { translated = z; words = words₁; starts = starts₁ }) (by b c) → Proved.Refused (byTranslation refusal) ≡ provedBy r from m h k x
   unfolding provedBy
   refused-by r from m h k mw ms refusal is true true p q f =
-      let y : Translated.Refused refusal ≡ Translated.Made (sizeOf x) = sym is ∙ ap (λ (v : answer.Answer). v .translated) f in
+      let y : Translated.Refused refusal ≡ Translated.Made (translationSize x) = sym is ∙ ap (λ (v : TranslationAnswer). v .translated) f in
       let n : _≡_ {A = ℕ} 0 1 = cc in
       absurd (omega arith)
   refused-by r from m h k mw ms refusal is true false p q f =
-      let y : Translated.Refused refusal ≡ Translated.Refused (translating.Refusal.TooSmall Buffer.Starts) = sym is ∙ ap (λ (v : answer.Answer). v .translated) f in
+      let y : Translated.Refused refusal ≡ Translated.Refused (translating.Refusal.TooSmall Buffer.Starts) = sym is ∙ ap (λ (v : TranslationAnswer). v .translated) f in
       let n : refusal ≡ translating.Refusal.TooSmall Buffer.Starts = cc in
       rw (n, mw, ms, ← used-whole words short, ← used-whole starts few, p, q) refl
   refused-by r from m h k mw ms refusal is false c p q f =
-      let y : Translated.Refused refusal ≡ Translated.Refused (translating.Refusal.TooSmall Buffer.Words) = sym is ∙ ap (λ (v : answer.Answer). v .translated) f in
+      let y : Translated.Refused refusal ≡ Translated.Refused (translating.Refusal.TooSmall Buffer.Words) = sym is ∙ ap (λ (v : TranslationAnswer). v .translated) f in
       let n : refusal ≡ translating.Refusal.TooSmall Buffer.Words = cc in
       rw (n, mw, ← used-whole words short, p) refl
 
   not-made : (r : List ℕ) (from : ℕ) (m : Room) (h : Header) (k : Counts) → m .words ≡ length words → m .starts ≡ length starts
       → (refusal : translating.Refusal) → z ≡ Translated.Refused refusal → Proved.Refused (byTranslation refusal) ≡ provedBy r from m h k x
   not-made r from m h k mw ms refusal is =
-      refused-by r from m h k mw ms refusal is (leb (sizeOf x .words) (usable words)) (leb (sizeOf x .clauses) (usable starts)) refl refl e
+      refused-by r from m h k mw ms refusal is (leb (translationSize x .words) (usable words)) (leb (translationSize x .clauses) (usable starts)) refl refl e
 
 -- ---- what `prove` answers
 
@@ -143,12 +143,12 @@ module _ (bs r : List ℕ) (h : Header) (k : Counts) (t : Target) (words starts 
   abbrev room : Room
   room = roomOf words starts marks values trail
 
-  abbrev Of : Arm → Stretch
-  Of a = whole bs t (decisionsIn r k) h a
+  abbrev Of : Arm → Encoding
+  Of a = translationOf bs t (decisionsIn r k) h a
 
   fitted-of : (a : Arm) → decode bs ≡ routine h a k
-      → _≡_ {A = answer.Answer} (record { translated = z; words = words₁; starts = starts₁ }) (answer.fitted words starts (Of a))
-  fitted-of a d = fit .tells a k d ∙ ap (λ (y : List ℕ). answer.fitted words starts (whole bs t y h a)) same
+      → _≡_ {A = TranslationAnswer} (record { translated = z; words = words₁; starts = starts₁ }) (fitted words starts (Of a))
+  fitted-of a d = fit .tells a k d ∙ ap (λ (y : List ℕ). fitted words starts (translationOf bs t y h a)) same
 
   pub prove-refused : (refusal : translating.Refusal) → z ≡ Translated.Refused refusal → (x : Refusal) → x ≡ byTranslation refusal
       → Proves bs r h k t room (Proved.Refused x)
@@ -161,7 +161,7 @@ module _ (bs r : List ℕ) (h : Header) (k : Counts) (t : Target) (words starts 
     of-made : (a : Arm) → decode bs ≡ routine h a k → Made words starts words₁ starts₁ size (Of a)
     of-made a d = made words starts words₁ starts₁ short few z (Of a) (fitted-of a d) size is
 
-    variables-are : (a : Arm) → decode bs ≡ routine h a k → size .variables ≡ sizeOf (Of a) .variables
+    variables-are : (a : Arm) → decode bs ≡ routine h a k → size .variables ≡ translationSize (Of a) .variables
     variables-are a d = ap (λ (y : Size). y .variables) (of-made a d .sized)
 
     -- the clauses that stand in the buffers
@@ -198,7 +198,7 @@ module _ (bs r : List ℕ) (h : Header) (k : Counts) (t : Target) (words starts 
         }
 
         -- the clauses are laid out as the check asks
-        pub prove-begins : Counted bs h k → proofAt h k ≤ length r → length r ≤ 16777216 → (from : ℕ) → from ≡ proofAt h k
+        pub prove-begins : IsRoutineWith bs h k → proofAt h k ≤ length r → length r ≤ 16777216 → (from : ℕ) → from ≡ proofAt h k
             → Begins words₁ starts₁ (replicate (length (take (size .variables + 1) marks)) 0) r from (size .clauses) (size .words)
         prove-begins i within limit from at =
             let a = i .commands in

@@ -12,12 +12,12 @@ use Rattle.routine.specs.Routine.{Arm}
 use Rattle.routine.specs.Decode.{routine, decode, noCounts}
 use Rattle.routine.proofs.Accepted.{decoded}
 use Rattle.cnf.specs.Clause.{Clause}
-use Rattle.netlist.specs.Node.{clausesOf}
+use Rattle.netlist.specs.Node.{netlistClauses}
 use Rattle.netlist.proofs.Formed.{before-opp}
 use Rattle.netlist.proofs.Within.{Within, AllWithin, within-append, nodes-within}
 use Rattle.translation_state.specs.declared.Claim.{Claim}
 use Rattle.lead.specs.declared.Target.{Target}
-use Rattle.translation_meaning.specs.Translation.{whole, lastClauses, clausesOfAll}
+use Rattle.translation_meaning.specs.Translation.{translationOf, lastClauses, clausesOfAll}
 use Rattle.translation_meaning.proofs.Formed.{whole-formed, whole-named}
 use Rattle.proof.proofs.Laying.{Proper}
 
@@ -37,21 +37,21 @@ proper g (c ∷ cs) w (suc i) j l m = proper g cs (w .1) i j (omega arith) m
 
 module _ (bs : List ℕ) (t : Target) (ds : List ℕ) (h : Header) (a : Arm) (k : Counts) (d : decode bs ≡ routine h a k) where
   abbrev n : ℕ
-  n = 1 + length (whole bs t ds h a .nodes)
+  n = 1 + length (translationOf bs t ds h a .nodes)
 
-  last-within : (c : Claim) → whole bs t ds h a .wires .claim ≡ c → AllWithin n (lastClauses c)
+  last-within : (c : Claim) → translationOf bs t ds h a .wires .claim ≡ c → AllWithin n (lastClauses c)
   last-within Claim.Open e = tt
   last-within (Claim.Made arrival side) e =
       let w = decoded bs h a k d in
       let p = whole-named bs h (fine bs h (w .header)) t ds a (firstCommand h) noCounts (length bs) k (w .stands) arrival side e in
       ((p .0, tt), ((before-opp (p .1), tt), tt))
 
-  pub whole-proper : Proper n (clausesOfAll (whole bs t ds h a))
+  pub whole-proper : Proper n (clausesOfAll (translationOf bs t ds h a))
   unfolding clausesOfAll
   whole-proper =
       let w = decoded bs h a k d in
-      proper n (clausesOf 1 (whole bs t ds h a .nodes) ++ lastClauses (whole bs t ds h a .wires .claim))
-      (within-append n (clausesOf 1 (whole bs t ds h a .nodes)) (lastClauses (whole bs t ds h a .wires .claim))
-      (nodes-within 1 n (omega arith) (whole bs t ds h a .nodes) (omega arith)
+      proper n (netlistClauses 1 (translationOf bs t ds h a .nodes) ++ lastClauses (translationOf bs t ds h a .wires .claim))
+      (within-append n (netlistClauses 1 (translationOf bs t ds h a .nodes)) (lastClauses (translationOf bs t ds h a .wires .claim))
+      (nodes-within 1 n (omega arith) (translationOf bs t ds h a .nodes) (omega arith)
       (whole-formed bs h (fine bs h (w .header)) t ds a (firstCommand h) noCounts (length bs) k (w .stands)))
-      (last-within (whole bs t ds h a .wires .claim) refl))
+      (last-within (translationOf bs t ds h a .wires .claim) refl))

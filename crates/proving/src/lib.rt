@@ -8,13 +8,13 @@ use slices::Buffer;
 use slices::zero_bytes;
 use step::Verdict;
 use translation::Translated;
-use translation::wholes::fit;
+use translation::fitting::fit;
 use translation_meaning::Size;
 use witness::leads::proof_at;
 ghost use mathlib.Core.Path.{_≡_};
 ghost use Prim.Native.Nat.{_≤_};
 ghost use lib.ListN.{length, replicate};
-ghost use Rattle.routine.specs.Inner.Known.{Counted};
+ghost use Rattle.routine.specs.Inner.Known.{IsRoutineWith};
 ghost use Rattle.proof.specs.Inner.Begins.{Begins};
 ghost use Rattle.progress.specs.Lent.{limitsOf};
 ghost use Rattle.progress.specs.Check.{checkProof};
@@ -93,7 +93,7 @@ pub fn prove(
     values: usize,
     trail: usize,
 ) -> Proved
-    requires { ⌜ Counted (now routine) h k × (proofAt h k ≤ length (now report)) × (length (now report) ≤ 16777216) × (length (now words) ≤ 16777216) × (length (now starts) ≤ 16777216) ⌝ }
+    requires { ⌜ IsRoutineWith (now routine) h k × (proofAt h k ≤ length (now report)) × (length (now report) ≤ 16777216) × (length (now words) ≤ 16777216) × (length (now starts) ≤ 16777216) ⌝ }
     ensures { λ r. ⌜ Proves (now (routine .entry)) (now (report .entry)) h k t (roomOf (now (words .entry)) (now (starts .entry)) (now (marks .entry)) values trail) r ⌝ }
 {
     let end = 2 + k.ifs as usize;

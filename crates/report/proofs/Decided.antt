@@ -8,7 +8,7 @@ use Rattle.routine_header.specs.declared.Header.{Header}
 use Rattle.routine_faults.specs.declared.Counts.{Counts}
 use Rattle.routine.specs.Routine.{Arm}
 use Rattle.routine.specs.Decode.{routine, decode, commandsIn, checked}
-use Rattle.routine.specs.Inner.Known.{Counted}
+use Rattle.routine.specs.Inner.Known.{IsRoutineWith}
 use Rattle.routine.specs.declared.Checked.{Checked}
 use Rattle.routine.specs.declared.Refusal as declared
 use Rattle.routine.proofs.Accepted.{accepted, refused-by, commands-are}
@@ -31,7 +31,7 @@ use Rattle.judgement.specs.declared.Judged.{Judged}
 -- ---- what `check` of routine answered
 
 module _ (bs : List ℕ) (h : Header) (k : Counts) (x : Checked) (is : x ≡ checked bs) (e : x ≡ Checked.Accepted h k) where
-  pub counted : Counted bs h k
+  pub counted : IsRoutineWith bs h k
   counted = let y = accepted bs h k x is e in record { commands = y .arm; decodes = y .decodes }
 
 -- ---- the witness, then the proof
@@ -52,7 +52,7 @@ module _ (bs r : List ℕ) (h : Header) (k : Counts) (m : Room) (w : Witness) (s
 
 -- a report whose witness stands is long enough for its lead, and not too long
 module _ (bs r : List ℕ) (h : Header) (k : Counts) (w : Witness) (said : w ≡ witnessOf bs r h (commandsIn bs) k) (t : Target) (array : ℕ) (index : Whole)
-    (e : w ≡ Witness.Stands t array index) (i : Counted bs h k) where
+    (e : w ≡ Witness.Stands t array index) (i : IsRoutineWith bs h k) where
   let-through : Lets r h k t
   let-through = lets r h k t _ (sym (stood bs r h (i .commands) k t array index (sym (witnessed bs r h (i .commands) k w said (i .decodes)) ∙ e) .opens)) refl
 

@@ -14,7 +14,7 @@ use witness::run_witness;
 ghost use mathlib.Core.Path.{_≡_};
 ghost use Prim.Native.Nat.{_≤_};
 ghost use lib.ListN.{length};
-ghost use Rattle.routine.specs.Inner.Known.{Counted};
+ghost use Rattle.routine.specs.Inner.Known.{IsRoutineWith};
 ghost use Rattle.proving.specs.Inner.Parts.{roomOf};
 ghost use Rattle.judgement.specs.Judging.{byProof, judgement};
 ghost use Rattle.report.specs.Inner.Parts.{Claims};
@@ -49,7 +49,7 @@ fn decide_claim(
     values: usize,
     trail: usize,
 ) -> Judged
-    requires { ⌜ Counted (now routine) h k × (length (now words) ≤ 16777216) × (length (now starts) ≤ 16777216) ⌝ }
+    requires { ⌜ IsRoutineWith (now routine) h k × (length (now words) ≤ 16777216) × (length (now starts) ≤ 16777216) ⌝ }
     ensures { λ r. ⌜ Claims (now (routine .entry)) (now (report .entry)) h k (roomOf (now (words .entry)) (now (starts .entry)) (now (marks .entry)) values trail) r ⌝ }
 {
     match run_witness(routine, report, h, k) {

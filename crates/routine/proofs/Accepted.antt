@@ -10,7 +10,7 @@ use borrow.Author.Tests.{eqb-true, leb-true}
 use Rattle.slices.specs.Guard.{unless}
 use Rattle.routine_header.specs.Header.{headerOf, firstCommand}
 use Rattle.routine.specs.Routine.{Arm, Parsed, refused, parsed, arm}
-use Rattle.routine.specs.Decode.{Decoded, rejected, routine, noCounts, decodeArm, decodeHead, decode, commandsOf, commandsIn, answer, checked}
+use Rattle.routine.specs.Decode.{Decoded, rejected, routine, noCounts, decodeArm, decodeHead, decode, commandsOf, commandsIn, checkAnswer, checked}
 use Rattle.routine.specs.Inner.Stands.{Stands}
 use Rattle.routine_header.specs.declared.Header.{Header}
 use Rattle.routine_header.specs.declared.Head.{Head}
@@ -62,7 +62,7 @@ module _ (bs : List ℕ) where
     pub arm : Arm
     pub decodes : decode bs ≡ routine h arm k
 
-  of-answer : (h : Header) (k : Counts) (d : Decoded) → decode bs ≡ d → answer d ≡ Checked.Accepted h k → Accepted h k
+  of-answer : (h : Header) (k : Counts) (d : Decoded) → decode bs ≡ d → checkAnswer d ≡ Checked.Accepted h k → Accepted h k
   of-answer h k (rejected refusal) e f = let z : _≡_ {A = ℕ} 0 1 = cc in absurd (omega arith)
   of-answer h k (routine h₁ a k₁) e f =
       let x : h₁ ≡ h = cc in
@@ -74,7 +74,7 @@ module _ (bs : List ℕ) where
   accepted h k r e f = of-answer h k (decode bs) refl (sym e ∙ f)
 
   -- what `check` refused was rejected
-  of-refused : (refusal : Refusal) (d : Decoded) → answer d ≡ Checked.Refused refusal → d ≡ rejected refusal
+  of-refused : (refusal : Refusal) (d : Decoded) → checkAnswer d ≡ Checked.Refused refusal → d ≡ rejected refusal
   of-refused refusal (rejected refusal₁) f = cc
   of-refused refusal (routine h a k) f = let z : _≡_ {A = ℕ} 0 1 = cc in absurd (omega arith)
 

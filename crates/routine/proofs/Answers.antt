@@ -9,7 +9,7 @@ use Rattle.slices.specs.Guard.{unless}
 use Rattle.routine_header.specs.Header.{firstCommand}
 use Rattle.routine.specs.Routine.{Arm, Parsed, refused, parsed, arm}
 use Rattle.routine.specs.Inner.Walk.{walked, walkArm}
-use Rattle.routine.specs.Decode.{Decoded, rejected, routine, noCounts, decodeArm, answer}
+use Rattle.routine.specs.Decode.{Decoded, rejected, routine, noCounts, decodeArm, checkAnswer}
 use Rattle.routine.specs.Inner.Known.{checkedCommands}
 use Rattle.routine_header.specs.declared.Header.{Header}
 use Rattle.routine_faults.specs.declared.Counts.{Counts}
@@ -22,12 +22,12 @@ abbrev pub commandsBy : ℕ → Header → Walked → Checked
 commandsBy n h (Walked.Refused fault place) = Checked.Refused (Refusal.Command fault place)
 commandsBy n h (Walked.Ended end k) = unless (eqb end n) (Checked.Refused (Refusal.Trailing end)) (Checked.Accepted h k)
 
-answer-unless : (b : Bool) (x y : Decoded) → answer (unless b x y) ≡ unless b (answer x) (answer y)
+answer-unless : (b : Bool) (x y : Decoded) → checkAnswer (unless b x y) ≡ unless b (checkAnswer x) (checkAnswer y)
 unfolding unless
 answer-unless true x y = refl
 answer-unless false x y = refl
 
-answer-arm : (bs : List ℕ) (h : Header) (p : Parsed Arm) → answer (decodeArm bs h p) ≡ commandsBy (length bs) h (walked p)
+answer-arm : (bs : List ℕ) (h : Header) (p : Parsed Arm) → checkAnswer (decodeArm bs h p) ≡ commandsBy (length bs) h (walked p)
 answer-arm bs h (refused fault place) = refl
 answer-arm bs h (parsed a end k) = answer-unless (eqb end (length bs)) (rejected (Refusal.Trailing end)) (routine h a k)
 

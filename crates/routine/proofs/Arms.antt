@@ -8,10 +8,10 @@ use lib.ListN.{length}
 use lib.Dec.{leb, ltb, eqb}
 use borrow.Author.Tests.{leb-true, ltb-true, not-true, eq-eqb, ne-eqb}
 use Rattle.slices.specs.Guard.{unless}
-use Rattle.routine_command.specs.Command.{sizeOf, sizeOfSimple, commandOf, commandAt}
+use Rattle.routine_command.specs.Command.{commandSize, simpleSize, commandOf, commandAt}
 use Rattle.routine_header.specs.Header.{width}
-use Rattle.routine_faults.specs.Step.{Step, faulty, closing, simpleThen, ifThen, inRange, widthsFit, tooMany, after, simpleStep, oneIf, conditionInRange, ifStep, stepOf}
-use Rattle.routine.specs.Routine.{Parsed, refused, parsed, plain, fork, andThen, Reader, ifArms, armStep, stepAt, armBy, arm}
+use Rattle.routine_faults.specs.Step.{Step, faulty, closing, simpleThen, ifThen, inRange, widthsFit, tooMany, countsAfter, simpleStep, countsAfterIf, conditionInRange, ifStep, stepOf}
+use Rattle.routine.specs.Routine.{Parsed, refused, parsed, plain, ifElse, readOn, ArmReader, ifArms, armStep, stepAt, armBy, arm}
 use Rattle.routine.specs.Inner.Walk.{walked, walkArm, walkIf}
 use Rattle.routine_faults.specs.Inner.Sound.{Sound, SoundIf}
 use Rattle.routine_header.specs.declared.Header.{Header}
@@ -20,22 +20,22 @@ use Rattle.routine_faults.specs.declared.Counts.{Counts}
 use Rattle.routine_command.specs.declared.Simple.{Simple}
 use Rattle.routine_command.specs.declared.Command.{Command}
 use Rattle.routine_faults.specs.declared.Fault.{Fault}
-use Rattle.routine_faults.specs.declared.Verdict.{Verdict}
-use Rattle.routine_faults.specs.Inner.Verdict.{verdictOf}
+use Rattle.routine_faults.specs.declared.Flaw.{Flaw}
+use Rattle.routine_faults.specs.Inner.Flaw.{flawOf}
 use Rattle.routine.specs.declared.Walked.{Walked}
 use Rattle.routine_command.proofs.Sizes.{size-pos, simple-size}
 
 -- ---- a command that stands at an offset is whole
 
 abbrev Room : List ℕ → ℕ → Command → Type 0
-Room bs at c = (c ≡ Command.Missing → ⊥) → at + sizeOf c ≤ length bs
+Room bs at c = (c ≡ Command.Missing → ⊥) → at + commandSize c ≤ length bs
 
 room : (bs : List ℕ) (at : ℕ) → Room bs at (commandAt bs at)
 unfolding commandAt
-room bs at = go (leb (sizeOf (commandOf bs at)) (length bs - at)) refl
+room bs at = go (leb (commandSize (commandOf bs at)) (length bs - at)) refl
   where
-    go : (b : Bool) → leb (sizeOf (commandOf bs at)) (length bs - at) ≡ b → Room bs at (cond b (commandOf bs at) Command.Missing)
-    go true e = λ f. omega (arith, leb-true (sizeOf (commandOf bs at)) (length bs - at) e, size-pos (commandOf bs at))
+    go : (b : Bool) → leb (commandSize (commandOf bs at)) (length bs - at) ≡ b → Room bs at (cond b (commandOf bs at) Command.Missing)
+    go true e = λ f. omega (arith, leb-true (commandSize (commandOf bs at)) (length bs - at) e, size-pos (commandOf bs at))
     go false e = λ f. absurd (f refl)
 
 -- ---- what a step says of its command
@@ -44,12 +44,12 @@ pub record PlainOf (bs : List ℕ) (h : Header) (k : Counts) (c : Command) (d : 
   pub command : c ≡ Command.Simple d
   pub sound : Sound bs h d
   pub few : tooMany d k ≡ false
-  pub counts : k₁ ≡ after d k
+  pub counts : k₁ ≡ countsAfter d k
 
 pub record ForkOf (bs : List ℕ) (h : Header) (depth : ℕ) (k : Counts) (c : Command) (d : Condition) (k₁ : Counts) : Type 0 where
   pub command : c ≡ Command.If d
   pub sound : SoundIf bs h d
-  pub counts : k₁ ≡ oneIf k
+  pub counts : k₁ ≡ countsAfterIf k
   pub shallow : depth < 8
   pub few : k .ifs < 32
 
@@ -71,7 +71,7 @@ module _ (bs : List ℕ) (h : Header) (depth : ℕ) (k : Counts) where
       of-unless (Command.If d) (conditionInRange h d) Fault.Operand _ (λ r.
       of-unless (Command.If d) (eqb (width bs (d .s)) (width bs (d .t))) Fault.Widths _ (λ w.
       of-unless (Command.If d) (ltb depth 8) Fault.Misplaced _ (λ l.
-      of-unless (Command.If d) (ltb (k .ifs) 32) Fault.TooMany (ifThen d (oneIf k)) (λ f.
+      of-unless (Command.If d) (ltb (k .ifs) 32) Fault.TooMany (ifThen d (countsAfterIf k)) (λ f.
       record { command = refl; sound = record { ranges = r; widths = w }; counts = refl; shallow = ltb-true _ _ l; few = ltb-true _ _ f }))))
 
   of-simple : (d : Simple) → Of (Command.Simple d) (simpleStep bs h d k)
@@ -79,7 +79,7 @@ module _ (bs : List ℕ) (h : Header) (depth : ℕ) (k : Counts) where
   of-simple d =
       of-unless (Command.Simple d) (inRange bs h d) Fault.Operand _ (λ r.
       of-unless (Command.Simple d) (widthsFit bs d) Fault.Widths _ (λ w.
-      of-unless (Command.Simple d) (not (tooMany d k)) Fault.TooMany (simpleThen d (after d k)) (λ f.
+      of-unless (Command.Simple d) (not (tooMany d k)) Fault.TooMany (simpleThen d (countsAfter d k)) (λ f.
       record { command = refl; sound = record { ranges = r; widths = w }; few = not-true _ f; counts = refl })))
 
   pub of-step : (close : ℕ) (c : Command) → Of c (stepOf bs h depth close c k)
@@ -95,7 +95,7 @@ module _ (bs : List ℕ) where
   abbrev pub Fits : (depth at : ℕ) → Step → Type 0
   Fits depth at (faulty fault) = Unit {0}
   Fits depth at closing = at + 1 ≤ length bs
-  Fits depth at (simpleThen c k) = at + sizeOfSimple c ≤ length bs
+  Fits depth at (simpleThen c k) = at + simpleSize c ≤ length bs
   Fits depth at (ifThen c k) = (at + 4 ≤ length bs) × (depth < 8)
 
   fits-of : (h : Header) (depth at : ℕ) (k : Counts) (c : Command) (s : Step) → Room bs at c → Of bs h depth k c s → Fits depth at s
@@ -114,24 +114,24 @@ module _ (bs : List ℕ) where
   Ahead at (parsed a end k) = (at < end) × (end ≤ length bs)
 
   ahead-then : {A B : Type 0} (at at₁ : ℕ) (p : Parsed A) (f : A → ℕ → Counts → Parsed B) → Ahead at₁ p
-      → ((a : A) (end : ℕ) (k : Counts) → at₁ < end → end ≤ length bs → Ahead at (f a end k)) → Ahead at (andThen p f)
+      → ((a : A) (end : ℕ) (k : Counts) → at₁ < end → end ≤ length bs → Ahead at (f a end k)) → Ahead at (readOn p f)
   ahead-then at at₁ (refused fault place) f p q = tt
   ahead-then at at₁ (parsed a end k) f p q = q a end k (p .0) (p .1)
 
-  abbrev pub AheadBy : Reader → Type 0
+  abbrev pub AheadBy : ArmReader → Type 0
   AheadBy read = (depth close at : ℕ) (k : Counts) → Ahead at (read depth close at k)
 
-  pub ahead-if : (read : Reader) → AheadBy read → (depth at : ℕ) (k : Counts) → Ahead (at + 4) (ifArms read depth at k)
+  pub ahead-if : (read : ArmReader) → AheadBy read → (depth at : ℕ) (k : Counts) → Ahead (at + 4) (ifArms read depth at k)
   ahead-if read go depth at k =
       ahead-then (at + 4) (at + 4) (read (depth + 1) 12 (at + 4) k) _ (go (depth + 1) 12 (at + 4) k) (λ first at₁ k₁ l₁ h₁.
       ahead-then (at + 4) at₁ (read (depth + 1) 13 at₁ k₁) _ (go (depth + 1) 13 at₁ k₁) (λ second at₂ k₂ l₂ h₂.
       (omega arith, h₂)))
 
-  ahead-step : (read : Reader) → AheadBy read → (depth close at : ℕ) (k : Counts) (s : Step) → Fits depth at s → Ahead at (armStep read depth close at k s)
+  ahead-step : (read : ArmReader) → AheadBy read → (depth close at : ℕ) (k : Counts) (s : Step) → Fits depth at s → Ahead at (armStep read depth close at k s)
   ahead-step read go depth close at k (faulty fault) f = tt
   ahead-step read go depth close at k closing f = (omega arith, f)
   ahead-step read go depth close at k (simpleThen c k₁) f =
-      ahead-then at (at + sizeOfSimple c) (read depth close (at + sizeOfSimple c) k₁) _ (go depth close (at + sizeOfSimple c) k₁) (λ rest end k₂ l u.
+      ahead-then at (at + simpleSize c) (read depth close (at + simpleSize c) k₁) _ (go depth close (at + simpleSize c) k₁) (λ rest end k₂ l u.
       (omega arith, u))
   ahead-step read go depth close at k (ifThen c k₁) f =
       ahead-then at (at + 4) (ifArms read depth at k₁) _ (ahead-if read go depth at k₁) (λ arms at₂ k₂ l₂ u₂.
@@ -149,29 +149,29 @@ module _ (bs : List ℕ) where
   -- ---- readers that agree ahead of an offset find the same there
 
   agree-then : {A B : Type 0} (at : ℕ) (p q : Parsed A) (f g : A → ℕ → Counts → Parsed B) → p ≡ q → Ahead at p
-      → ((a : A) (end : ℕ) (k : Counts) → at < end → end ≤ length bs → f a end k ≡ g a end k) → andThen p f ≡ andThen q g
+      → ((a : A) (end : ℕ) (k : Counts) → at < end → end ≤ length bs → f a end k ≡ g a end k) → readOn p f ≡ readOn q g
   agree-then at p q f g e w s = rw (← e) (go p w)
     where
-      go : (r : Parsed _) → Ahead at r → andThen r f ≡ andThen r g
+      go : (r : Parsed _) → Ahead at r → readOn r f ≡ readOn r g
       go (refused fault place) w = refl
       go (parsed a end k) w = s a end k (w .0) (w .1)
 
   -- read and read₁ find the same from each offset after `at` within the bytes
-  abbrev Agree : ℕ → Reader → Reader → Type 0
+  abbrev Agree : ℕ → ArmReader → ArmReader → Type 0
   Agree at read read₁ = (depth close at₁ : ℕ) (k : Counts) → at < at₁ → at₁ ≤ length bs → read depth close at₁ k ≡ read₁ depth close at₁ k
 
-  agree-if : (read read₁ : Reader) (at : ℕ) → AheadBy read → Agree at read read₁ → (depth : ℕ) (k : Counts) → at + 4 ≤ length bs
+  agree-if : (read read₁ : ArmReader) (at : ℕ) → AheadBy read → Agree at read read₁ → (depth : ℕ) (k : Counts) → at + 4 ≤ length bs
       → ifArms read depth at k ≡ ifArms read₁ depth at k
   agree-if read read₁ at go same depth k u =
       agree-then (at + 4) _ _ _ _ (same (depth + 1) 12 (at + 4) k (omega arith) u) (go (depth + 1) 12 (at + 4) k) (λ first at₁ k₁ l₁ u₁.
       agree-then at₁ _ _ _ _ (same (depth + 1) 13 at₁ k₁ (omega arith) u₁) (go (depth + 1) 13 at₁ k₁) (λ second at₂ k₂ l₂ u₂. refl))
 
-  agree-step : (read read₁ : Reader) (at : ℕ) → AheadBy read → Agree at read read₁ → (depth close : ℕ) (k : Counts) (s : Step) → Fits depth at s
+  agree-step : (read read₁ : ArmReader) (at : ℕ) → AheadBy read → Agree at read read₁ → (depth close : ℕ) (k : Counts) (s : Step) → Fits depth at s
       → armStep read depth close at k s ≡ armStep read₁ depth close at k s
   agree-step read read₁ at go same depth close k (faulty fault) f = refl
   agree-step read read₁ at go same depth close k closing f = refl
   agree-step read read₁ at go same depth close k (simpleThen c k₁) f =
-      agree-then (at + sizeOfSimple c) _ _ _ _ (same depth close (at + sizeOfSimple c) k₁ (omega (arith, simple-size c)) f) (go depth close (at + sizeOfSimple c) k₁)
+      agree-then (at + simpleSize c) _ _ _ _ (same depth close (at + simpleSize c) k₁ (omega (arith, simple-size c)) f) (go depth close (at + simpleSize c) k₁)
       (λ rest end k₂ l u. refl)
   agree-step read read₁ at go same depth close k (ifThen c k₁) f =
       agree-then (at + 4) _ _ _ _ (agree-if read read₁ at go same depth k₁ (f .0)) (ahead-if read go depth at k₁) (λ arms at₂ k₂ l₂ u₂.
@@ -202,11 +202,11 @@ thenWalk (Walked.Refused fault place) f = Walked.Refused fault place
 thenWalk (Walked.Ended end k) f = f end k
 
 walked-then : {A B : Type 0} (p : Parsed A) (f : A → ℕ → Counts → Parsed B) (g : ℕ → Counts → Walked)
-    → ((a : A) (end : ℕ) (k : Counts) → walked (f a end k) ≡ g end k) → walked (andThen p f) ≡ thenWalk (walked p) g
+    → ((a : A) (end : ℕ) (k : Counts) → walked (f a end k) ≡ g end k) → walked (readOn p f) ≡ thenWalk (walked p) g
 walked-then (refused fault place) f g s = refl
 walked-then (parsed a end k) f g s = s a end k
 
-walked-as : {A B : Type 0} (p : Parsed A) (f : A → B) → walked (andThen p (λ a end k. parsed (f a) end k)) ≡ walked p
+walked-as : {A B : Type 0} (p : Parsed A) (f : A → B) → walked (readOn p (λ a end k. parsed (f a) end k)) ≡ walked p
 walked-as (refused fault place) f = refl
 walked-as (parsed a end k) f = refl
 
@@ -221,7 +221,7 @@ walk-if bs h depth at k =
 abbrev pub walkStep : List ℕ → Header → (depth close at : ℕ) → Counts → Step → Walked
 walkStep bs h depth close at k (faulty fault) = Walked.Refused fault at
 walkStep bs h depth close at k closing = Walked.Ended (at + 1) k
-walkStep bs h depth close at k (simpleThen c k₁) = walkArm bs h depth close (at + sizeOfSimple c) k₁
+walkStep bs h depth close at k (simpleThen c k₁) = walkArm bs h depth close (at + simpleSize c) k₁
 walkStep bs h depth close at k (ifThen c k₁) = thenWalk (walkIf bs h depth at k₁) (walkArm bs h depth close)
 
 walked-step : (bs : List ℕ) (h : Header) (depth close at : ℕ) (k : Counts) (s : Step)
@@ -229,9 +229,9 @@ walked-step : (bs : List ℕ) (h : Header) (depth close at : ℕ) (k : Counts) (
 unfolding walkIf walkArm
 walked-step bs h depth close at k (faulty fault) = refl
 walked-step bs h depth close at k closing = refl
-walked-step bs h depth close at k (simpleThen c k₁) = walked-as (arm bs h depth close (at + sizeOfSimple c) k₁) (λ rest. plain at c k rest)
+walked-step bs h depth close at k (simpleThen c k₁) = walked-as (arm bs h depth close (at + simpleSize c) k₁) (λ rest. plain at c k rest)
 walked-step bs h depth close at k (ifThen c k₁) =
-    walked-then (ifArms (arm bs h) depth at k₁) _ _ (λ arms at₂ k₂. walked-as (arm bs h depth close at₂ k₂) (λ rest. fork at c k (arms .0) (arms .1) rest))
+    walked-then (ifArms (arm bs h) depth at k₁) _ _ (λ arms at₂ k₂. walked-as (arm bs h depth close at₂ k₂) (λ rest. ifElse at c k (arms .0) (arms .1) rest))
 
 walk-arm : (bs : List ℕ) (h : Header) (depth close at : ℕ) (k : Counts)
     → walkArm bs h depth close at k ≡ walkStep bs h depth close at k (stepAt bs h depth close at k)
@@ -240,20 +240,20 @@ walk-arm bs h depth close at k = ap walked (unroll bs h depth close at k) ∙ wa
 
 -- ---- what the command at an offset is, by what `command_at` and the looks at it answered
 
-fault-is : (s : Step) (fault : Fault) → verdictOf s ≡ Verdict.Faulty fault → s ≡ faulty fault
+fault-is : (s : Step) (fault : Fault) → flawOf s ≡ Flaw.Fault fault → s ≡ faulty fault
 fault-is (faulty f) fault e = let z : f ≡ fault = cc in ap faulty z
 fault-is closing fault e = let z : _≡_ {A = ℕ} 0 1 = cc in absurd (omega arith)
 fault-is (simpleThen c k) fault e = let z : _≡_ {A = ℕ} 0 1 = cc in absurd (omega arith)
 fault-is (ifThen c k) fault e = let z : _≡_ {A = ℕ} 0 1 = cc in absurd (omega arith)
 
 module _ (bs : List ℕ) (h : Header) (depth close at : ℕ) (k : Counts) where
-  good-simple : (d : Simple) (s : Step) → Of bs h depth k (Command.Simple d) s → verdictOf s ≡ Verdict.Good → s ≡ simpleThen d (after d k)
+  good-simple : (d : Simple) (s : Step) → Of bs h depth k (Command.Simple d) s → flawOf s ≡ Flaw.Nothing → s ≡ simpleThen d (countsAfter d k)
   good-simple d (faulty f) o e = let z : _≡_ {A = ℕ} 0 1 = cc in absurd (omega arith)
   good-simple d closing o e = let f = o .1 in let z : _≡_ {A = ℕ} 0 1 = cc in absurd (omega arith)
   good-simple d (simpleThen c k₁) o e = let f = o .command in let z : c ≡ d = cc in rw (o .counts, z)
   good-simple d (ifThen c k₁) o e = let f = o .command in let z : _≡_ {A = ℕ} 0 1 = cc in absurd (omega arith)
 
-  good-if : (d : Condition) (s : Step) → Of bs h depth k (Command.If d) s → verdictOf s ≡ Verdict.Good → s ≡ ifThen d (oneIf k)
+  good-if : (d : Condition) (s : Step) → Of bs h depth k (Command.If d) s → flawOf s ≡ Flaw.Nothing → s ≡ ifThen d (countsAfterIf k)
   good-if d (faulty f) o e = let z : _≡_ {A = ℕ} 0 1 = cc in absurd (omega arith)
   good-if d closing o e = let f = o .1 in let z : _≡_ {A = ℕ} 0 1 = cc in absurd (omega arith)
   good-if d (simpleThen c k₁) o e = let f = o .command in let z : _≡_ {A = ℕ} 0 1 = cc in absurd (omega arith)
@@ -275,28 +275,28 @@ module _ (bs : List ℕ) (h : Header) (depth close at : ℕ) (k : Counts) where
     unfolding stepOf unless
     is-closing mark e f = by-command (Command.Close mark) e closing (rw (eq-eqb mark close f))
 
-    module _ (d : Simple) (e : c ≡ Command.Simple d) (v : Verdict) (by : v ≡ verdictOf (simpleStep bs h d k)) where
-      pub faulty-simple : (fault : Fault) → v ≡ Verdict.Faulty fault → stepAt bs h depth close at k ≡ faulty fault
+    module _ (d : Simple) (e : c ≡ Command.Simple d) (v : Flaw) (by : v ≡ flawOf (simpleStep bs h d k)) where
+      pub faulty-simple : (fault : Fault) → v ≡ Flaw.Fault fault → stepAt bs h depth close at k ≡ faulty fault
       unfolding stepOf
       faulty-simple fault f = by-command (Command.Simple d) e (faulty fault) (fault-is (simpleStep bs h d k) fault (sym by ∙ f))
 
-      pub is-simple : v ≡ Verdict.Good → stepAt bs h depth close at k ≡ simpleThen d (after d k)
+      pub is-simple : v ≡ Flaw.Nothing → stepAt bs h depth close at k ≡ simpleThen d (countsAfter d k)
       unfolding stepOf
-      is-simple f = by-command (Command.Simple d) e (simpleThen d (after d k)) (good-simple d (simpleStep bs h d k) (of-simple bs h depth k d) (sym by ∙ f))
+      is-simple f = by-command (Command.Simple d) e (simpleThen d (countsAfter d k)) (good-simple d (simpleStep bs h d k) (of-simple bs h depth k d) (sym by ∙ f))
 
-      pub few-accesses : v ≡ Verdict.Good → tooMany d k ≡ false
+      pub few-accesses : v ≡ Flaw.Nothing → tooMany d k ≡ false
       few-accesses f = (rw (good-simple d (simpleStep bs h d k) (of-simple bs h depth k d) (sym by ∙ f)) at (of-simple bs h depth k d)) .few
 
-    module _ (d : Condition) (e : c ≡ Command.If d) (v : Verdict) (by : v ≡ verdictOf (ifStep bs h depth d k)) where
-      pub faulty-if : (fault : Fault) → v ≡ Verdict.Faulty fault → stepAt bs h depth close at k ≡ faulty fault
+    module _ (d : Condition) (e : c ≡ Command.If d) (v : Flaw) (by : v ≡ flawOf (ifStep bs h depth d k)) where
+      pub faulty-if : (fault : Fault) → v ≡ Flaw.Fault fault → stepAt bs h depth close at k ≡ faulty fault
       unfolding stepOf
       faulty-if fault f = by-command (Command.If d) e (faulty fault) (fault-is (ifStep bs h depth d k) fault (sym by ∙ f))
 
-      pub is-if : v ≡ Verdict.Good → stepAt bs h depth close at k ≡ ifThen d (oneIf k)
+      pub is-if : v ≡ Flaw.Nothing → stepAt bs h depth close at k ≡ ifThen d (countsAfterIf k)
       unfolding stepOf
-      is-if f = by-command (Command.If d) e (ifThen d (oneIf k)) (good-if d (ifStep bs h depth d k) (of-if bs h depth k d) (sym by ∙ f))
+      is-if f = by-command (Command.If d) e (ifThen d (countsAfterIf k)) (good-if d (ifStep bs h depth d k) (of-if bs h depth k d) (sym by ∙ f))
 
-      pub few-ifs : v ≡ Verdict.Good → k .ifs < 32
+      pub few-ifs : v ≡ Flaw.Nothing → k .ifs < 32
       few-ifs f = (rw (good-if d (ifStep bs h depth d k) (of-if bs h depth k d) (sym by ∙ f)) at (of-if bs h depth k d)) .few
 
   -- the command at the offset is s

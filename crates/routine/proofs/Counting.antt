@@ -5,7 +5,7 @@ use mathlib.Core.Bool.{false}
 use Prim.Native.Nat.{ℕ, _≤_}
 use native.Mathlib.Omega.{arith}
 use borrow.Author.Tests.{leb-false}
-use Rattle.routine_faults.specs.Step.{accesses, tooMany, after}
+use Rattle.routine_faults.specs.Step.{accesses, tooMany, countsAfter}
 use Rattle.routine.specs.Routine.{Arm}
 use Rattle.routine.specs.Decode.{routine, decode}
 use Rattle.routine.specs.Inner.Stands.{Stands}
@@ -16,7 +16,7 @@ use Rattle.routine.proofs.Views.{induction}
 use Rattle.routine.proofs.Accepted.{decoded}
 
 -- a command that is no if leaves the count of the ifs
-pub same-ifs : (c : Simple) (k : Counts) → after c k .ifs ≡ k .ifs
+pub same-ifs : (c : Simple) (k : Counts) → countsAfter c k .ifs ≡ k .ifs
 same-ifs (Simple.Set d x) k = refl
 same-ifs (Simple.Convert op d s) k = refl
 same-ifs (Simple.Compute op d s t) k = refl
@@ -35,7 +35,7 @@ pub few-ifs : (bs : List ℕ) (h : Header) (a : Arm) (k : Counts) → decode bs 
 few-ifs bs h a k e = few-ifs-after bs h a 0 0 _ _ _ k (decoded bs h a k e .stands) (omega arith)
 
 -- a command that is not the 65th access
-few-next : (c : Simple) (k : Counts) → tooMany c k ≡ false → accesses k ≤ 64 → accesses (after c k) ≤ 64
+few-next : (c : Simple) (k : Counts) → tooMany c k ≡ false → accesses k ≤ 64 → accesses (countsAfter c k) ≤ 64
 unfolding tooMany
 few-next (Simple.Set d x) k e l = l
 few-next (Simple.Convert op d s) k e l = l

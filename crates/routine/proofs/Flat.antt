@@ -6,8 +6,8 @@ use Prim.Native.Nat.{ℕ, _+_, _≤_, _<_}
 use native.Mathlib.Omega.{arith}
 use lib.ListN.{length}
 use Rattle.routine_header.specs.Header.{firstCommand}
-use Rattle.routine_command.specs.Command.{sizeOfSimple, sizeOf, commandAt}
-use Rattle.routine_faults.specs.Step.{noCounts, tooMany, after, oneIf}
+use Rattle.routine_command.specs.Command.{simpleSize, commandSize, commandAt}
+use Rattle.routine_faults.specs.Step.{noCounts, tooMany, countsAfter, countsAfterIf}
 use Rattle.routine.specs.Routine.{Arm}
 use Rattle.routine.specs.Decode.{routine, decode, commandsIn, IsRoutine}
 use Rattle.routine.specs.Access.{accessHere, orElse, accessAt, ifsOf, ifsBefore}
@@ -35,10 +35,10 @@ or-nowhere (Access.Here k array i) = refl
 pub data Flat (bs : List ℕ) (n : ℕ) : ℕ → Counts → Access → Type 0 where
   over : {at : ℕ} {k : Counts} {s : Access} → at ≡ length bs → s ≡ Access.Nowhere → Flat bs n at k s
   closes : {at : ℕ} {k : Counts} {s : Access} (mark : ℕ) → commandAt bs at ≡ Command.Close mark → at + 1 ≤ length bs → Flat bs n (at + 1) k s → Flat bs n at k s
-  forks : {at : ℕ} {k : Counts} {s : Access} (c : Condition) → commandAt bs at ≡ Command.If c → k .ifs < 32 → at + 4 ≤ length bs → Flat bs n (at + 4) (oneIf k) s
+  forks : {at : ℕ} {k : Counts} {s : Access} (c : Condition) → commandAt bs at ≡ Command.If c → k .ifs < 32 → at + 4 ≤ length bs → Flat bs n (at + 4) (countsAfterIf k) s
       → Flat bs n at k s
-  steps : {at : ℕ} {k : Counts} {s s₁ : Access} (c : Simple) → commandAt bs at ≡ Command.Simple c → tooMany c k ≡ false → at + sizeOfSimple c ≤ length bs
-      → Flat bs n (at + sizeOfSimple c) (after c k) s₁ → s ≡ orElse (accessHere c k n) s₁ → Flat bs n at k s
+  steps : {at : ℕ} {k : Counts} {s s₁ : Access} (c : Simple) → commandAt bs at ≡ Command.Simple c → tooMany c k ≡ false → at + simpleSize c ≤ length bs
+      → Flat bs n (at + simpleSize c) (countsAfter c k) s₁ → s ≡ orElse (accessHere c k n) s₁ → Flat bs n at k s
 
 -- an arm, and then what follows it
 flat : (bs : List ℕ) (h : Header) (n depth close at : ℕ) (k : Counts) (a : Arm) (end : ℕ) (k₁ : Counts) → Stands bs h depth close at k a end k₁
@@ -71,7 +71,7 @@ seek-start bs n at k = record { goes = λ s t. t }
 record Stepped (bs : List ℕ) (n at : ℕ) (k : Counts) (c : Simple) (s : Access) : Type 0 where
   pub few : tooMany c k ≡ false
   pub rest : Access
-  pub flat : Flat bs n (at + sizeOfSimple c) (after c k) rest
+  pub flat : Flat bs n (at + simpleSize c) (countsAfter c k) rest
   pub same : s ≡ orElse (accessHere c k n) rest
 
 module _ (bs : List ℕ) (n at : ℕ) (k : Counts) (s : Access) (r : Command) (is : r ≡ commandAt bs at) (l : at < length bs) where
@@ -81,7 +81,7 @@ module _ (bs : List ℕ) (n at : ℕ) (k : Counts) (s : Access) (r : Command) (i
   flat-missing q (forks c e few room t) = let z : _≡_ {A = ℕ} 0 1 = cc in omega arith
   flat-missing q (steps c e few room t o) = let z : _≡_ {A = ℕ} 0 1 = cc in omega arith
 
-  flat-room : Flat bs n at k s → at + sizeOf r ≤ length bs
+  flat-room : Flat bs n at k s → at + commandSize r ≤ length bs
   flat-room (over e o) = absurd (omega arith)
   flat-room (closes mark e room t) = rw (is, e) room
   flat-room (forks c e few room t) = rw (is, e) room
@@ -93,7 +93,7 @@ module _ (bs : List ℕ) (n at : ℕ) (k : Counts) (s : Access) (r : Command) (i
   flat-close m q (forks c e few room t) = let z : _≡_ {A = ℕ} 0 1 = cc in absurd (omega arith)
   flat-close m q (steps c e few room t o) = let z : _≡_ {A = ℕ} 0 1 = cc in absurd (omega arith)
 
-  flat-if : (d : Condition) → r ≡ Command.If d → Flat bs n at k s → (k .ifs < 32) × Flat bs n (at + 4) (oneIf k) s
+  flat-if : (d : Condition) → r ≡ Command.If d → Flat bs n at k s → (k .ifs < 32) × Flat bs n (at + 4) (countsAfterIf k) s
   flat-if d q (over e o) = absurd (omega arith)
   flat-if d q (closes mark e room t) = let z : _≡_ {A = ℕ} 0 1 = cc in absurd (omega arith)
   flat-if d q (forks c e few room t) = (few, t)
@@ -115,7 +115,7 @@ module _ (bs : List ℕ) (n at₀ : ℕ) (k₀ : Counts) (at : ℕ) (k : Counts)
   module _ (r : Command) (is : r ≡ commandAt bs at) (l : at < length bs) where
     -- in a routine the command there is whole, and what is counted is within the limits
     module _ (h : Header) (i : IsRoutine bs h) (e : at₀ ≡ firstCommand h) (f : k₀ ≡ noCounts) where
-      pub room : (at + sizeOf r ≤ length bs) × (0 < sizeOf r)
+      pub room : (at + commandSize r ≤ length bs) × (0 < commandSize r)
       room = (flat-room bs n at k _ r is l (left h i e f), size-pos r)
 
       pub few-if : (d : Condition) → r ≡ Command.If d → k .ifs < 32
@@ -127,11 +127,11 @@ module _ (bs : List ℕ) (n at₀ : ℕ) (k₀ : Counts) (at : ℕ) (k : Counts)
     pub past-close : (m : ℕ) → r ≡ Command.Close m → Seeking bs n at₀ k₀ (at + 1) k
     past-close m q = record { goes = λ s t. flat-close bs n at k s r is l m q (g .goes s t) }
 
-    pub past-if : (d : Condition) → r ≡ Command.If d → Seeking bs n at₀ k₀ (at + 4) (oneIf k)
+    pub past-if : (d : Condition) → r ≡ Command.If d → Seeking bs n at₀ k₀ (at + 4) (countsAfterIf k)
     past-if d q = record { goes = λ s t. flat-if bs n at k s r is l d q (g .goes s t) .1 }
 
     module _ (d : Simple) (q : r ≡ Command.Simple d) (x : Access) (here : x ≡ accessHere d k n) where
-      pub past-simple : x ≡ Access.Nowhere → Seeking bs n at₀ k₀ (at + sizeOfSimple d) (after d k)
+      pub past-simple : x ≡ Access.Nowhere → Seeking bs n at₀ k₀ (at + simpleSize d) (countsAfter d k)
       past-simple e = record {
         goes = λ s t.
             let y = flat-simple bs n at k s r is l d q (g .goes s t) in

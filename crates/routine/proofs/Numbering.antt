@@ -8,8 +8,8 @@ use native.Mathlib.Omega.{arith}
 use lib.Dec.{ltb, eqb}
 use borrow.Author.Tests.{ltb-true, ltb-false, eqb-true, eqb-false}
 use Rattle.routine_command.specs.Command.{touches}
-use Rattle.routine_faults.specs.Step.{noCounts, accesses, after, afterBy, oneIf}
-use Rattle.routine.specs.Routine.{Arm, done, plain, fork}
+use Rattle.routine_faults.specs.Step.{noCounts, accesses, countsAfter, countsAfterBy, countsAfterIf}
+use Rattle.routine.specs.Routine.{Arm, done, plain, ifElse}
 use Rattle.routine.specs.Decode.{routine, decode}
 use Rattle.routine.specs.Access.{accessBy, accessHere, orElse, accessAt, ifsBefore}
 use Rattle.routine.specs.Inner.Stands.{Stands}
@@ -29,12 +29,12 @@ use Rattle.routine.proofs.Counting.{same-ifs}
 abbrev pub EachIf : (Counts → Type 0) → Arm → Type 0
 EachIf P done = Unit {0}
 EachIf P (plain at c k rest) = EachIf P rest
-EachIf P (fork at c k first second rest) = P k × EachIf P first × EachIf P second × EachIf P rest
+EachIf P (ifElse at c k first second rest) = P k × EachIf P first × EachIf P second × EachIf P rest
 
 each-map : {P Q : Counts → Type 0} → ((k : Counts) → P k → Q k) → (a : Arm) → EachIf P a → EachIf Q a
 each-map f done e = tt
 each-map f (plain at c k rest) e = each-map f rest e
-each-map f (fork at c k first second rest) e = (f k (e .0), each-map f first (e .1), each-map f second (e .2), each-map f rest (e .3))
+each-map f (ifElse at c k first second rest) e = (f k (e .0), each-map f first (e .1), each-map f second (e .2), each-map f rest (e .3))
 
 -- j is met at or after k, and before k₁
 record Between (k k₁ j : Counts) : Type 0 where
@@ -77,13 +77,13 @@ module _ (n : ℕ) where
 
 module _ (k : Counts) where
   -- a command adds at most one access
-  one-more : (t : Touch) → (accesses k ≤ accesses (afterBy t k)) × (accesses (afterBy t k) ≤ accesses k + 1)
+  one-more : (t : Touch) → (accesses k ≤ accesses (countsAfterBy t k)) × (accesses (countsAfterBy t k) ≤ accesses k + 1)
   one-more Touch.Nothing = (omega arith, omega arith)
   one-more (Touch.Reads d array i) = (omega arith, omega arith)
   one-more (Touch.Writes array i) = (omega arith, omega arith)
 
   -- it is the access of that number, or is none
-  by-touch : (n : ℕ) (t : Touch) (b : Bool) → eqb (accesses k) n ≡ b → Within n k (afterBy t k) (cond b (accessBy t k) Access.Nowhere)
+  by-touch : (n : ℕ) (t : Touch) (b : Bool) → eqb (accesses k) n ≡ b → Within n k (countsAfterBy t k) (cond b (accessBy t k) Access.Nowhere)
   by-touch n Touch.Nothing true e = inr (let z = eqb-true (accesses k) n e in omega arith)
   by-touch n (Touch.Reads d array i) true e =
       let z = eqb-true (accesses k) n e in
@@ -93,11 +93,11 @@ module _ (k : Counts) where
       record { number = z; from = omega arith; up-to = omega arith; low = omega arith; high = omega arith }
   by-touch n t false e = go (order n (accesses k))
     where
-      go : (n < accesses k) ⊎ (accesses k ≤ n) → (n < accesses k) ⊎ (accesses (afterBy t k) ≤ n)
+      go : (n < accesses k) ⊎ (accesses k ≤ n) → (n < accesses k) ⊎ (accesses (countsAfterBy t k) ≤ n)
       go (inl l) = inl l
       go (inr l) = inr (let z = eqb-false (accesses k) n e in omega (arith, one-more t))
 
-  here-within : (n : ℕ) (c : Simple) → Within n k (after c k) (accessHere c k n)
+  here-within : (n : ℕ) (c : Simple) → Within n k (countsAfter c k) (accessHere c k n)
   unfolding accessHere
   here-within n c = by-touch n (touches c) (eqb (accesses k) n) refl
 
@@ -119,7 +119,7 @@ module _ (n : ℕ) where
   unfolding accessAt
   spans-done k = record { ifs = omega arith; accessed = omega arith; each = tt; within = order n (accesses k) }
 
-  spans-plain : (at : ℕ) (c : Simple) (k : Counts) (rest : Arm) (k₁ : Counts) → Spans n (after c k) rest k₁ → Spans n k (plain at c k rest) k₁
+  spans-plain : (at : ℕ) (c : Simple) (k : Counts) (rest : Arm) (k₁ : Counts) → Spans n (countsAfter c k) rest k₁ → Spans n k (plain at c k rest) k₁
   unfolding accessAt
   spans-plain at c k rest k₁ s =
       let e = same-ifs c k in
@@ -129,12 +129,12 @@ module _ (n : ℕ) where
       record {
         ifs = omega arith;
         accessed = omega arith;
-        each = wider (after c k) k₁ k k₁ (omega arith) (omega arith) (omega arith) (omega arith) rest (s .each);
-        within = within-then n k (after c k) k₁ (omega arith) (m .0) i a (accessHere c k n) (accessAt rest n) (here-within k n c) (s .within);
+        each = wider (countsAfter c k) k₁ k k₁ (omega arith) (omega arith) (omega arith) (omega arith) rest (s .each);
+        within = within-then n k (countsAfter c k) k₁ (omega arith) (m .0) i a (accessHere c k n) (accessAt rest n) (here-within k n c) (s .within);
       }
 
-  spans-fork : (at : ℕ) (c : Condition) (k : Counts) (first second rest : Arm) (k₂ k₃ k₁ : Counts) → Spans n (oneIf k) first k₂ → Spans n k₂ second k₃
-      → Spans n k₃ rest k₁ → Spans n k (fork at c k first second rest) k₁
+  spans-fork : (at : ℕ) (c : Condition) (k : Counts) (first second rest : Arm) (k₂ k₃ k₁ : Counts) → Spans n (countsAfterIf k) first k₂ → Spans n k₂ second k₃
+      → Spans n k₃ rest k₁ → Spans n k (ifElse at c k first second rest) k₁
   unfolding accessAt
   spans-fork at c k first second rest k₂ k₃ k₁ x y z =
       let i = x .ifs in
@@ -151,13 +151,13 @@ module _ (n : ℕ) where
         accessed = omega arith;
         each = (
           record { from = omega arith; up-to = omega arith; more = omega arith; fewer = omega arith },
-          wider (oneIf k) k₂ k k₁ (omega arith) (omega arith) (omega arith) (omega arith) first (x .each),
+          wider (countsAfterIf k) k₂ k k₁ (omega arith) (omega arith) (omega arith) (omega arith) first (x .each),
           wider k₂ k₃ k k₁ (omega arith) (omega arith) (omega arith) (omega arith) second (y .each),
           wider k₃ k₁ k k₁ (omega arith) (omega arith) (omega arith) (omega arith) rest (z .each),
         );
         within =
-            within-then n k (oneIf k) k₁ (omega arith) (omega arith) (omega arith) (omega arith) Access.Nowhere (orElse u (orElse v w)) (order n (accesses k))
-            (within-then n (oneIf k) k₂ k₁ i a (omega arith) (omega arith) u (orElse v w) (x .within)
+            within-then n k (countsAfterIf k) k₁ (omega arith) (omega arith) (omega arith) (omega arith) Access.Nowhere (orElse u (orElse v w)) (order n (accesses k))
+            (within-then n (countsAfterIf k) k₂ k₁ i a (omega arith) (omega arith) u (orElse v w) (x .within)
             (within-then n k₂ k₃ k₁ i₂ a₂ i₃ a₃ v w (y .within) (z .within)));
       }
 
@@ -204,21 +204,21 @@ module _ (j : Counts) (n : ℕ) where
     abbrev Here : Arm → Type 0
     Here a = accessAt a n ≡ Access.Here j array i
 
-    before-plain : (c : Simple) (k : Counts) (rest : Arm) (k₁ : Counts) → Spans n (after c k) rest k₁ → (Here rest → EachIf (Before (j .ifs) n) rest)
-        → (x : Access) → Within n k (after c k) x → orElse x (accessAt rest n) ≡ Access.Here j array i → EachIf (Before (j .ifs) n) rest
+    before-plain : (c : Simple) (k : Counts) (rest : Arm) (k₁ : Counts) → Spans n (countsAfter c k) rest k₁ → (Here rest → EachIf (Before (j .ifs) n) rest)
+        → (x : Access) → Within n k (countsAfter c k) x → orElse x (accessAt rest n) ≡ Access.Here j array i → EachIf (Before (j .ifs) n) rest
     before-plain c k rest k₁ s go Access.Nowhere w e = go e
     before-plain c k rest k₁ s go (Access.Here j₁ a₁ i₁) w e =
         let z : j₁ ≡ j = cc in
         let w₁ = rw z at w in
-        begins-after (after c k) k₁ (w₁ .up-to) (w₁ .high) rest (s .each)
+        begins-after (countsAfter c k) k₁ (w₁ .up-to) (w₁ .high) rest (s .each)
 
-    module _ (k : Counts) (first second rest : Arm) (k₂ k₃ k₁ : Counts) (x : Spans n (oneIf k) first k₂) (y : Spans n k₂ second k₃) (z : Spans n k₃ rest k₁)
+    module _ (k : Counts) (first second rest : Arm) (k₂ k₃ k₁ : Counts) (x : Spans n (countsAfterIf k) first k₂) (y : Spans n k₂ second k₃) (z : Spans n k₃ rest k₁)
         (go₁ : Here first → EachIf (Before (j .ifs) n) first) (go₂ : Here second → EachIf (Before (j .ifs) n) second)
         (go₃ : Here rest → EachIf (Before (j .ifs) n) rest) where
       abbrev All : Type 0
       All = Before (j .ifs) n k × EachIf (Before (j .ifs) n) first × EachIf (Before (j .ifs) n) second × EachIf (Before (j .ifs) n) rest
 
-      in-first : Here first → Inside n (oneIf k) k₂ j → All
+      in-first : Here first → Inside n (countsAfterIf k) k₂ j → All
       in-first e w =
           let f = w .from in
           let u = w .up-to in
@@ -234,7 +234,7 @@ module _ (j : Counts) (n : ℕ) where
           let l = w .low in
           let i₁ = x .ifs in
           let a₁ = x .accessed in
-          ((λ _. omega arith, λ _. omega arith), ends-before (oneIf k) k₂ f l first (x .each), go₂ e, begins-after k₃ k₁ (w .up-to) (w .high) rest (z .each))
+          ((λ _. omega arith, λ _. omega arith), ends-before (countsAfterIf k) k₂ f l first (x .each), go₂ e, begins-after k₃ k₁ (w .up-to) (w .high) rest (z .each))
 
       in-rest : Here rest → Inside n k₃ k₁ j → All
       in-rest e w =
@@ -244,9 +244,9 @@ module _ (j : Counts) (n : ℕ) where
           let a₁ = x .accessed in
           let i₂ = y .ifs in
           let a₂ = y .accessed in
-          ((λ _. omega arith, λ _. omega arith), ends-before (oneIf k) k₂ (omega arith) (omega arith) first (x .each), ends-before k₂ k₃ f l second (y .each), go₃ e)
+          ((λ _. omega arith, λ _. omega arith), ends-before (countsAfterIf k) k₂ (omega arith) (omega arith) first (x .each), ends-before k₂ k₃ f l second (y .each), go₃ e)
 
-      before-fork : (u v w : Access) → accessAt first n ≡ u → accessAt second n ≡ v → accessAt rest n ≡ w → Within n (oneIf k) k₂ u → Within n k₂ k₃ v
+      before-fork : (u v w : Access) → accessAt first n ≡ u → accessAt second n ≡ v → accessAt rest n ≡ w → Within n (countsAfterIf k) k₂ u → Within n k₂ k₃ v
           → Within n k₃ k₁ w → orElse u (orElse v w) ≡ Access.Here j array i → All
       before-fork (Access.Here j₁ a₁ i₁) v w p q r s t o e = let z₁ : j₁ ≡ j = cc in in-first (p ∙ e) (rw z₁ at s)
       before-fork Access.Nowhere (Access.Here j₁ a₁ i₁) w p q r s t o e = let z₁ : j₁ ≡ j = cc in in-second (q ∙ e) (rw z₁ at t)

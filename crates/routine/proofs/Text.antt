@@ -3,7 +3,7 @@ use mathlib.Core.Path.{_≡_}
 use mathlib.Core.List.{List, [], _∷_, _++_, append-assoc}
 use Prim.Native.Nat.{ℕ, _+_, _≤_}
 use lib.ListN.{length}
-use Rattle.routine_command.specs.Command.{sizeOfSimple, commandAt}
+use Rattle.routine_command.specs.Command.{simpleSize, commandAt}
 use Rattle.routine.specs.Routine.{Arm, textOf}
 use Rattle.routine.specs.Inner.Stands.{Stands}
 use Rattle.routine_header.specs.declared.Header.{Header}
@@ -18,7 +18,7 @@ pub data Text (bs : List ℕ) : ℕ → List Simple → Type 0 where
   over : {at : ℕ} → at ≡ length bs → Text bs at []
   closes : {at : ℕ} {cs : List Simple} (mark : ℕ) → commandAt bs at ≡ Command.Close mark → at + 1 ≤ length bs → Text bs (at + 1) cs → Text bs at cs
   forks : {at : ℕ} {cs : List Simple} (c : Condition) → commandAt bs at ≡ Command.If c → at + 4 ≤ length bs → Text bs (at + 4) cs → Text bs at cs
-  steps : {at : ℕ} {cs : List Simple} (c : Simple) → commandAt bs at ≡ Command.Simple c → at + sizeOfSimple c ≤ length bs → Text bs (at + sizeOfSimple c) cs
+  steps : {at : ℕ} {cs : List Simple} (c : Simple) → commandAt bs at ≡ Command.Simple c → at + simpleSize c ≤ length bs → Text bs (at + simpleSize c) cs
       → Text bs at (c ∷ cs)
 
 -- an arm, and then what follows it

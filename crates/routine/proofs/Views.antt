@@ -6,9 +6,9 @@ use mathlib.Core.Bool.{false}
 use Prim.Native.Nat.{ℕ, _+_, _≤_, _<_}
 use native.Mathlib.Omega.{arith}
 use lib.ListN.{length}
-use Rattle.routine_command.specs.Command.{sizeOfSimple, commandAt}
-use Rattle.routine_faults.specs.Step.{Step, faulty, closing, simpleThen, ifThen, tooMany, after, oneIf}
-use Rattle.routine.specs.Routine.{Arm, Parsed, refused, parsed, done, plain, fork, andThen, armStep, stepAt, arm}
+use Rattle.routine_command.specs.Command.{simpleSize, commandAt}
+use Rattle.routine_faults.specs.Step.{Step, faulty, closing, simpleThen, ifThen, tooMany, countsAfter, countsAfterIf}
+use Rattle.routine.specs.Routine.{Arm, Parsed, refused, parsed, done, plain, ifElse, readOn, armStep, stepAt, arm}
 use Rattle.routine.specs.Inner.Stands.{Stands}
 use Rattle.routine_faults.specs.Inner.Sound.{Sound, SoundIf}
 use Rattle.routine_header.specs.declared.Header.{Header}
@@ -23,8 +23,8 @@ pub record PlainAt (bs : List ℕ) (h : Header) (depth close at : ℕ) (k : Coun
   pub command : commandAt bs at ≡ Command.Simple c
   pub sound : Sound bs h c
   pub few : tooMany c k ≡ false
-  pub room : at + sizeOfSimple c ≤ length bs
-  pub stands : Stands bs h depth close (at + sizeOfSimple c) (after c k) rest end k₁
+  pub room : at + simpleSize c ≤ length bs
+  pub stands : Stands bs h depth close (at + simpleSize c) (countsAfter c k) rest end k₁
 
 -- what is known of an if that stands at `at`, of its arms and of the rest of the arm that it stands in
 pub record ForkAt (bs : List ℕ) (h : Header) (depth close at : ℕ) (k : Counts) (c : Condition) (first second rest : Arm) (end : ℕ) (k₁ : Counts) : Type 0 where
@@ -37,7 +37,7 @@ pub record ForkAt (bs : List ℕ) (h : Header) (depth close at : ℕ) (k : Count
   pub k₂ : Counts
   pub next : ℕ
   pub k₃ : Counts
-  pub stands-first : Stands bs h (depth + 1) 12 (at + 4) (oneIf k) first else k₂
+  pub stands-first : Stands bs h (depth + 1) 12 (at + 4) (countsAfterIf k) first else k₂
   pub stands-second : Stands bs h (depth + 1) 13 else k₂ second next k₃
   pub stands : Stands bs h depth close next k₃ rest end k₁
 
@@ -46,7 +46,7 @@ pub data View (bs : List ℕ) (h : Header) (depth close at : ℕ) (k : Counts) :
   closes : (mark : ℕ) → commandAt bs at ≡ Command.Close mark → at + 1 ≤ length bs → View bs h depth close at k done (at + 1) k
   steps : {c : Simple} {rest : Arm} {end : ℕ} {k₁ : Counts} → PlainAt bs h depth close at k c rest end k₁ → View bs h depth close at k (plain at c k rest) end k₁
   forks : {c : Condition} {first second rest : Arm} {end : ℕ} {k₁ : Counts} → ForkAt bs h depth close at k c first second rest end k₁
-      → View bs h depth close at k (fork at c k first second rest) end k₁
+      → View bs h depth close at k (ifElse at c k first second rest) end k₁
 
 module _ (bs : List ℕ) (h : Header) (depth close at : ℕ) (k : Counts) where
   -- what was read from `at` on, if anything was, is known by its first command
@@ -54,21 +54,21 @@ module _ (bs : List ℕ) (h : Header) (depth close at : ℕ) (k : Counts) where
   Viewed (refused fault place) = Unit {0}
   Viewed (parsed a end k₁) = View bs h depth close at k a end k₁
 
-  view-plain : (c : Simple) (k₂ : Counts) → PlainOf bs h k (commandAt bs at) c k₂ → at + sizeOfSimple c ≤ length bs → (p : Parsed Arm)
-      → arm bs h depth close (at + sizeOfSimple c) k₂ ≡ p → Viewed (andThen p (λ rest end k₃. parsed (plain at c k rest) end k₃))
+  view-plain : (c : Simple) (k₂ : Counts) → PlainOf bs h k (commandAt bs at) c k₂ → at + simpleSize c ≤ length bs → (p : Parsed Arm)
+      → arm bs h depth close (at + simpleSize c) k₂ ≡ p → Viewed (readOn p (λ rest end k₃. parsed (plain at c k rest) end k₃))
   view-plain c k₂ o f (refused fault place) e = tt
   view-plain c k₂ o f (parsed rest end k₃) e =
-      let s : Stands bs h depth close (at + sizeOfSimple c) (after c k) rest end k₃ = rw (← o .counts) (record { reads = e }) in
+      let s : Stands bs h depth close (at + simpleSize c) (countsAfter c k) rest end k₃ = rw (← o .counts) (record { reads = e }) in
       steps (record { command = o .command; sound = o .sound; few = o .few; room = f; stands = s })
 
   -- the arms of an if are read one after the other, and then the rest
   abbrev AfterIf : Condition → Arm × Arm → ℕ → Counts → Parsed Arm
-  AfterIf c arms next k₃ = andThen (arm bs h depth close next k₃) (λ rest end k₄. parsed (fork at c k (arms .0) (arms .1) rest) end k₄)
+  AfterIf c arms next k₃ = readOn (arm bs h depth close next k₃) (λ rest end k₄. parsed (ifElse at c k (arms .0) (arms .1) rest) end k₄)
 
   module _ (c : Condition) (k₁ : Counts) (o : ForkOf bs h depth k (commandAt bs at) c k₁) (room : at + 4 ≤ length bs) where
     view-rest : (first second : Arm) (else : ℕ) (k₂ : Counts) (next : ℕ) (k₃ : Counts)
-        → Stands bs h (depth + 1) 12 (at + 4) (oneIf k) first else k₂ → Stands bs h (depth + 1) 13 else k₂ second next k₃
-        → (p : Parsed Arm) → arm bs h depth close next k₃ ≡ p → Viewed (andThen p (λ rest end k₄. parsed (fork at c k first second rest) end k₄))
+        → Stands bs h (depth + 1) 12 (at + 4) (countsAfterIf k) first else k₂ → Stands bs h (depth + 1) 13 else k₂ second next k₃
+        → (p : Parsed Arm) → arm bs h depth close next k₃ ≡ p → Viewed (readOn p (λ rest end k₄. parsed (ifElse at c k first second rest) end k₄))
     view-rest first second else k₂ next k₃ x y (refused fault place) e = tt
     view-rest first second else k₂ next k₃ x y (parsed rest end k₄) e =
         forks (record {
@@ -86,15 +86,15 @@ module _ (bs : List ℕ) (h : Header) (depth close at : ℕ) (k : Counts) where
           stands = record { reads = e };
         })
 
-    view-second : (first : Arm) (else : ℕ) (k₂ : Counts) → Stands bs h (depth + 1) 12 (at + 4) (oneIf k) first else k₂
+    view-second : (first : Arm) (else : ℕ) (k₂ : Counts) → Stands bs h (depth + 1) 12 (at + 4) (countsAfterIf k) first else k₂
         → (p : Parsed Arm) → arm bs h (depth + 1) 13 else k₂ ≡ p
-        → Viewed (andThen (andThen p (λ second next k₃. parsed (first, second) next k₃)) (AfterIf c))
+        → Viewed (readOn (readOn p (λ second next k₃. parsed (first, second) next k₃)) (AfterIf c))
     view-second first else k₂ x (refused fault place) e = tt
     view-second first else k₂ x (parsed second next k₃) e =
         view-rest first second else k₂ next k₃ x (record { reads = e }) (arm bs h depth close next k₃) refl
 
     view-fork : (p : Parsed Arm) → arm bs h (depth + 1) 12 (at + 4) k₁ ≡ p
-        → Viewed (andThen (andThen p (λ first else k₃. andThen (arm bs h (depth + 1) 13 else k₃) (λ second next k₄. parsed (first, second) next k₄))) (AfterIf c))
+        → Viewed (readOn (readOn p (λ first else k₃. readOn (arm bs h (depth + 1) 13 else k₃) (λ second next k₄. parsed (first, second) next k₄))) (AfterIf c))
     view-fork (refused fault place) e = tt
     view-fork (parsed first else k₃) e =
         view-second first else k₃ (rw (← o .counts) (record { reads = e })) (arm bs h (depth + 1) 13 else k₃) refl
@@ -102,7 +102,7 @@ module _ (bs : List ℕ) (h : Header) (depth close at : ℕ) (k : Counts) where
   view-step : (s : Step) → Of bs h depth k (commandAt bs at) s → Fits bs depth at s → Viewed (armStep (arm bs h) depth close at k s)
   view-step (faulty fault) o f = tt
   view-step closing o f = closes (o .0) (o .1) f
-  view-step (simpleThen c k₂) o f = view-plain c k₂ o f (arm bs h depth close (at + sizeOfSimple c) k₂) refl
+  view-step (simpleThen c k₂) o f = view-plain c k₂ o f (arm bs h depth close (at + simpleSize c) k₂) refl
   view-step (ifThen c k₂) o f = view-fork c k₂ o (f .0) (arm bs h (depth + 1) 12 (at + 4) k₂) refl
 
   module _ (a : Arm) (end : ℕ) (k₁ : Counts) (s : Stands bs h depth close at k a end k₁) where
@@ -120,19 +120,19 @@ module _ (bs : List ℕ) (h : Header) (depth close at : ℕ) (k : Counts) where
 module _ (bs : List ℕ) (h : Header) (P : (depth close at : ℕ) → Counts → Arm → ℕ → Counts → Type 0)
     (on-done : (depth close at : ℕ) (k : Counts) (mark : ℕ) → commandAt bs at ≡ Command.Close mark → at + 1 ≤ length bs → P depth close at k done (at + 1) k)
     (on-plain : (depth close at : ℕ) (k : Counts) (c : Simple) (rest : Arm) (end : ℕ) (k₁ : Counts) → PlainAt bs h depth close at k c rest end k₁
-    → P depth close (at + sizeOfSimple c) (after c k) rest end k₁ → P depth close at k (plain at c k rest) end k₁)
+    → P depth close (at + simpleSize c) (countsAfter c k) rest end k₁ → P depth close at k (plain at c k rest) end k₁)
     (on-fork : (depth close at : ℕ) (k : Counts) (c : Condition) (first second rest : Arm) (end : ℕ) (k₁ : Counts)
     → (f : ForkAt bs h depth close at k c first second rest end k₁)
-    → P (depth + 1) 12 (at + 4) (oneIf k) first (f .else) (f .k₂) → P (depth + 1) 13 (f .else) (f .k₂) second (f .next) (f .k₃)
-    → P depth close (f .next) (f .k₃) rest end k₁ → P depth close at k (fork at c k first second rest) end k₁) where
+    → P (depth + 1) 12 (at + 4) (countsAfterIf k) first (f .else) (f .k₂) → P (depth + 1) 13 (f .else) (f .k₂) second (f .next) (f .k₃)
+    → P depth close (f .next) (f .k₃) rest end k₁ → P depth close at k (ifElse at c k first second rest) end k₁) where
   induct : (a : Arm) (depth close at : ℕ) (k : Counts) (end : ℕ) (k₁ : Counts) → View bs h depth close at k a end k₁ → P depth close at k a end k₁
   induct done depth close at k end k₁ (closes mark e l) = on-done depth close at k mark e l
   induct (plain at₀ c₀ k₀ rest) depth close at k end k₁ (steps {c = c} v) =
       on-plain depth close at k c rest end k₁ v
-      (induct rest depth close (at + sizeOfSimple c) (after c k) end k₁ (view bs h depth close (at + sizeOfSimple c) (after c k) rest end k₁ (v .stands)))
-  induct (fork at₀ c₀ k₀ first second rest) depth close at k end k₁ (forks {c = c} v) =
+      (induct rest depth close (at + simpleSize c) (countsAfter c k) end k₁ (view bs h depth close (at + simpleSize c) (countsAfter c k) rest end k₁ (v .stands)))
+  induct (ifElse at₀ c₀ k₀ first second rest) depth close at k end k₁ (forks {c = c} v) =
       on-fork depth close at k c first second rest end k₁ v
-      (induct first (depth + 1) 12 (at + 4) (oneIf k) (v .else) (v .k₂) (view bs h (depth + 1) 12 (at + 4) (oneIf k) first (v .else) (v .k₂) (v .stands-first)))
+      (induct first (depth + 1) 12 (at + 4) (countsAfterIf k) (v .else) (v .k₂) (view bs h (depth + 1) 12 (at + 4) (countsAfterIf k) first (v .else) (v .k₂) (v .stands-first)))
       (induct second (depth + 1) 13 (v .else) (v .k₂) (v .next) (v .k₃) (view bs h (depth + 1) 13 (v .else) (v .k₂) second (v .next) (v .k₃) (v .stands-second)))
       (induct rest depth close (v .next) (v .k₃) end k₁ (view bs h depth close (v .next) (v .k₃) rest end k₁ (v .stands)))
 
@@ -156,7 +156,7 @@ pub record ByIf (bs : List ℕ) (h : Header) (depth close at : ℕ) (k : Counts)
   pub first : Arm
   pub second : Arm
   pub rest : Arm
-  pub arm : a ≡ fork at c k first second rest
+  pub arm : a ≡ ifElse at c k first second rest
   pub known : ForkAt bs h depth close at k c first second rest end k₁
 
 module _ (bs : List ℕ) (h : Header) (depth close at : ℕ) (k : Counts) where
@@ -184,7 +184,7 @@ module _ (bs : List ℕ) (h : Header) (depth close at : ℕ) (k : Counts) where
   view-if a end k₁ d q (steps v) = let z : _≡_ {A = ℕ} 0 1 = cc (v .command) in absurd (omega arith)
   view-if a end k₁ d q (forks {c = c} {first = first} {second = second} {rest = rest} {end = e₁} {k₁ = k₄} v) =
       let z : c ≡ d = cc (v .command) in
-      subst (λ (w : Condition). ByIf bs h depth close at k w (fork at c k first second rest) e₁ k₄) z
+      subst (λ (w : Condition). ByIf bs h depth close at k w (ifElse at c k first second rest) e₁ k₄) z
       (record { first = first; second = second; rest = rest; arm = refl; known = v })
 
   module _ (a : Arm) (end : ℕ) (k₁ : Counts) (r : Command) (is : r ≡ commandAt bs at) (s : Stands bs h depth close at k a end k₁) where

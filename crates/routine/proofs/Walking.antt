@@ -3,9 +3,9 @@
 use mathlib.Core.Path.{_≡_, refl, sym, _∙_}
 use mathlib.Core.List.{List}
 use Prim.Native.Nat.{ℕ, _+_}
-use Rattle.routine_command.specs.Command.{sizeOfSimple, commandAt}
-use Rattle.routine_faults.specs.Step.{after, oneIf}
-use Rattle.routine.specs.Routine.{Arm, done, plain, fork}
+use Rattle.routine_command.specs.Command.{simpleSize, commandAt}
+use Rattle.routine_faults.specs.Step.{countsAfter, countsAfterIf}
+use Rattle.routine.specs.Routine.{Arm, done, plain, ifElse}
 use Rattle.routine.specs.Inner.Stands.{Stands}
 use Rattle.routine_header.specs.declared.Header.{Header}
 use Rattle.routine_command.specs.declared.Condition.{Condition}
@@ -49,23 +49,23 @@ module _ (bs : List ℕ) (h : Header) (depth close : ℕ) {S R : Type 0} (M : Ar
 
     -- after a command, with the state s₁
     pub at-simple : (c : Simple) → r ≡ Command.Simple c → (s₁ : S)
-        → ((k : Counts) (rest : Arm) → K k s → (K (after c k) s₁) × (M rest s₁ ≡ M (plain at c k rest) s))
-        → Going bs h depth close M K from s₀ (at + sizeOfSimple c) s₁
+        → ((k : Counts) (rest : Arm) → K k s → (K (countsAfter c k) s₁) × (M rest s₁ ≡ M (plain at c k rest) s))
+        → Going bs h depth close M K from s₀ (at + simpleSize c) s₁
     at-simple c q s₁ step = record {
       goes = λ k a end k₁ t x.
           let l = g .goes k a end k₁ t x in
           let v = by-simple bs h depth close at (l .counts) (l .rest) end k₁ r is (l .stands) c q in
           let p = step (l .counts) (v .rest) (l .tied) in
-          record { counts = after c (l .counts); tied = p .0; rest = v .rest; stands = v .known .stands; same = p .1 ∙ rw (v .arm) at (l .same) };
+          record { counts = countsAfter c (l .counts); tied = p .0; rest = v .rest; stands = v .known .stands; same = p .1 ∙ rw (v .arm) at (l .same) };
     }
 
     -- what both arms of an if tell, whichever stand there
     abbrev pub Both : Condition → (Counts → (first second rest : Arm) → (next : ℕ) → Counts → Type 0) → Type 0
     Both c T = (k : Counts) (first second rest : Arm) (else : ℕ) (k₂ : Counts) (next : ℕ) (k₃ : Counts) → K k s
-        → Stands bs h (depth + 1) 12 (at + 4) (oneIf k) first else k₂ → Stands bs h (depth + 1) 13 else k₂ second next k₃ → T k first second rest next k₃
+        → Stands bs h (depth + 1) 12 (at + 4) (countsAfterIf k) first else k₂ → Stands bs h (depth + 1) 13 else k₂ second next k₃ → T k first second rest next k₃
 
     -- at an if after which nothing of the rest matters
-    pub over-if : (c : Condition) → r ≡ Command.If c → (x : R) → Both c (λ k first second rest next k₃. x ≡ M (fork at c k first second rest) s)
+    pub over-if : (c : Condition) → r ≡ Command.If c → (x : R) → Both c (λ k first second rest next k₃. x ≡ M (ifElse at c k first second rest) s)
         → (k : Counts) (a : Arm) (end : ℕ) (k₁ : Counts) → K k s₀ → Stands bs h depth close from k a end k₁ → x ≡ M a s₀
     over-if c q x both k a end k₁ t y =
         let l = g .goes k a end k₁ t y in
@@ -75,7 +75,7 @@ module _ (bs : List ℕ) (h : Header) (depth close : ℕ) {S R : Type 0} (M : Ar
 
     -- after an if, at `next₁` with the state s₁
     pub at-if : (c : Condition) → r ≡ Command.If c → (next₁ : ℕ) (s₁ : S)
-        → Both c (λ k first second rest next k₃. (next₁ ≡ next) × K k₃ s₁ × (M rest s₁ ≡ M (fork at c k first second rest) s))
+        → Both c (λ k first second rest next k₃. (next₁ ≡ next) × K k₃ s₁ × (M rest s₁ ≡ M (ifElse at c k first second rest) s))
         → Going bs h depth close M K from s₀ next₁ s₁
     at-if c q next₁ s₁ both = record {
       goes = λ k a end k₁ t x.

@@ -4,7 +4,7 @@ use mathlib.Core.Bool.{cond}
 use lib.Dec.{eqb}
 use Rattle.routine_command.specs.Command.{touches}
 use Rattle.routine_faults.specs.Step.{accesses}
-use Rattle.routine.specs.Routine.{Arm, done, plain, fork}
+use Rattle.routine.specs.Routine.{Arm, done, plain, ifElse}
 use Rattle.routine_command.specs.declared.Simple.{Simple}
 use Rattle.routine_command.specs.declared.Touch.{Touch}
 use Rattle.routine_faults.specs.declared.Counts.{Counts}
@@ -29,7 +29,7 @@ orElse (Access.Here k array i) other = Access.Here k array i
 unfoldable pub accessAt : Arm → (n : ℕ) → Access
 accessAt done n = Access.Nowhere
 accessAt (plain at c k rest) n = orElse (accessHere c k n) (accessAt rest n)
-accessAt (fork at c k first second rest) n = orElse (accessAt first n) (orElse (accessAt second n) (accessAt rest n))
+accessAt (ifElse at c k first second rest) n = orElse (accessAt first n) (orElse (accessAt second n) (accessAt rest n))
 
 -- how many ifs stand before what was found
 abbrev pub ifsOf : Access → ℕ

@@ -45,13 +45,13 @@ unfoldable pub commandsIn : List ℕ → Arm
 commandsIn bs = commandsOf (decode bs)
 
 -- the answer: a routine is accepted with its header and its counts
-abbrev pub answer : Decoded → Checked
-answer (rejected refusal) = Checked.Refused refusal
-answer (routine h a k) = Checked.Accepted h k
+abbrev pub checkAnswer : Decoded → Checked
+checkAnswer (rejected refusal) = Checked.Refused refusal
+checkAnswer (routine h a k) = Checked.Accepted h k
 
 -- what `check` answers for these bytes
 unfoldable pub checked : List ℕ → Checked
-checked bs = answer (decode bs)
+checked bs = checkAnswer (decode bs)
 
 -- the bytes are a routine with this header
 pub record IsRoutine (bs : List ℕ) (h : Header) : Type 0 where

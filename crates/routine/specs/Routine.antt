@@ -2,7 +2,7 @@
 use Prim.Native.Nat.{ℕ, zero, suc, _+_}
 use mathlib.Core.List.{List, [], _∷_, _++_}
 use lib.ListN.{length}
-use Rattle.routine_command.specs.Command.{commandAt, sizeOfSimple}
+use Rattle.routine_command.specs.Command.{commandAt, simpleSize}
 use Rattle.routine_faults.specs.Step.{Step, faulty, closing, simpleThen, ifThen, stepOf}
 use Rattle.routine_header.specs.declared.Header.{Header}
 use Rattle.routine_command.specs.declared.Condition.{Condition}
@@ -15,13 +15,13 @@ use Rattle.routine_faults.specs.declared.Fault.{Fault}
 pub data Arm : Type 0 where
   done : Arm
   plain : (at : ℕ) → Simple → Counts → (rest : Arm) → Arm
-  fork : (at : ℕ) → Condition → Counts → (first second rest : Arm) → Arm
+  ifElse : (at : ℕ) → Condition → Counts → (first second rest : Arm) → Arm
 
 -- The commands of an arm that are no part of an if, in text order.
 unfoldable pub textOf : Arm → List Simple
 textOf done = []
 textOf (plain at c k rest) = c ∷ textOf rest
-textOf (fork at c k first second rest) = textOf first ++ (textOf second ++ textOf rest)
+textOf (ifElse at c k first second rest) = textOf first ++ (textOf second ++ textOf rest)
 
 -- What reading finds: the fault of the command at a place, or what was read, the offset after it, and the counts there.
 pub data Parsed (A : Type 0) : Type 0 where
@@ -29,42 +29,42 @@ pub data Parsed (A : Type 0) : Type 0 where
   parsed : A → (end : ℕ) → Counts → Parsed A
 
 -- Goes on with what was read.
-abbrev pub andThen : {A B : Type 0} → Parsed A → (A → ℕ → Counts → Parsed B) → Parsed B
-andThen (refused fault place) f = refused fault place
-andThen (parsed a end k) f = f a end k
+abbrev pub readOn : {A B : Type 0} → Parsed A → (A → ℕ → Counts → Parsed B) → Parsed B
+readOn (refused fault place) f = refused fault place
+readOn (parsed a end k) f = f a end k
 
 -- How an arm is read: inside so many ifs, up to the command byte that ends it, from an offset, after some counts.
-abbrev pub Reader : Type 0
-Reader = (depth close at : ℕ) → Counts → Parsed Arm
+abbrev pub ArmReader : Type 0
+ArmReader = (depth close at : ℕ) → Counts → Parsed Arm
 
 -- The two arms of the if at `at`: the first is ended by an else, the second by an end of if.
-abbrev pub ifArms : Reader → (depth at : ℕ) → Counts → Parsed (Arm × Arm)
+abbrev pub ifArms : ArmReader → (depth at : ℕ) → Counts → Parsed (Arm × Arm)
 ifArms read depth at k =
-    andThen (read (depth + 1) 0x0C (at + 4) k) (λ first at₁ k₁.
-    andThen (read (depth + 1) 0x0D at₁ k₁) (λ second at₂ k₂.
+    readOn (read (depth + 1) 0x0C (at + 4) k) (λ first at₁ k₁.
+    readOn (read (depth + 1) 0x0D at₁ k₁) (λ second at₂ k₂.
     parsed (first, second) at₂ k₂))
 
 -- The arm from `at` on, by what its first command is; the rest of it, and the arms of an if, are read by `read`.
-abbrev pub armStep : Reader → (depth close at : ℕ) → Counts → Step → Parsed Arm
+abbrev pub armStep : ArmReader → (depth close at : ℕ) → Counts → Step → Parsed Arm
 armStep read depth close at k (faulty fault) = refused fault at
 armStep read depth close at k closing = parsed done (at + 1) k
 armStep read depth close at k (simpleThen c k₁) =
-    andThen (read depth close (at + sizeOfSimple c) k₁) (λ rest end k₂.
+    readOn (read depth close (at + simpleSize c) k₁) (λ rest end k₂.
     parsed (plain at c k rest) end k₂)
 armStep read depth close at k (ifThen c k₁) =
-    andThen (ifArms read depth at k₁) (λ arms at₂ k₂.
-    andThen (read depth close at₂ k₂) (λ rest end k₃.
-    parsed (fork at c k (arms .0) (arms .1) rest) end k₃))
+    readOn (ifArms read depth at k₁) (λ arms at₂ k₂.
+    readOn (read depth close at₂ k₂) (λ rest end k₃.
+    parsed (ifElse at c k (arms .0) (arms .1) rest) end k₃))
 
 -- What the command at `at` is.
 abbrev pub stepAt : List ℕ → Header → (depth close at : ℕ) → Counts → Step
 stepAt bs h depth close at k = stepOf bs h depth close (commandAt bs at) k
 
 -- The arm from `at` on, in at most so many steps: one more than the bytes left is enough.
-unfoldable pub armBy : ℕ → List ℕ → Header → Reader
+unfoldable pub armBy : ℕ → List ℕ → Header → ArmReader
 armBy zero bs h depth close at k = refused Fault.Unknown at
 armBy (suc n) bs h depth close at k = armStep (armBy n bs h) depth close at k (stepAt bs h depth close at k)
 
 -- The arm from `at` on.
-abbrev pub arm : List ℕ → Header → Reader
+abbrev pub arm : List ℕ → Header → ArmReader
 arm bs = armBy (suc (length bs)) bs

@@ -8,7 +8,7 @@ use routine_command::commands::command_at;
 use routine_command::commands::simple_size;
 use routine_faults::Counts;
 use routine_faults::Fault;
-use routine_faults::Verdict;
+use routine_faults::Flaw;
 use routine_faults::steps::counts_after;
 use routine_faults::steps::counts_after_if;
 use routine_faults::steps::if_fault;
@@ -47,8 +47,8 @@ pub fn walk_arm(
                 return Walked::Ended(at + 1, k);
             }
             Command::If(c) => match if_fault(bytes, h, depth, c, k) {
-                Verdict::Faulty(fault) => return Walked::Refused(fault, at),
-                Verdict::Good => match walk_if(bytes, h, depth, at, counts_after_if(k)) {
+                Flaw::Fault(fault) => return Walked::Refused(fault, at),
+                Flaw::Nothing => match walk_if(bytes, h, depth, at, counts_after_if(k)) {
                     Walked::Refused(fault, place) => return Walked::Refused(fault, place),
                     Walked::Ended(next, counts) => {
                         at = next;
@@ -57,8 +57,8 @@ pub fn walk_arm(
                 },
             },
             Command::Simple(c) => match simple_fault(bytes, h, c, k) {
-                Verdict::Faulty(fault) => return Walked::Refused(fault, at),
-                Verdict::Good => {
+                Flaw::Fault(fault) => return Walked::Refused(fault, at),
+                Flaw::Nothing => {
                     at += simple_size(c);
                     k = counts_after(c, k);
                 }
@@ -82,8 +82,8 @@ fn walk_if(bytes: &[u8], h: Header, depth: u8, at: usize, k: Counts) -> Walked
 pub fn check_commands(bytes: &[u8], h: Header) -> Checked
     ensures { λ r. ⌜ r ≡ checkedCommands (now (bytes .entry)) h ⌝ }
 {
-    let none = no_counts();
-    match walk_arm(bytes, h, 0, 0x00, first_command(h), none) {
+    let nothing_yet = no_counts();
+    match walk_arm(bytes, h, 0, 0x00, first_command(h), nothing_yet) {
         Walked::Refused(fault, place) => Checked::Refused(Refusal::Command(fault, place)),
         Walked::Ended(next, counts) => {
             if next == bytes.len() {

@@ -5,7 +5,7 @@ use Prim.Native.Nat.{ℕ, _≤_, _<_}
 use native.Mathlib.Omega.{arith}
 use lib.Dec.{eqb, leb}
 use borrow.Author.Tests.{eqb-false, ne-eqb, le-leb, lt-leb}
-use Rattle.routine_command.specs.Command.{commandBy, sizeOf, sizeBy}
+use Rattle.routine_command.specs.Command.{commandBy, commandSize, sizeByOp}
 use Rattle.routine_command.specs.declared.Condition.{Condition}
 use Rattle.routine_command.specs.declared.Simple.{Simple}
 use Rattle.routine_command.specs.declared.Command.{Command}
@@ -57,11 +57,11 @@ module _ (op a b c k : ℕ) where
 
 module _ (op : ℕ) where
   -- a byte without operands, known or not
-  alone : (t : Bool) → 1 ≡ sizeOf (cond t (Command.Close op) Command.Missing)
+  alone : (t : Bool) → 1 ≡ commandSize (cond t (Command.Close op) Command.Missing)
   alone true = refl
   alone false = refl
 
-  pub alone-low : op < 3 → (op ≡ 1 → ⊥) → (op ≡ 2 → ⊥) → 1 ≡ sizeBy op
+  pub alone-low : op < 3 → (op ≡ 1 → ⊥) → (op ≡ 2 → ⊥) → 1 ≡ sizeByOp op
   unfolding commandBy
   alone-low l m n =
       simp (
@@ -74,7 +74,7 @@ module _ (op : ℕ) where
         ne-eqb op 11 (λ e. omega arith),
       ) (alone (eqb op 0x00 || (leb 0x0C op && leb op 0x0D)))
 
-  pub alone-high : 12 ≤ op → 1 ≡ sizeBy op
+  pub alone-high : 12 ≤ op → 1 ≡ sizeByOp op
   unfolding commandBy
   alone-high l =
       simp (
@@ -90,7 +90,7 @@ module _ (op : ℕ) where
       ) (alone (eqb op 0x00 || (leb 0x0C op && leb op 0x0D)))
 
   -- reads, writes and ifs take four bytes
-  pub four-bytes : 9 ≤ op → op ≤ 11 → 4 ≡ sizeBy op
+  pub four-bytes : 9 ≤ op → op ≤ 11 → 4 ≡ sizeByOp op
   unfolding commandBy
   four-bytes l h =
       simp (
@@ -103,7 +103,7 @@ module _ (op : ℕ) where
       ) (pick (eqb op 9) (eqb op 10) (eqb op 11) refl refl refl)
     where
       pick : (p q r : Bool) → eqb op 9 ≡ p → eqb op 10 ≡ q → eqb op 11 ≡ r
-          → 4 ≡ sizeOf (cond p (Command.Simple (Simple.Read 0 0 0)) (cond q (Command.Simple (Simple.Write 0 0 0))
+          → 4 ≡ commandSize (cond p (Command.Simple (Simple.Read 0 0 0)) (cond q (Command.Simple (Simple.Write 0 0 0))
           (cond r (Command.If (record { relation = 0; s = 0; t = 0 })) (cond (eqb op 0x00 || (leb 0x0C op && leb op 0x0D)) (Command.Close op) Command.Missing))))
       pick true q r e f g = refl
       pick false true r e f g = refl

@@ -11,12 +11,12 @@ use Rattle.routine_command.specs.declared.Touch.{Touch}
 use Rattle.routine_command.specs.declared.Command.{Command}
 
 -- the size of a simple command in bytes
-abbrev pub sizeOfSimple : Simple → ℕ
-sizeOfSimple (Simple.Set d c) = 6
-sizeOfSimple (Simple.Convert op d s) = 3
-sizeOfSimple (Simple.Compute op d s t) = 4
-sizeOfSimple (Simple.Read d array i) = 4
-sizeOfSimple (Simple.Write array i s) = 4
+abbrev pub simpleSize : Simple → ℕ
+simpleSize (Simple.Set d c) = 6
+simpleSize (Simple.Convert op d s) = 3
+simpleSize (Simple.Compute op d s t) = 4
+simpleSize (Simple.Read d array i) = 4
+simpleSize (Simple.Write array i s) = 4
 
 -- what a command does with an array: reads and writes are the accesses, each by the index in a variable
 abbrev pub touches : Simple → Touch
@@ -34,11 +34,11 @@ touchesOf (Command.If c) = Touch.Nothing
 touchesOf (Command.Simple c) = touches c
 
 -- the size of a command in bytes
-abbrev pub sizeOf : Command → ℕ
-sizeOf Command.Missing = 1
-sizeOf (Command.Close mark) = 1
-sizeOf (Command.If c) = 4
-sizeOf (Command.Simple c) = sizeOfSimple c
+abbrev pub commandSize : Command → ℕ
+commandSize Command.Missing = 1
+commandSize (Command.Close mark) = 1
+commandSize (Command.If c) = 4
+commandSize (Command.Simple c) = simpleSize c
 
 -- the command by its byte `op`, with those of the operands a, b, c (one byte each) and the constant that it has; any other byte is unknown
 unfoldable pub commandBy : (op a b c const : ℕ) → Command
@@ -53,8 +53,8 @@ commandBy op a b c const =
     Command.Missing))))))
 
 -- the size of a command by its byte alone: the operands do not matter
-abbrev pub sizeBy : (op : ℕ) → ℕ
-sizeBy op = sizeOf (commandBy op 0 0 0 0)
+abbrev pub sizeByOp : (op : ℕ) → ℕ
+sizeByOp op = commandSize (commandBy op 0 0 0 0)
 
 -- the command whose byte stands at `at`; operands past the end count as 0
 abbrev pub commandOf : List ℕ → ℕ → Command
@@ -62,4 +62,4 @@ commandOf bs at = commandBy (entry bs at) (entry bs (at + 1)) (entry bs (at + 2)
 
 -- the whole command at `at`: Missing where it is unknown or cut short, or where there is none
 unfoldable pub commandAt : List ℕ → ℕ → Command
-commandAt bs at = cond (leb (sizeOf (commandOf bs at)) (length bs - at)) (commandOf bs at) Command.Missing
+commandAt bs at = cond (leb (commandSize (commandOf bs at)) (length bs - at)) (commandOf bs at) Command.Missing

@@ -9,10 +9,10 @@ ghost use mathlib.Core.Path.{_≡_};
 ghost use Prim.Native.Nat.{_+_, _<_};
 ghost use lib.ListN.{length};
 ghost use Rattle.slices.specs.Bytes.{entry};
-ghost use Rattle.routine_command.specs.Command.{commandOf, commandAt, sizeBy, sizeOf, sizeOfSimple, touches, touchesOf};
+ghost use Rattle.routine_command.specs.Command.{commandOf, commandAt, sizeByOp, commandSize, simpleSize, touches, touchesOf};
 
 pub fn simple_size(c: Simple) -> usize
-    ensures { λ r. ⌜ r ≡ sizeOfSimple c ⌝ }
+    ensures { λ r. ⌜ r ≡ simpleSize c ⌝ }
 {
     match c {
         Simple::Set { .. } => 6,
@@ -46,8 +46,8 @@ pub fn touch_of(command: Command) -> Touch
     }
 }
 
-pub fn size_of(command: Command) -> usize
-    ensures { λ r. ⌜ r ≡ sizeOf command ⌝ }
+pub fn command_size(command: Command) -> usize
+    ensures { λ r. ⌜ r ≡ commandSize command ⌝ }
 {
     match command {
         Command::Missing => 1,
@@ -58,8 +58,8 @@ pub fn size_of(command: Command) -> usize
 }
 
 // How many bytes a command takes, by its own byte alone.
-pub fn size_by(op: u8) -> usize
-    ensures { λ r. ⌜ r ≡ sizeBy op ⌝ }
+pub fn size_by_op(op: u8) -> usize
+    ensures { λ r. ⌜ r ≡ sizeByOp op ⌝ }
 {
     match op {
         0x01 => 6,
@@ -147,7 +147,7 @@ pub fn command_at(bytes: &[u8], at: usize) -> Command
         return Command::Missing;
     }
     let command = command_of(bytes, at);
-    if size_of(command) <= bytes.len() - at {
+    if command_size(command) <= bytes.len() - at {
         command
     } else {
         Command::Missing

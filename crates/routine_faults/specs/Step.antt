@@ -61,14 +61,14 @@ unfoldable pub tooMany : Simple → Counts → Bool
 tooMany c k = isAccess c && leb 64 (accesses k)
 
 -- the counts after a read or a write
-abbrev pub afterBy : Touch → Counts → Counts
-afterBy Touch.Nothing k = k
-afterBy (Touch.Reads d array i) k = record { ifs = k .ifs; reads = k .reads + 1; writes = k .writes }
-afterBy (Touch.Writes array i) k = record { ifs = k .ifs; reads = k .reads; writes = k .writes + 1 }
+abbrev pub countsAfterBy : Touch → Counts → Counts
+countsAfterBy Touch.Nothing k = k
+countsAfterBy (Touch.Reads d array i) k = record { ifs = k .ifs; reads = k .reads + 1; writes = k .writes }
+countsAfterBy (Touch.Writes array i) k = record { ifs = k .ifs; reads = k .reads; writes = k .writes + 1 }
 
 -- the counts after a command
-abbrev pub after : Simple → Counts → Counts
-after c k = afterBy (touches c) k
+abbrev pub countsAfter : Simple → Counts → Counts
+countsAfter c k = countsAfterBy (touches c) k
 
 -- what a command is where it stands: it has a fault, it ends its arm, or it is one that is no part of an if, or an if, with the counts after it
 pub data Step : Type 0 where
@@ -84,11 +84,11 @@ simpleStep bs h c k =
     unless (inRange bs h c) (faulty Fault.Operand)
     (unless (widthsFit bs c) (faulty Fault.Widths)
     (unless (not (tooMany c k)) (faulty Fault.TooMany)
-    (simpleThen c (after c k))))
+    (simpleThen c (countsAfter c k))))
 
 -- the counts after an if was met
-abbrev pub oneIf : Counts → Counts
-oneIf k = record { ifs = k .ifs + 1; reads = k .reads; writes = k .writes }
+abbrev pub countsAfterIf : Counts → Counts
+countsAfterIf k = record { ifs = k .ifs + 1; reads = k .reads; writes = k .writes }
 
 -- the relation and the operands of an if are in range
 abbrev pub conditionInRange : Header → Condition → Bool
@@ -102,7 +102,7 @@ ifStep bs h depth c k =
     (unless (eqb (width bs (c .s)) (width bs (c .t))) (faulty Fault.Widths)
     (unless (ltb depth 8) (faulty Fault.Misplaced)
     (unless (ltb (k .ifs) 32) (faulty Fault.TooMany)
-    (ifThen c (oneIf k)))))
+    (ifThen c (countsAfterIf k)))))
 
 -- the command inside `depth` ifs, in an arm that the command byte `close` ends, after the counts k
 unfoldable pub stepOf : List ℕ → Header → (depth close : ℕ) → Command → Counts → Step

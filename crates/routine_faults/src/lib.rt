@@ -23,8 +23,8 @@ pub enum Fault {
     TooMany,
 }
 
-// What is found of a command where it stands: it is good, or what is wrong with it.
-pub enum Verdict {
-    Good,
-    Faulty(Fault),
+// What is found of a command where it stands: nothing, or what is wrong with it.
+pub enum Flaw {
+    Nothing,
+    Fault(Fault),
 }

@@ -1,7 +1,7 @@
 // What a command is where it stands: refusals 3 to 7, in their order.
 use crate::Counts;
 use crate::Fault;
-use crate::Verdict;
+use crate::Flaw;
 use routine_command::Condition;
 use routine_command::Simple;
 use routine_command::Touch;
@@ -13,8 +13,8 @@ ghost use mathlib.Core.Path.{_≡_};
 ghost use Prim.Native.Nat.{_^_, _<_};
 ghost use lib.Dec.{ltb, eqb};
 ghost use mathlib.Core.Bool.{false, _&&_};
-ghost use Rattle.routine_faults.specs.Step.{converts, inRange, widthsFit, noCounts, accesses, isAccess, tooMany, after, simpleStep, oneIf, ifStep};
-ghost use Rattle.routine_faults.specs.Inner.Verdict.{verdictOf};
+ghost use Rattle.routine_faults.specs.Step.{converts, inRange, widthsFit, noCounts, accesses, isAccess, tooMany, countsAfter, simpleStep, countsAfterIf, ifStep};
+ghost use Rattle.routine_faults.specs.Inner.Flaw.{flawOf};
 
 // c is below 2 to the width w.
 pub fn fits_width(c: u32, w: u8) -> bool
@@ -123,7 +123,7 @@ fn too_many(c: Simple, k: Counts) -> bool
 // The counts after a command that is not the 65th access.
 pub fn counts_after(c: Simple, k: Counts) -> Counts
     requires { ⌜ tooMany c k ≡ false ⌝ }
-    ensures { λ r. ⌜ r ≡ after c k ⌝ }
+    ensures { λ r. ⌜ r ≡ countsAfter c k ⌝ }
 {
     match touched(c) {
         Touch::Nothing => k,
@@ -141,25 +141,25 @@ pub fn counts_after(c: Simple, k: Counts) -> Counts
 }
 
 // What is wrong with a command that is no part of an if, after the counts k.
-pub fn simple_fault(bytes: &[u8], h: Header, c: Simple, k: Counts) -> Verdict
-    ensures { λ r. ⌜ r ≡ verdictOf (simpleStep (now (bytes .entry)) h c k) ⌝ }
+pub fn simple_fault(bytes: &[u8], h: Header, c: Simple, k: Counts) -> Flaw
+    ensures { λ r. ⌜ r ≡ flawOf (simpleStep (now (bytes .entry)) h c k) ⌝ }
 {
     if !in_range(bytes, h, c) {
-        return Verdict::Faulty(Fault::Operand);
+        return Flaw::Fault(Fault::Operand);
     }
     if !widths_fit(bytes, c) {
-        return Verdict::Faulty(Fault::Widths);
+        return Flaw::Fault(Fault::Widths);
     }
     if too_many(c, k) {
-        return Verdict::Faulty(Fault::TooMany);
+        return Flaw::Fault(Fault::TooMany);
     }
-    Verdict::Good
+    Flaw::Nothing
 }
 
 // The counts after an if that is not the 33rd.
 pub fn counts_after_if(k: Counts) -> Counts
     requires { ⌜ k .ifs < 32 ⌝ }
-    ensures { λ r. ⌜ r ≡ oneIf k ⌝ }
+    ensures { λ r. ⌜ r ≡ countsAfterIf k ⌝ }
 {
     Counts {
         ifs: k.ifs + 1,
@@ -169,20 +169,20 @@ pub fn counts_after_if(k: Counts) -> Counts
 }
 
 // What is wrong with an if inside `depth` others, after the counts k.
-pub fn if_fault(bytes: &[u8], h: Header, depth: u8, c: Condition, k: Counts) -> Verdict
-    ensures { λ r. ⌜ r ≡ verdictOf (ifStep (now (bytes .entry)) h depth c k) ⌝ }
+pub fn if_fault(bytes: &[u8], h: Header, depth: u8, c: Condition, k: Counts) -> Flaw
+    ensures { λ r. ⌜ r ≡ flawOf (ifStep (now (bytes .entry)) h depth c k) ⌝ }
 {
     if !below3(c.relation, 10, c.s, h.variables, c.t, h.variables) {
-        return Verdict::Faulty(Fault::Operand);
+        return Flaw::Fault(Fault::Operand);
     }
     if width_of(bytes, c.s) != width_of(bytes, c.t) {
-        return Verdict::Faulty(Fault::Widths);
+        return Flaw::Fault(Fault::Widths);
     }
     if 8 <= depth {
-        return Verdict::Faulty(Fault::Misplaced);
+        return Flaw::Fault(Fault::Misplaced);
     }
     if 32 <= k.ifs {
-        return Verdict::Faulty(Fault::TooMany);
+        return Flaw::Fault(Fault::TooMany);
     }
-    Verdict::Good
+    Flaw::Nothing
 }

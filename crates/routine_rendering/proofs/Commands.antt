@@ -10,7 +10,7 @@ use lib.Dec.{leb, eqb}
 use borrow.Author.Tests.{ne-eqb, le-leb, lt-leb, eqb-true, leb-true}
 use Rattle.slices.specs.Bytes.{entry, word}
 use Rattle.routine_header.specs.Header.{between}
-use Rattle.routine_command.specs.Command.{sizeOf, sizeOfSimple, commandBy, commandOf, commandAt}
+use Rattle.routine_command.specs.Command.{commandSize, simpleSize, commandBy, commandOf, commandAt}
 use Rattle.routine_rendering.specs.Render.{four, simpleBytes}
 use Rattle.routine_rendering.specs.WellFormed.{Between}
 use Rattle.routine_command.specs.declared.Simple.{Simple}
@@ -27,11 +27,11 @@ unfolding commandAt
 command-from bs at ys is =
     let e : length ys ≡ length ys - 0 = omega arith in
     rw (entry-here bs at ys is, entry-at bs at ys is 1, entry-at bs at ys is 2, entry-at bs at ys is 3, word-at bs at ys is, bytes-left bs at ys is)
-    (ap (λ (n : ℕ). cond (leb (sizeOf (commandOf ys 0)) n) (commandOf ys 0) Command.Missing) e)
+    (ap (λ (n : ℕ). cond (leb (commandSize (commandOf ys 0)) n) (commandOf ys 0) Command.Missing) e)
 
 -- a whole command at the start of the bytes
-whole-here : (ys : List ℕ) (c : Command) → commandOf ys 0 ≡ c → sizeOf c ≤ length ys → commandAt ys 0 ≡ c
-whole-here ys c e l = let m : sizeOf c ≤ length ys - 0 = omega arith in sym (whole ys 0 c (sym e) m)
+whole-here : (ys : List ℕ) (c : Command) → commandOf ys 0 ≡ c → commandSize c ≤ length ys → commandAt ys 0 ≡ c
+whole-here ys c e l = let m : commandSize c ≤ length ys - 0 = omega arith in sym (whole ys 0 c (sym e) m)
 
 -- ---- from the bytes to the command
 
@@ -145,7 +145,7 @@ module _ (bs : List ℕ) (at : ℕ) where
   holds-at : HoldsAt (commandAt bs at)
   unfolding commandAt
   holds-at =
-      by-test HoldsAt (leb (sizeOf (commandOf bs at)) (length bs - at)) (commandOf bs at) Command.Missing
+      by-test HoldsAt (leb (commandSize (commandOf bs at)) (length bs - at)) (commandOf bs at) Command.Missing
       (λ e. holds (entry bs at) (entry bs (at + 1)) (entry bs (at + 2)) (entry bs (at + 3)) (word bs (at + 2))) tt
 
   pub close-there : (mark : ℕ) → commandAt bs at ≡ Command.Close mark → at + 1 ≤ length bs → drop at bs ≡ mark ∷ drop (at + 1) bs
@@ -176,8 +176,8 @@ module _ (bs : List ℕ) (at : ℕ) where
         rw (e₁, e₂, e₃) (omega arith),
       )
 
-  stood : AreBytes bs → (c : Simple) → at + sizeOfSimple c ≤ length bs → HoldsAt (Command.Simple c)
-      → (drop at bs ≡ simpleBytes c ++ drop (at + sizeOfSimple c) bs) × Kind c
+  stood : AreBytes bs → (c : Simple) → at + simpleSize c ≤ length bs → HoldsAt (Command.Simple c)
+      → (drop at bs ≡ simpleBytes c ++ drop (at + simpleSize c) bs) × Kind c
   unfolding simpleBytes
   stood f (Simple.Set d x) l h =
       let q = constant f l in
@@ -188,6 +188,6 @@ module _ (bs : List ℕ) (at : ℕ) where
   stood f (Simple.Read d array i) l h = (rw (h .1, h .2, h .3, ← h .0) (front₄ l), tt)
   stood f (Simple.Write array i s) l h = (rw (h .1, h .2, h .3, ← h .0) (front₄ l), tt)
 
-  pub simple-there : AreBytes bs → (c : Simple) → commandAt bs at ≡ Command.Simple c → at + sizeOfSimple c ≤ length bs
-      → (drop at bs ≡ simpleBytes c ++ drop (at + sizeOfSimple c) bs) × Kind c
+  pub simple-there : AreBytes bs → (c : Simple) → commandAt bs at ≡ Command.Simple c → at + simpleSize c ≤ length bs
+      → (drop at bs ≡ simpleBytes c ++ drop (at + simpleSize c) bs) × Kind c
   simple-there f c e l = stood f c l (subst HoldsAt e holds-at)

@@ -10,11 +10,11 @@ use borrow.Author.Tests.{le-leb, eq-eqb}
 use Rattle.routine_header.specs.Header.{firstCommand}
 use Rattle.routine_faults.specs.Inner.Sound.{Fine}
 use Rattle.routine.specs.Routine.{Arm}
-use Rattle.routine.specs.Decode.{noCounts, routine, decode, answer, checked}
-use Rattle.routine_rendering.specs.Syntax.{Text, none, simple, branch, Syntax}
+use Rattle.routine.specs.Decode.{noCounts, routine, decode, checkAnswer, checked}
+use Rattle.routine_rendering.specs.Syntax.{Text, noMore, simple, ifText, Syntax}
 use Rattle.routine_rendering.specs.Render.{simpleBytes, textBytes, render}
-use Rattle.routine_rendering.specs.WellFormed.{depth, ifs, reads, writes, accesses, WellFormed}
-use Rattle.routine_rendering.specs.Exactly.{AreBytes, Accepted, Rendered, headOf, countsOf, plus, armOf, commandsOf, Exactly}
+use Rattle.routine_rendering.specs.WellFormed.{depth, ifs, reads, writes, accessCount, WellFormed}
+use Rattle.routine_rendering.specs.Exactly.{AreBytes, Accepted, Rendered, headOf, textCounts, plus, numbered, numberedCommands, Exactly}
 use Rattle.routine_header.specs.declared.Header.{Header}
 use Rattle.routine_faults.specs.declared.Counts.{Counts}
 use Rattle.routine.specs.declared.Checked.{Checked}
@@ -29,7 +29,7 @@ use Rattle.routine_rendering.proofs.Readings.{past, all-read}
 
 -- ---- the bytes of a well-formed routine decode to it
 
-pub rendered-decodes : (p : Syntax) → WellFormed p → decode (render p) ≡ routine (headOf p) (commandsOf p) (countsOf p)
+pub rendered-decodes : (p : Syntax) → WellFormed p → decode (render p) ≡ routine (headOf p) (numberedCommands p) (textCounts p)
 unfolding render decode
 rendered-decodes p w =
     let bs = render p in
@@ -38,26 +38,26 @@ rendered-decodes p w =
     let e = header-read bs p (textBytes t ++ (0 ∷ [])) refl (w .variables) (w .widths) (omega (arith, w .parameters)) (omega (arith, w .arrays)) (w .sizes) in
     let d : 0 + depth t ≤ 8 = omega (arith, w .deep) in
     let i : 0 + ifs t ≤ 32 = omega (arith, w .few-ifs) in
-    let a : 0 + 0 + accesses t ≤ 64 = omega (arith, w .few-accesses) in
+    let a : 0 + 0 + accessCount t ≤ 64 = omega (arith, w .few-accesses) in
     let b = from-commands bs p (textBytes t ++ (0 ∷ [])) refl in
     let s = all-read bs h p (same-read bs p (textBytes t ++ (0 ∷ [])) refl) (λ v l. w .widths v l .high) t 0 0 (firstCommand h) noCounts []
     (inl refl) b (w .commands) d i a in
     let l = w .short in
     let end = firstCommand h + length (textBytes t) + 1 in
-    let o = onward bs h 0 0 (firstCommand h) noCounts (commandsOf p) end (plus noCounts t) s in
+    let o = onward bs h 0 0 (firstCommand h) noCounts (numberedCommands p) end (plus noCounts t) s in
     let q : end ≡ length bs = omega (arith, bytes-left bs end [] (past bs (firstCommand h) (textBytes t) 0 [] b)) in
     let i₁ : 0 + ifs t ≡ ifs t = omega arith in
     let r₁ : 0 + reads t ≡ reads t = omega arith in
     let w₁ : 0 + writes t ≡ writes t = omega arith in
     simp (le-leb 1 (length bs) (omega arith), le-leb (length bs) 4096 l, e, s .reads, eq-eqb end (length bs) q)
-    (λ j. routine h (commandsOf p) (record { ifs = i₁ j; reads = r₁ j; writes = w₁ j }))
+    (λ j. routine h (numberedCommands p) (record { ifs = i₁ j; reads = r₁ j; writes = w₁ j }))
 
 pub rendered-accepted : (p : Syntax) → WellFormed p → Accepted (render p)
-rendered-accepted p w = record { header = headOf p; routine = record { commands = commandsOf p; counts = countsOf p; decodes = rendered-decodes p w } }
+rendered-accepted p w = record { header = headOf p; routine = record { commands = numberedCommands p; counts = textCounts p; decodes = rendered-decodes p w } }
 
-rendered-answered : (p : Syntax) → WellFormed p → checked (render p) ≡ Checked.Accepted (headOf p) (countsOf p)
+rendered-answered : (p : Syntax) → WellFormed p → checked (render p) ≡ Checked.Accepted (headOf p) (textCounts p)
 unfolding checked
-rendered-answered p w = ap answer (rendered-decodes p w)
+rendered-answered p w = ap checkAnswer (rendered-decodes p w)
 
 -- ---- what decodes is the bytes of a well-formed routine
 
@@ -105,16 +105,16 @@ accepted-rendered bs f h a k e = record { syntax = told bs f h a k e; formed = t
 -- ---- both, and no two well-formed routines have the same bytes
 
 -- the commands of a text are its own
-text-of : (t : Text) (at : ℕ) (k : Counts) → text (armOf at k t) ≡ t
-unfolding text armOf
-text-of none at k = refl
-text-of (simple c rest) at k = ap (simple c) (text-of rest (at + length (simpleBytes c)) (plus k (simple c none)))
-text-of (branch c first second rest) at k =
-    let k₁ = plus k (branch c none none none) in
+text-of : (t : Text) (at : ℕ) (k : Counts) → text (numbered at k t) ≡ t
+unfolding text numbered
+text-of noMore at k = refl
+text-of (simple c rest) at k = ap (simple c) (text-of rest (at + length (simpleBytes c)) (plus k (simple c noMore)))
+text-of (ifText c first second rest) at k =
+    let k₁ = plus k (ifText c noMore noMore noMore) in
     let x = text-of first (at + 4) k₁ in
     let y = text-of second (at + 4 + length (textBytes first) + 1) (plus k₁ first) in
-    let z = text-of rest (at + length (textBytes (branch c first second none))) (plus k (branch c first second none)) in
-    λ i. branch c (x i) (y i) (z i)
+    let z = text-of rest (at + length (textBytes (ifText c first second noMore))) (plus k (ifText c first second noMore)) in
+    λ i. ifText c (x i) (y i) (z i)
 
 back : (p : Syntax) → WellFormed p → syntaxOf (render p) (headOf p) (p .commands) ≡ p
 unfolding render
@@ -122,10 +122,10 @@ back p w = read-back (render p) p (textBytes (p .commands) ++ (0 ∷ [])) refl (
 
 render-once : (p q : Syntax) → WellFormed p → WellFormed q → render p ≡ render q → p ≡ q
 render-once p q v w e =
-    let d : routine (headOf p) (commandsOf p) (countsOf p) ≡ routine (headOf q) (commandsOf q) (countsOf q) =
+    let d : routine (headOf p) (numberedCommands p) (textCounts p) ≡ routine (headOf q) (numberedCommands q) (textCounts q) =
     sym (rendered-decodes p v) ∙ ap decode e ∙ rendered-decodes q w in
     let h : headOf p ≡ headOf q = cc in
-    let a : commandsOf p ≡ commandsOf q = cc in
+    let a : numberedCommands p ≡ numberedCommands q = cc in
     let t : p .commands ≡ q .commands = sym (text-of (p .commands) _ _) ∙ ap text a ∙ text-of (q .commands) _ _ in
     sym (back p v) ∙ (λ i. syntaxOf (e i) (h i) (t i)) ∙ back q w
 

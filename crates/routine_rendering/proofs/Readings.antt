@@ -9,16 +9,15 @@ use lib.ListN.{length, drop, length-append}
 use lib.Seq.{drop-append-add}
 use lib.Dec.{lit≤}
 use borrow.Author.Tests.{eq-eqb, lt-ltb, lt-leb}
-use Rattle.routine_command.specs.Command.{sizeOfSimple, commandAt}
-use Rattle.routine_faults.specs.Step.{closing, simpleThen, ifThen, tooMany, after, simpleStep, oneIf, ifStep, stepOf}
-use Rattle.routine_faults.specs.Step as step
+use Rattle.routine_command.specs.Command.{simpleSize, commandAt}
+use Rattle.routine_faults.specs.Step.{closing, simpleThen, ifThen, tooMany, countsAfter, simpleStep, countsAfterIf, ifStep, stepOf, accesses}
 use Rattle.routine_faults.specs.Inner.Sound.{Sound, SoundIf}
-use Rattle.routine.specs.Routine.{Arm, done, plain, fork, armStep, stepAt, arm}
+use Rattle.routine.specs.Routine.{Arm, done, plain, ifElse, armStep, stepAt, arm}
 use Rattle.routine.specs.Inner.Stands.{Stands}
-use Rattle.routine_rendering.specs.Syntax.{Text, none, simple, branch, Syntax}
+use Rattle.routine_rendering.specs.Syntax.{Text, noMore, simple, ifText, Syntax}
 use Rattle.routine_rendering.specs.Render.{four, simpleBytes, textBytes}
-use Rattle.routine_rendering.specs.WellFormed.{Variable, widthOf, AllGood, depth, ifs, oneRead, oneWrite, reads, writes, accesses}
-use Rattle.routine_rendering.specs.Exactly.{plus, armOf}
+use Rattle.routine_rendering.specs.WellFormed.{Variable, widthOf, AllGood, depth, ifs, oneRead, oneWrite, reads, writes, accessCount}
+use Rattle.routine_rendering.specs.Exactly.{plus, numbered}
 use Rattle.routine_header.specs.declared.Header.{Header}
 use Rattle.routine_faults.specs.declared.Counts.{Counts}
 use Rattle.routine_command.specs.declared.Simple.{Simple}
@@ -39,7 +38,7 @@ end-mark : Mark 13
 end-mark = inr (record { low = lit≤ tt; high = lit≤ tt })
 
 -- what follows the bytes of a command
-after-simple : (c : Simple) (tail : List ℕ) → drop (sizeOfSimple c) (simpleBytes c ++ tail) ≡ tail
+after-simple : (c : Simple) (tail : List ℕ) → drop (simpleSize c) (simpleBytes c ++ tail) ≡ tail
 unfolding simpleBytes four
 after-simple (Simple.Set d x) tail = refl
 after-simple (Simple.Convert op d s) tail = refl
@@ -48,24 +47,24 @@ after-simple (Simple.Read d a i) tail = refl
 after-simple (Simple.Write a i s) tail = refl
 
 -- it is not the 65th access
-not-many : (c : Simple) (k : Counts) → step.accesses k + (oneRead c + oneWrite c) ≤ 64 → tooMany c k ≡ false
+not-many : (c : Simple) (k : Counts) → accesses k + (oneRead c + oneWrite c) ≤ 64 → tooMany c k ≡ false
 unfolding tooMany
 not-many (Simple.Set d x) k l = refl
 not-many (Simple.Convert op d s) k l = refl
 not-many (Simple.Compute op d s t) k l = refl
-not-many (Simple.Read d a i) k l = lt-leb 64 (step.accesses k) (omega arith)
-not-many (Simple.Write a i s) k l = lt-leb 64 (step.accesses k) (omega arith)
+not-many (Simple.Read d a i) k l = lt-leb 64 (accesses k) (omega arith)
+not-many (Simple.Write a i s) k l = lt-leb 64 (accesses k) (omega arith)
 
 module _ (bs : List ℕ) (h : Header) (n close at : ℕ) (k : Counts) where
   step-close : commandAt bs at ≡ Command.Close close → stepAt bs h n close at k ≡ closing
   unfolding stepOf
   step-close e = simp (e, eq-eqb close close refl)
 
-  step-simple : (c : Simple) → commandAt bs at ≡ Command.Simple c → Sound bs h c → tooMany c k ≡ false → stepAt bs h n close at k ≡ simpleThen c (after c k)
+  step-simple : (c : Simple) → commandAt bs at ≡ Command.Simple c → Sound bs h c → tooMany c k ≡ false → stepAt bs h n close at k ≡ simpleThen c (countsAfter c k)
   unfolding stepOf simpleStep
   step-simple c e s m = simp (e, s .ranges, s .widths, m)
 
-  step-if : (c : Condition) → commandAt bs at ≡ Command.If c → SoundIf bs h c → n < 8 → k .ifs < 32 → stepAt bs h n close at k ≡ ifThen c (oneIf k)
+  step-if : (c : Condition) → commandAt bs at ≡ Command.If c → SoundIf bs h c → n < 8 → k .ifs < 32 → stepAt bs h n close at k ≡ ifThen c (countsAfterIf k)
   unfolding stepOf ifStep
   step-if c e s l m = simp (e, s .ranges, s .widths, lt-ltb n 8 l, lt-ltb (k .ifs) 32 m)
 
@@ -74,15 +73,15 @@ module _ (bs : List ℕ) (h : Header) (n close at : ℕ) (k : Counts) where
   stands-done e = record { reads = unroll bs h n close at k ∙ ap (armStep (arm bs h) n close at k) (step-close e) }
 
   pub stands-plain : (c : Simple) → commandAt bs at ≡ Command.Simple c → Sound bs h c → tooMany c k ≡ false → (rest : Arm) (end : ℕ) (k₁ : Counts)
-      → Stands bs h n close (at + sizeOfSimple c) (after c k) rest end k₁ → Stands bs h n close at k (plain at c k rest) end k₁
+      → Stands bs h n close (at + simpleSize c) (countsAfter c k) rest end k₁ → Stands bs h n close at k (plain at c k rest) end k₁
   stands-plain c e s m rest end k₁ r = record {
     reads = unroll bs h n close at k ∙ ap (armStep (arm bs h) n close at k) (step-simple c e s m) ∙ rw (r .reads);
   }
 
   pub stands-fork : (c : Condition) → commandAt bs at ≡ Command.If c → SoundIf bs h c → n < 8 → k .ifs < 32
-      → (first : Arm) (else : ℕ) (k₂ : Counts) → Stands bs h (n + 1) 12 (at + 4) (oneIf k) first else k₂
+      → (first : Arm) (else : ℕ) (k₂ : Counts) → Stands bs h (n + 1) 12 (at + 4) (countsAfterIf k) first else k₂
       → (second : Arm) (next : ℕ) (k₃ : Counts) → Stands bs h (n + 1) 13 else k₂ second next k₃
-      → (rest : Arm) (end : ℕ) (k₁ : Counts) → Stands bs h n close next k₃ rest end k₁ → Stands bs h n close at k (fork at c k first second rest) end k₁
+      → (rest : Arm) (end : ℕ) (k₁ : Counts) → Stands bs h n close next k₃ rest end k₁ → Stands bs h n close at k (ifElse at c k first second rest) end k₁
   stands-fork c e s l m first else k₂ x second next k₃ y rest end k₁ z = record {
     reads = unroll bs h n close at k ∙ ap (armStep (arm bs h) n close at k) (step-if c e s l m) ∙ rw (x .reads, y .reads, z .reads);
   }
@@ -111,7 +110,7 @@ past bs at xs mark tail e =
 same-counts : {k k₁ : Counts} → k .ifs ≡ k₁ .ifs → k .reads ≡ k₁ .reads → k .writes ≡ k₁ .writes → k ≡ k₁
 same-counts a b c = λ i. record { ifs = a i; reads = b i; writes = c i }
 
-simple-length : (c : Simple) → length (simpleBytes c) ≡ sizeOfSimple c
+simple-length : (c : Simple) → length (simpleBytes c) ≡ simpleSize c
 unfolding simpleBytes four
 simple-length (Simple.Set d x) = refl
 simple-length (Simple.Convert op d s) = refl
@@ -120,47 +119,47 @@ simple-length (Simple.Read d a i) = refl
 simple-length (Simple.Write a i s) = refl
 
 module _ (k : Counts) where
-  plus-none : k ≡ plus k none
+  plus-none : k ≡ plus k noMore
   unfolding ifs reads writes
   plus-none = same-counts (omega arith) (omega arith) (omega arith)
 
-  plus-one : (c : Simple) → plus k (simple c none) ≡ after c k
+  plus-one : (c : Simple) → plus k (simple c noMore) ≡ countsAfter c k
   unfolding ifs reads writes
   plus-one c = let e = counts-after c k in let s = same-ifs c k in same-counts (omega arith) (omega arith) (omega arith)
 
-  plus-simple : (c : Simple) (rest : Text) → plus (plus k (simple c none)) rest ≡ plus k (simple c rest)
+  plus-simple : (c : Simple) (rest : Text) → plus (plus k (simple c noMore)) rest ≡ plus k (simple c rest)
   unfolding ifs reads writes
   plus-simple c rest = same-counts (omega arith) (omega arith) (omega arith)
 
   module _ (c : Condition) where
     -- an if itself
     abbrev itself : Counts
-    itself = plus k (branch c none none none)
+    itself = plus k (ifText c noMore noMore noMore)
 
-    plus-if : itself ≡ oneIf k
+    plus-if : itself ≡ countsAfterIf k
     unfolding ifs reads writes
     plus-if = same-counts (omega arith) (omega arith) (omega arith)
 
-    plus-arms : (first second : Text) → plus (plus itself first) second ≡ plus k (branch c first second none)
+    plus-arms : (first second : Text) → plus (plus itself first) second ≡ plus k (ifText c first second noMore)
     unfolding ifs reads writes
     plus-arms first second = same-counts (omega arith) (omega arith) (omega arith)
 
-    plus-rest : (first second rest : Text) → plus (plus k (branch c first second none)) rest ≡ plus k (branch c first second rest)
+    plus-rest : (first second rest : Text) → plus (plus k (ifText c first second noMore)) rest ≡ plus k (ifText c first second rest)
     unfolding ifs reads writes
     plus-rest first second rest = same-counts (omega arith) (omega arith) (omega arith)
 
 -- how many bytes an if and its arms take, and the text after it
 module _ (c : Condition) (first second : Text) where
-  if-length : (rest : Text) → length (textBytes (branch c first second rest)) ≡ 4 + length (textBytes first) + 1 + length (textBytes second) + 1 + length (textBytes rest)
+  if-length : (rest : Text) → length (textBytes (ifText c first second rest)) ≡ 4 + length (textBytes first) + 1 + length (textBytes second) + 1 + length (textBytes rest)
   unfolding textBytes
   if-length rest =
       let x = length-append (textBytes first) (12 ∷ textBytes second ++ (13 ∷ textBytes rest)) in
       let y = length-append (textBytes second) (13 ∷ textBytes rest) in
       omega arith
 
-  none-length : length (textBytes (branch c first second none)) ≡ 4 + length (textBytes first) + 1 + length (textBytes second) + 1
+  none-length : length (textBytes (ifText c first second noMore)) ≡ 4 + length (textBytes first) + 1 + length (textBytes second) + 1
   unfolding textBytes
-  none-length = let e = if-length none in omega arith
+  none-length = let e = if-length noMore in omega arith
 
 -- ---- reading
 
@@ -168,28 +167,28 @@ module _ (bs : List ℕ) (h : Header) (p : Syntax) (same : Same bs h p) (narrow 
   -- wherever the bytes of t stand before a mark, within the limits, they are read
   abbrev Reads : Text → Type 0
   Reads t = (n close at : ℕ) (k : Counts) (tail : List ℕ) → Mark close → drop at bs ≡ textBytes t ++ (close ∷ tail)
-      → AllGood p t → n + depth t ≤ 8 → k .ifs + ifs t ≤ 32 → step.accesses k + accesses t ≤ 64
-      → Stands bs h n close at k (armOf at k t) (at + length (textBytes t) + 1) (plus k t)
+      → AllGood p t → n + depth t ≤ 8 → k .ifs + ifs t ≤ 32 → accesses k + accessCount t ≤ 64
+      → Stands bs h n close at k (numbered at k t) (at + length (textBytes t) + 1) (plus k t)
 
-  reads-none : Reads none
-  unfolding armOf textBytes
+  reads-none : Reads noMore
+  unfolding numbered textBytes
   reads-none n close at k tail m e g d i a =
       up-to bs h n close done (omega arith) (plus-none k) (stands-done bs h n close at k (close-here bs at tail close m e))
 
   reads-simple : (c : Simple) (rest : Text) → Reads rest → Reads (simple c rest)
-  unfolding armOf textBytes depth ifs reads writes
+  unfolding numbered textBytes depth ifs reads writes
   reads-simple c rest go n close at k tail m e g d i a =
       let b : drop at bs ≡ simpleBytes c ++ (textBytes rest ++ (close ∷ tail)) = rw append-assoc at e in
       let z = simple-length c in
       let at₁ = at + length (simpleBytes c) in
-      let k₁ = plus k (simple c none) in
-      let f : drop at₁ bs ≡ textBytes rest ++ (close ∷ tail) = rw z (further bs at _ b (sizeOfSimple c) ∙ after-simple c _) in
+      let k₁ = plus k (simple c noMore) in
+      let f : drop at₁ bs ≡ textBytes rest ++ (close ∷ tail) = rw z (further bs at _ b (simpleSize c) ∙ after-simple c _) in
       let s = go n close at₁ k₁ tail m f (g .1) d (omega arith) (omega arith) in
-      let x : at + length (simpleBytes c) ≡ at + sizeOfSimple c = omega arith in
+      let x : at + length (simpleBytes c) ≡ at + simpleSize c = omega arith in
       let y = length-append (simpleBytes c) (textBytes rest) in
       up-to bs h n close _ (omega arith) (plus-simple k c rest)
       (stands-plain bs h n close at k c (simple-here bs at _ c (good-kind p narrow c (g .0)) b) (sound bs h p same c (g .0)) (not-many c k (omega arith))
-      (armOf at₁ k₁ rest) _ _ (from bs h n close (armOf at₁ k₁ rest) x (plus-one k c) s))
+      (numbered at₁ k₁ rest) _ _ (from bs h n close (numbered at₁ k₁ rest) x (plus-one k c) s))
 
   module _ (c : Condition) (first second rest : Text) (n close at : ℕ) (k : Counts) (tail : List ℕ) (m : Mark close) where
     -- the bytes from the rest on, and from the second arm on
@@ -204,19 +203,19 @@ module _ (bs : List ℕ) (h : Header) (p : Syntax) (same : Same bs h p) (narrow 
     else = at + 4 + length (textBytes first) + 1
 
     abbrev next : ℕ
-    next = at + length (textBytes (branch c first second none))
+    next = at + length (textBytes (ifText c first second noMore))
 
     abbrev k₁ : Counts
     k₁ = itself k c
 
     abbrev k₃ : Counts
-    k₃ = plus k (branch c first second none)
+    k₃ = plus k (ifText c first second noMore)
 
     whole-if : Reads first → Reads second → Reads rest → drop at bs ≡ 11 ∷ c .relation ∷ c .s ∷ c .t ∷ textBytes first ++ (12 ∷ Second)
-        → AllGood p (branch c first second rest) → n + depth (branch c first second rest) ≤ 8 → k .ifs + ifs (branch c first second rest) ≤ 32
-        → step.accesses k + accesses (branch c first second rest) ≤ 64
-        → Stands bs h n close at k (armOf at k (branch c first second rest)) (at + length (textBytes (branch c first second rest)) + 1) (plus k (branch c first second rest))
-    unfolding armOf depth ifs reads writes
+        → AllGood p (ifText c first second rest) → n + depth (ifText c first second rest) ≤ 8 → k .ifs + ifs (ifText c first second rest) ≤ 32
+        → accesses k + accessCount (ifText c first second rest) ≤ 64
+        → Stands bs h n close at k (numbered at k (ifText c first second rest)) (at + length (textBytes (ifText c first second rest)) + 1) (plus k (ifText c first second rest))
+    unfolding numbered depth ifs reads writes
     whole-if go₁ go₂ go₃ e g d i a =
         let q = inside n _ _ _ d in
         let e₁ : drop (at + 4) bs ≡ textBytes first ++ (12 ∷ Second) = further bs at _ e 4 in
@@ -229,16 +228,16 @@ module _ (bs : List ℕ) (h : Header) (p : Syntax) (same : Same bs h p) (narrow 
         let w = if-length c first second rest in
         up-to bs h n close _ (omega (arith, none-length c first second)) (plus-rest k c first second rest)
         (stands-fork bs h n close at k c (if-here bs at _ c e) (sound-if bs h p same c (g .0)) (q .0) (omega arith)
-        (armOf (at + 4) k₁ first) else (plus k₁ first) (from bs h (n + 1) 12 _ refl (plus-if k c) s₁)
-        (armOf else (plus k₁ first) second) next k₃ (up-to bs h (n + 1) 13 _ (sym z) (plus-arms k c first second) s₂)
-        (armOf next k₃ rest) _ _ s₃)
+        (numbered (at + 4) k₁ first) else (plus k₁ first) (from bs h (n + 1) 12 _ refl (plus-if k c) s₁)
+        (numbered else (plus k₁ first) second) next k₃ (up-to bs h (n + 1) 13 _ (sym z) (plus-arms k c first second) s₂)
+        (numbered next k₃ rest) _ _ s₃)
 
-  reads-branch : (c : Condition) (first second rest : Text) → Reads first → Reads second → Reads rest → Reads (branch c first second rest)
+  reads-branch : (c : Condition) (first second rest : Text) → Reads first → Reads second → Reads rest → Reads (ifText c first second rest)
   unfolding textBytes
   reads-branch c first second rest go₁ go₂ go₃ n close at k tail m e g d i a =
       whole-if c first second rest n close at k tail m go₁ go₂ go₃ (simp append-assoc at e) g d i a
 
   pub all-read : (t : Text) → Reads t
-  all-read none = reads-none
+  all-read noMore = reads-none
   all-read (simple c rest) = reads-simple c rest (all-read rest)
-  all-read (branch c first second rest) = reads-branch c first second rest (all-read first) (all-read second) (all-read rest)
+  all-read (ifText c first second rest) = reads-branch c first second rest (all-read first) (all-read second) (all-read rest)

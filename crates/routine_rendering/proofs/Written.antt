@@ -7,14 +7,13 @@ use native.Mathlib.Omega.{arith}
 use lib.ListN.{length, drop}
 use lib.Dec.{eqb}
 use borrow.Author.Tests.{eqb-true}
-use Rattle.routine_command.specs.Command.{sizeOfSimple, commandAt}
-use Rattle.routine_faults.specs.Step.{after, stepOf}
-use Rattle.routine_faults.specs.Step as step
-use Rattle.routine.specs.Routine.{Arm, done, plain, fork, refused, parsed, armStep, arm}
+use Rattle.routine_command.specs.Command.{simpleSize, commandAt}
+use Rattle.routine_faults.specs.Step.{countsAfter, stepOf, accesses, countsAfterIf}
+use Rattle.routine.specs.Routine.{Arm, done, plain, ifElse, refused, parsed, armStep, arm}
 use Rattle.routine.specs.Inner.Stands.{Stands}
-use Rattle.routine_rendering.specs.Syntax.{Text, none, simple, branch, Syntax}
+use Rattle.routine_rendering.specs.Syntax.{Text, noMore, simple, ifText, Syntax}
 use Rattle.routine_rendering.specs.Render.{simpleBytes, textBytes}
-use Rattle.routine_rendering.specs.WellFormed.{AllGood, depth, ifs, oneRead, oneWrite, reads, writes, accesses}
+use Rattle.routine_rendering.specs.WellFormed.{AllGood, depth, ifs, oneRead, oneWrite, reads, writes, accessCount}
 use Rattle.routine_rendering.specs.Exactly.{AreBytes}
 use Rattle.routine_header.specs.declared.Header.{Header}
 use Rattle.routine_faults.specs.declared.Counts.{Counts}
@@ -30,12 +29,12 @@ use Rattle.routine_rendering.proofs.Operands.{Same, good, good-if}
 
 -- the commands of an arm without their offsets and counts
 unfoldable pub text : Arm → Text
-text done = none
+text done = noMore
 text (plain at c k rest) = simple c (text rest)
-text (fork at c k first second rest) = branch c (text first) (text second) (text rest)
+text (ifElse at c k first second rest) = ifText c (text first) (text second) (text rest)
 
 -- a command adds to the counts
-pub counts-after : (c : Simple) (k : Counts) → (after c k .reads ≡ k .reads + oneRead c) × (after c k .writes ≡ k .writes + oneWrite c)
+pub counts-after : (c : Simple) (k : Counts) → (countsAfter c k .reads ≡ k .reads + oneRead c) × (countsAfter c k .writes ≡ k .writes + oneWrite c)
 counts-after (Simple.Set d x) k = (omega arith, omega arith)
 counts-after (Simple.Convert op d s) k = (omega arith, omega arith)
 counts-after (Simple.Compute op d s t) k = (omega arith, omega arith)
@@ -48,7 +47,7 @@ pub record Written (bs : List ℕ) (p : Syntax) (n close at : ℕ) (k : Counts) 
   pub good : AllGood p (text a)
   pub deep : n + depth (text a) ≤ 8
   pub counted : k₁ .ifs ≡ k .ifs + ifs (text a)
-  pub accessed : step.accesses k₁ ≡ step.accesses k + accesses (text a)
+  pub accessed : accesses k₁ ≡ accesses k + accessCount (text a)
 
 module _ (bs : List ℕ) (h : Header) (n close at : ℕ) (k : Counts) where
   -- an arm ends by its own mark
@@ -78,7 +77,7 @@ module _ (bs : List ℕ) (f : AreBytes bs) (h : Header) (p : Syntax) (same : Sam
   }
 
   on-plain : (n close at : ℕ) (k : Counts) (c : Simple) (rest : Arm) (end : ℕ) (k₁ : Counts) → PlainAt bs h n close at k c rest end k₁
-      → Says n close (at + sizeOfSimple c) (after c k) rest end k₁ → Says n close at k (plain at c k rest) end k₁
+      → Says n close (at + simpleSize c) (countsAfter c k) rest end k₁ → Says n close at k (plain at c k rest) end k₁
   unfolding text textBytes depth ifs reads writes
   on-plain n close at k c rest end k₁ v go d s =
       let w = go d (v .stands) in
@@ -93,8 +92,8 @@ module _ (bs : List ℕ) (f : AreBytes bs) (h : Header) (p : Syntax) (same : Sam
 
   on-fork : (n close at : ℕ) (k : Counts) (c : Condition) (first second rest : Arm) (end : ℕ) (k₁ : Counts)
       → (v : ForkAt bs h n close at k c first second rest end k₁)
-      → Says (n + 1) 12 (at + 4) (step.oneIf k) first (v .else) (v .k₂) → Says (n + 1) 13 (v .else) (v .k₂) second (v .next) (v .k₃)
-      → Says n close (v .next) (v .k₃) rest end k₁ → Says n close at k (fork at c k first second rest) end k₁
+      → Says (n + 1) 12 (at + 4) (countsAfterIf k) first (v .else) (v .k₂) → Says (n + 1) 13 (v .else) (v .k₂) second (v .next) (v .k₃)
+      → Says n close (v .next) (v .k₃) rest end k₁ → Says n close at k (ifElse at c k first second rest) end k₁
   unfolding text textBytes depth ifs reads writes
   on-fork n close at k c first second rest end k₁ v go₁ go₂ go₃ d s =
       let sh = v .shallow in

@@ -2,7 +2,7 @@
 use Prim.Native.Nat.{ℕ, _/_, _%_}
 use mathlib.Core.List.{List, [], _∷_, _++_}
 use lib.ListN.{length}
-use Rattle.routine_rendering.specs.Syntax.{Text, none, simple, branch, Syntax}
+use Rattle.routine_rendering.specs.Syntax.{Text, noMore, simple, ifText, Syntax}
 use Rattle.routine_command.specs.declared.Simple.{Simple}
 
 -- a number as two bytes, the lowest first
@@ -23,9 +23,9 @@ simpleBytes (Simple.Write array i s) = 0x0A ∷ array ∷ i ∷ s ∷ []
 
 -- the commands of an arm; an if: 0x0B, the relation and the operands, the first arm, 0x0C, the second arm, 0x0D
 unfoldable pub textBytes : Text → List ℕ
-textBytes none = []
+textBytes noMore = []
 textBytes (simple c rest) = simpleBytes c ++ textBytes rest
-textBytes (branch c first second rest) =
+textBytes (ifText c first second rest) =
     0x0B ∷ c .relation ∷ c .s ∷ c .t ∷ textBytes first ++ (0x0C ∷ textBytes second ++ (0x0D ∷ textBytes rest))
 
 -- the sizes of the arrays, two bytes each

@@ -4,7 +4,7 @@ use mathlib.Core.Path.{_≡_}
 use mathlib.Core.Logic.{_⊎_}
 use lib.ListN.{length, getD}
 use Rattle.routine_command.specs.Command.{touches}
-use Rattle.routine_rendering.specs.Syntax.{Text, none, simple, branch, Syntax}
+use Rattle.routine_rendering.specs.Syntax.{Text, noMore, simple, ifText, Syntax}
 use Rattle.routine_rendering.specs.Render.{render}
 use Rattle.routine_command.specs.declared.Simple.{Simple}
 use Rattle.routine_command.specs.declared.Touch.{Touch}
@@ -28,8 +28,8 @@ abbrev pub widthOf : Syntax → ℕ → ℕ
 widthOf p v = getD (p .widths) v 0
 
 -- the size of array a
-abbrev pub sizeOf : Syntax → ℕ → ℕ
-sizeOf p a = getD (p .sizes) a 0
+abbrev pub arraySizeOf : Syntax → ℕ → ℕ
+arraySizeOf p a = getD (p .sizes) a 0
 
 -- how the widths w of d and x of s go with the command byte: 0x02 copy, equal; 0x06 cut, d narrower; 0x07 and 0x08 extend, d wider
 abbrev pub Converts : (op w x : ℕ) → Type 0
@@ -50,21 +50,21 @@ GoodIf p c = (c .relation ≤ 9) × Variable p (c .s) × Variable p (c .t) × (w
 
 -- each command of an arm is good
 abbrev pub AllGood : Syntax → Text → Type 0
-AllGood p none = Unit {0}
+AllGood p noMore = Unit {0}
 AllGood p (simple c rest) = Good p c × AllGood p rest
-AllGood p (branch c first second rest) = GoodIf p c × AllGood p first × AllGood p second × AllGood p rest
+AllGood p (ifText c first second rest) = GoodIf p c × AllGood p first × AllGood p second × AllGood p rest
 
 -- how many ifs stand inside each other
 unfoldable pub depth : Text → ℕ
-depth none = 0
+depth noMore = 0
 depth (simple c rest) = depth rest
-depth (branch c first second rest) = max (1 + max (depth first) (depth second)) (depth rest)
+depth (ifText c first second rest) = max (1 + max (depth first) (depth second)) (depth rest)
 
 -- how many ifs there are
 unfoldable pub ifs : Text → ℕ
-ifs none = 0
+ifs noMore = 0
 ifs (simple c rest) = ifs rest
-ifs (branch c first second rest) = 1 + ifs first + ifs second + ifs rest
+ifs (ifText c first second rest) = 1 + ifs first + ifs second + ifs rest
 
 -- a read counts one
 abbrev pub oneReadBy : Touch → ℕ
@@ -88,19 +88,19 @@ oneWrite c = oneWriteBy (touches c)
 
 -- how many reads there are
 unfoldable pub reads : Text → ℕ
-reads none = 0
+reads noMore = 0
 reads (simple c rest) = oneRead c + reads rest
-reads (branch c first second rest) = reads first + reads second + reads rest
+reads (ifText c first second rest) = reads first + reads second + reads rest
 
 -- how many writes there are
 unfoldable pub writes : Text → ℕ
-writes none = 0
+writes noMore = 0
 writes (simple c rest) = oneWrite c + writes rest
-writes (branch c first second rest) = writes first + writes second + writes rest
+writes (ifText c first second rest) = writes first + writes second + writes rest
 
 -- reads and writes are the accesses
-abbrev pub accesses : Text → ℕ
-accesses t = reads t + writes t
+abbrev pub accessCount : Text → ℕ
+accessCount t = reads t + writes t
 
 -- a well-formed routine
 pub record WellFormed (p : Syntax) : Type 0 where
@@ -108,9 +108,9 @@ pub record WellFormed (p : Syntax) : Type 0 where
   pub widths : (v : ℕ) → Variable p v → Between 1 32 (widthOf p v)
   pub parameters : p .parameters ≤ length (p .widths)
   pub arrays : length (p .sizes) ≤ 16
-  pub sizes : (a : ℕ) → Array p a → Between 1 4096 (sizeOf p a)
+  pub sizes : (a : ℕ) → Array p a → Between 1 4096 (arraySizeOf p a)
   pub commands : AllGood p (p .commands)
   pub deep : depth (p .commands) ≤ 8
   pub few-ifs : ifs (p .commands) ≤ 32
-  pub few-accesses : accesses (p .commands) ≤ 64
+  pub few-accesses : accessCount (p .commands) ≤ 64
   pub short : length (render p) ≤ 4096

@@ -14,9 +14,9 @@ use Rattle.routine_faults.specs.Step.{inRange, widthsFit, tooMany, simpleStep, 
 use Rattle.routine.specs.Routine.{textOf, armBy}
 use Rattle.routine.specs.Decode.{decode}
 use Rattle.run_inputs.specs.Inputs.{variablesFrom, readVariables, firstGreat, listed}
-use Rattle.run.specs.State.{over, start, indexOf, lies, carry}
+use Rattle.run.specs.State.{over, initial, indexOf, lies, executed}
 use Rattle.run.specs.Run.{runArm, runOf}
-use Rattle.run.specs.Answer.{Answer, admission, answer}
+use Rattle.run.specs.Answer.{RunAnswer, runAdmission, runAnswer}
 use Rattle.run.specs.declared.Side.the-variants.{Below, Above}
 use Rattle.run.specs.declared.Ran.{Ran}
 
@@ -25,11 +25,11 @@ abbrev routine : List ℕ
 routine = 0x01 ∷ 0x01 ∷ 0x08 ∷ 0x01 ∷ 0x01 ∷ 0x64 ∷ 0x00 ∷ 0x0A ∷ 0x00 ∷ 0x00 ∷ 0x00 ∷ 0x00 ∷ []
 
 -- its run on the word x, with room for one value that holds 7 and for no trail
-abbrev ran : ℕ → Answer
-ran x = answer routine (x ∷ []) (7 ∷ []) []
+abbrev ran : ℕ → RunAnswer
+ran x = runAnswer routine (x ∷ []) (7 ∷ []) []
 
 -- the value buffer then holds x
-abbrev left : Ran → ℕ → Answer
+abbrev left : Ran → ℕ → RunAnswer
 left r x = record { ran = r; values = x ∷ []; trail = [] }
 
 pub bench :
@@ -46,5 +46,5 @@ pub bench :
     × (cut 8 500 ≡ 244)
     × (relates 6 8 128 127 ≡ true)
     × (relates 2 8 128 127 ≡ false)
-unfolding answer admission decode headerOf within sizeOk firstBad armBy commandAt commandBy half stepOf simpleStep inRange widthsFit tooMany textOf listed firstGreat variablesFrom readVariables runOf runArm start over carry indexOf lies signed less encode signExtend add subtract multiply relates
+unfolding runAnswer runAdmission decode headerOf within sizeOk firstBad armBy commandAt commandBy half stepOf simpleStep inRange widthsFit tooMany textOf listed firstGreat variablesFrom readVariables runOf runArm initial over executed indexOf lies signed less encode signExtend add subtract multiply relates
 bench = (refl, refl, refl, refl, refl, refl, refl, refl, refl, refl, refl, refl, refl)

@@ -6,8 +6,8 @@ use Prim.Native.Nat.{ℕ, _+_, _≤_, _<_}
 use native.Mathlib.Omega.{arith}
 use lib.ListN.{length}
 use Rattle.routine_header.specs.declared.Header.{Header}
-use Rattle.routine_command.specs.Command.{touches, sizeOfSimple, commandAt}
-use Rattle.routine_faults.specs.Step.{after, oneIf}
+use Rattle.routine_command.specs.Command.{touches, simpleSize, commandAt}
+use Rattle.routine_faults.specs.Step.{countsAfter, countsAfterIf}
 use Rattle.routine_command.specs.declared.Condition.{Condition}
 use Rattle.routine_faults.specs.declared.Counts.{Counts}
 use Rattle.routine_command.specs.declared.Simple.{Simple}
@@ -19,13 +19,13 @@ use Rattle.routine.specs.Inner.Stands.{Stands, SomeArm}
 use Rattle.routine.proofs.Views.{by-if}
 use Rattle.routine.proofs.Walking as walking
 use Rattle.routine.proofs.Standing.{simple-known, if-ends}
-use Rattle.run.specs.State.{carry}
+use Rattle.run.specs.State.{executed}
 use Rattle.run.specs.declared.Outcome.{Outcome}
 use Rattle.run.specs.declared.State.{State}
-use Rattle.run.specs.Run.{Event, Stretch, unlessStopped, andThen, eventsBy, eventsAt, runArm, runIf}
+use Rattle.run.specs.Run.{Event, Execution, unlessStopped, runOn, eventsBy, eventsAt, runArm, runIf}
 use Rattle.run.specs.Inner.Walker.{isOver}
 use Rattle.run.specs.Course.{courseTo}
-use Rattle.run.specs.Inner.Walker.{settled, isDone, wayAt, stepOn, Arrives, FollowsArm, FollowsIf}
+use Rattle.run.specs.Inner.Walker.{settled, isDone, wayAt, stepOn, Follows, FollowsArm, FollowsIf}
 use Rattle.run.specs.declared.Course.{Course}
 use Rattle.run.specs.declared.Goal.{Goal}
 use Rattle.run.specs.declared.Way.{Way}
@@ -86,37 +86,37 @@ either r e f = let z : _≡_ {A = ℕ} 0 1 = cc in absurd (omega arith)
 -- ---- going on, or not
 
 module _ (ds : List ℕ) (goal : Goal) where
-  abbrev seenOf : Stretch → Seen
+  abbrev seenOf : Execution → Seen
   seenOf x = seen (courseTo ds goal (x .events)) (x .state)
 
-  on : (o : Outcome) (es : List Event) (s : State) (go : State → Stretch) → courseTo ds goal es ≡ Course.Passing → isOver o ≡ false
+  on : (o : Outcome) (es : List Event) (s : State) (go : State → Execution) → courseTo ds goal es ≡ Course.Passing → isOver o ≡ false
       → seenOf (go s) ≡ seenOf (unlessStopped o es s go)
   on Outcome.Going es s go e f = rw (courseTo-append ds goal es (go s .events), e)
   on (Outcome.Stopped number index side) es s go e f = let z : _≡_ {A = ℕ} 0 1 = cc in absurd (omega arith)
 
-  off : (o : Outcome) (es : List Event) (s : State) (go : State → Stretch) (c : Course) → c ≡ courseTo ds goal es → cond (settled c) true (isOver o) ≡ true
+  off : (o : Outcome) (es : List Event) (s : State) (go : State → Execution) (c : Course) → c ≡ courseTo ds goal es → cond (settled c) true (isOver o) ≡ true
       → seen c s ≡ seenOf (unlessStopped o es s go)
   off Outcome.Going es s go (Course.Astray number) e f = rw (courseTo-append ds goal es (go s .events), ← e)
   off Outcome.Going es s go Course.Passing e f = let z : _≡_ {A = ℕ} 0 1 = cc in absurd (omega arith)
   off Outcome.Going es s go (Course.Arrived array index) e f = rw (courseTo-append ds goal es (go s .events), ← e)
   off (Outcome.Stopped number index side) es s go c e f = ap (λ (z : Course). seen z s) e
 
-  -- after a stretch that the walk r has followed
-  module _ (x : Stretch) (go : State → Stretch) (r : Way) (by : r .course ≡ courseTo ds goal (x .events)) (is : settled (r .course) ≡ false → r .state ≡ x .state) where
-    then-on : isDone r ≡ false → seenOf (go (r .state)) ≡ seenOf (andThen x go)
+  -- after an execution that the walk r has followed
+  module _ (x : Execution) (go : State → Execution) (r : Way) (by : r .course ≡ courseTo ds goal (x .events)) (is : settled (r .course) ≡ false → r .state ≡ x .state) where
+    then-on : isDone r ≡ false → seenOf (go (r .state)) ≡ seenOf (runOn x go)
     then-on e =
         let p = going (r .course) (isOver (r .state .outcome)) e in
         let q : r .state ≡ x .state = is (ap settled (p .0)) in
         ap (λ (s : State). seenOf (go s)) q
         ∙ on (x .state .outcome) (x .events) (x .state) go (sym by ∙ p .0) (ap (λ (s : State). isOver (s .outcome)) (sym q) ∙ p .1)
 
-    then-off : isDone r ≡ true → seen (r .course) (r .state) ≡ seenOf (andThen x go)
+    then-off : isDone r ≡ true → seen (r .course) (r .state) ≡ seenOf (runOn x go)
     then-off e =
         let p = alike (r .course) (r .state) (x .state) is in
         p .0 ∙ off (x .state .outcome) (x .events) (x .state) go (r .course) by (sym (p .1) ∙ e)
 
-  arrived : (x : Stretch) (end : ℕ) (k : Counts) (r : Way) → seen (r .course) (r .state) ≡ seenOf x → (isDone r ≡ false → r .next ≡ end) → (isDone r ≡ false → r .counts ≡ k)
-      → Arrives ds goal x end k r
+  arrived : (x : Execution) (end : ℕ) (k : Counts) (r : Way) → seen (r .course) (r .state) ≡ seenOf x → (isDone r ≡ false → r .next ≡ end) → (isDone r ≡ false → r .counts ≡ k)
+      → Follows ds goal x end k r
   arrived x end k r e n m = record {
     course = same-course (r .course) (courseTo ds goal (x .events)) (r .state) (x .state) e;
     state = same-state (r .course) (courseTo ds goal (x .events)) (r .state) (x .state) e;
@@ -133,7 +133,7 @@ module _ (ds : List ℕ) (goal : Goal) where
 
 -- the walk after a command that is no if, put together
 pub step-is : (bs ins : List ℕ) (goal : Goal) (h : Header) (c : Simple) (at : ℕ) (k : Counts) (s : State) (n : ℕ) (k₁ : Counts) (s₁ : State) (x : Course)
-    → n ≡ sizeOfSimple c → k₁ ≡ after c k → s₁ ≡ carry bs ins h c k s → x ≡ courseTo [] goal (eventsAt bs c k s)
+    → n ≡ simpleSize c → k₁ ≡ countsAfter c k → s₁ ≡ executed bs ins h c k s → x ≡ courseTo [] goal (eventsAt bs c k s)
     → wayAt (at + n) k₁ s₁ x ≡ stepOn bs ins goal h c (wayAt at k s Course.Passing)
 unfolding stepOn
 step-is bs ins goal h c at k s n k₁ s₁ x e f g q = rw (e, f, g, q)
@@ -181,9 +181,9 @@ module _ (bs ins ds : List ℕ) (goal : Goal) (h : Header) (depth close : ℕ) w
 
       -- a command that is no if
       module _ (c : Simple) (q : r ≡ Command.Simple c) where
-        -- its stretch, the counts before it being k
-        abbrev plainStretch : Counts → Stretch
-        plainStretch k = record { events = eventsAt bs c k (w .state); state = carry bs ins h c k (w .state) }
+        -- its execution, the counts before it being k
+        abbrev plainStretch : Counts → Execution
+        plainStretch k = record { events = eventsAt bs c k (w .state); state = executed bs ins h c k (w .state) }
 
         step-course : (k : Counts) → w .counts ≡ k → stepOn bs ins goal h c w .course ≡ courseTo ds goal (plainStretch k .events)
         unfolding stepOn
@@ -192,15 +192,15 @@ module _ (bs ins ds : List ℕ) (goal : Goal) (h : Header) (depth close : ℕ) w
 
         step-state : (k : Counts) → w .counts ≡ k → stepOn bs ins goal h c w .state ≡ plainStretch k .state
         unfolding stepOn
-        step-state k t = ap (λ (x : Counts). carry bs ins h c x (w .state)) t
+        step-state k t = ap (λ (x : Counts). executed bs ins h c x (w .state)) t
 
         step-on : isDone (stepOn bs ins goal h c w) ≡ false → Going w₀ (stepOn bs ins goal h c w)
         unfolding Going runArm stepOn
         step-on e =
             walking.at-simple bs h depth close Meant Tied (w₀ .next) (w₀ .state, w₀ .counts) (w .next) (w .state, w .counts) g r is c q
-            (stepOn bs ins goal h c w .state, after c (w .counts))
+            (stepOn bs ins goal h c w .state, countsAfter c (w .counts))
             (λ k rest t.
-            (ap (after c) t, then-on ds goal (plainStretch k) (runArm bs ins h rest) (stepOn bs ins goal h c w) (step-course k t) (λ _. step-state k t) e))
+            (ap (countsAfter c) t, then-on ds goal (plainStretch k) (runArm bs ins h rest) (stepOn bs ins goal h c w) (step-course k t) (λ _. step-state k t) e))
 
         step-off : isDone (stepOn bs ins goal h c w) ≡ true → FollowsArm bs ins ds goal h depth close w₀ (stepOn bs ins goal h c w)
         unfolding Going runArm
@@ -224,8 +224,8 @@ module _ (bs ins ds : List ℕ) (goal : Goal) (h : Header) (depth close : ℕ) w
       -- an if, after which the walk is at t
       module _ (c : Condition) (q : r ≡ Command.If c) (t : Way) (f : FollowsIf bs ins ds goal h depth c w t) where
         arrives : (k : Counts) → w .counts ≡ k → (first second : Arm) (else : ℕ) (k₂ : Counts) (next : ℕ) (k₃ : Counts)
-            → Stands bs h (depth + 1) 12 (w .next + 4) (oneIf k) first else k₂ → Stands bs h (depth + 1) 13 else k₂ second next k₃
-            → Arrives ds goal (runIf bs c k (runArm bs ins h first) (runArm bs ins h second) (w .state)) next k₃ t
+            → Stands bs h (depth + 1) 12 (w .next + 4) (countsAfterIf k) first else k₂ → Stands bs h (depth + 1) 13 else k₂ second next k₃
+            → Follows ds goal (runIf bs c k (runArm bs ins h first) (runArm bs ins h second) (w .state)) next k₃ t
         arrives k e first second else k₂ next k₃ x y = rw (← e) (f .tells first else k₂ second next k₃ (rw e x) y)
 
         pub forked : isDone t ≡ false → Going w₀ t
@@ -265,6 +265,6 @@ module _ (bs : List ℕ) (h : Header) (depth close : ℕ) (w : Way) (a : SomeArm
   pub step-room : (c : Simple) → r ≡ Command.Simple c → t ≡ stepOn bs ins goal h c w → (w .next < t .next) × (t .next ≤ length bs)
   unfolding stepOn
   step-room c q x =
-      let p : t .next ≡ w .next + sizeOfSimple c = ap (λ (y : Way). y .next) x in
+      let p : t .next ≡ w .next + simpleSize c = ap (λ (y : Way). y .next) x in
       let l = simple-known bs h depth close (w .next) (w .counts) a r is c q .2 in
       (omega (arith, simple-size c), omega arith)

@@ -6,7 +6,7 @@ use lib.Seq.{set-getD}
 use Rattle.routine_header.specs.declared.Header.{Header}
 use Rattle.routine_faults.specs.declared.Counts.{Counts}
 use Rattle.routine_command.specs.declared.Simple.{Simple}
-use Rattle.run.specs.State.{value, put, moved}
+use Rattle.run.specs.State.{value, assigned, moved}
 use Rattle.run.specs.Inner.Moves.{operandsOf, valueAfter}
 use Rattle.run.specs.declared.State.{State}
 
@@ -14,7 +14,7 @@ abbrev withValues : State → List ℕ → State
 withValues s vs = record { values = vs; trail = s .trail; outcome = s .outcome }
 
 pub moves : (bs ins : List ℕ) (h : Header) (c : Simple) (k : Counts) (s : State)
-    → put s (operandsOf c .d) (valueAfter bs ins h c k (value s (operandsOf c .a)) (value s (operandsOf c .b))) ≡ moved bs ins h c k s
+    → assigned s (operandsOf c .d) (valueAfter bs ins h c k (value s (operandsOf c .a)) (value s (operandsOf c .b))) ≡ moved bs ins h c k s
 unfolding moved
 moves bs ins h (Simple.Set d x) k s = refl
 moves bs ins h (Simple.Convert op d a) k s = refl

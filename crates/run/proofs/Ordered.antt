@@ -12,7 +12,7 @@ use Rattle.bitvec.specs.declared.Whole.{Whole}
 use Rattle.routine_header.specs.Header.{firstCommand}
 use Rattle.routine_header.specs.declared.Header.{Header}
 use Rattle.routine_command.specs.Command.{touches}
-use Rattle.routine_faults.specs.Step.{accesses, after, afterBy, oneIf}
+use Rattle.routine_faults.specs.Step.{accesses, countsAfter, countsAfterBy, countsAfterIf}
 use Rattle.routine_faults.specs.Inputs.{given}
 use Rattle.routine_faults.specs.declared.Counts.{Counts}
 use Rattle.routine_command.specs.declared.Simple.{Simple}
@@ -24,16 +24,15 @@ use Rattle.routine.specs.Inner.Stands.{Stands}
 use Rattle.routine.proofs.Accepted.{decoded}
 use Rattle.routine.proofs.Numbering.{EachIf, Before, ifs-before}
 use Rattle.routine.proofs.Views.{induction}
-use Rattle.run.specs.State.{start, take, holds, carry}
+use Rattle.run.specs.State.{initial, withArm, holds, executed}
 use Rattle.run.specs.declared.Outcome.{Outcome}
 use Rattle.run.specs.declared.Side.{Side}
 use Rattle.run.specs.declared.State.{State}
-use Rattle.run.specs.Run as run
-use Rattle.run.specs.Run.{Event, took, came, Stretch, unlessStopped, andThen, eventsBy, eventsAt, runArm, runOf}
+use Rattle.run.specs.Run.{Event, took, came, Execution, unlessStopped, runOn, eventsBy, eventsAt, runArm, runOf, eventsThen}
 
 -- a run stopped, or it goes on
-pub run-then-by : (Q : Stretch → Type 0) (x : Stretch) (go : State → Stretch) → (x .state .outcome ≡ Outcome.Going → Q (run.after (x .events) (go (x .state))))
-    → ((access : ℕ) (index : Whole) (side : Side) → x .state .outcome ≡ Outcome.Stopped access index side → Q x) → Q (andThen x go)
+pub run-then-by : (Q : Execution → Type 0) (x : Execution) (go : State → Execution) → (x .state .outcome ≡ Outcome.Going → Q (eventsThen (x .events) (go (x .state))))
+    → ((access : ℕ) (index : Whole) (side : Side) → x .state .outcome ≡ Outcome.Stopped access index side → Q x) → Q (runOn x go)
 run-then-by Q x go p q = pick (x .state .outcome) refl
   where
     pick : (u : Outcome) → x .state .outcome ≡ u → Q (unlessStopped u (x .events) (x .state) go)
@@ -42,7 +41,7 @@ run-then-by Q x go p q = pick (x .state .outcome) refl
 
 -- ---- the numbers of the accesses: an arm has those from the counts before it up to the counts after it
 
-pub after-grows : (c : Simple) (k : Counts) → accesses k ≤ accesses (after c k)
+pub after-grows : (c : Simple) (k : Counts) → accesses k ≤ accesses (countsAfter c k)
 after-grows (Simple.Set d x) k = omega arith
 after-grows (Simple.Convert op d s) k = omega arith
 after-grows (Simple.Compute op d s t) k = omega arith
@@ -83,19 +82,19 @@ module _ (access before : ℕ) where
   ordered-append n m l (took number arm ∷ es) fs o p = (o .0, ordered-append n m l es fs (o .1) p)
   ordered-append n m l (came number array index ∷ es) fs o p = (o .0, ordered-append (number + 1) m l es fs (o .1) p)
 
-  ordered-then : (n m l : ℕ) (x : Stretch) (go : State → Stretch) → m ≤ l → Ordered n m (x .events) → ((s : State) → Ordered m l (go s .events))
-      → Ordered n l (andThen x go .events)
+  ordered-then : (n m l : ℕ) (x : Execution) (go : State → Execution) → m ≤ l → Ordered n m (x .events) → ((s : State) → Ordered m l (go s .events))
+      → Ordered n l (runOn x go .events)
   ordered-then n m l x go f o p =
-      run-then-by (λ (z : Stretch). Ordered n l (z .events)) x go
+      run-then-by (λ (z : Execution). Ordered n l (z .events)) x go
       (λ e. ordered-append n m l (x .events) (go (x .state) .events) o (p (x .state)))
       (λ a i s e. longer n m l (x .events) f o)
 
-  ordered-simple : (bs : List ℕ) (t : Touch) (k : Counts) (s : State) → Ordered (accesses k) (accesses (afterBy t k)) (eventsBy bs t k s)
+  ordered-simple : (bs : List ℕ) (t : Touch) (k : Counts) (s : State) → Ordered (accesses k) (accesses (countsAfterBy t k)) (eventsBy bs t k s)
   ordered-simple bs Touch.Nothing k s = omega arith
   ordered-simple bs (Touch.Reads d array i) k s = (omega arith, omega arith)
   ordered-simple bs (Touch.Writes array i) k s = (omega arith, omega arith)
 
-  ordered-cond : (n m : ℕ) (b : Bool) (x y : Stretch) → Ordered n m (x .events) → Ordered n m (y .events) → Ordered n m (cond b x y .events)
+  ordered-cond : (n m : ℕ) (b : Bool) (x y : Execution) → Ordered n m (x .events) → Ordered n m (y .events) → Ordered n m (cond b x y .events)
   ordered-cond n m true x y o p = o
   ordered-cond n m false x y o p = p
 
@@ -116,19 +115,19 @@ module _ (access before : ℕ) where
         (λ depth close at k a end k₁. EachIf (Before before access) a → (s : State) → Ordered (accesses k) (accesses k₁) (runArm bs ins h a s .events))
         (λ depth close at k mark e l f s. omega arith)
         (λ depth close at k c rest end k₁ v go f s.
-        ordered-then (accesses k) (accesses (after c k)) (accesses k₁) (record { events = eventsAt bs c k s; state = carry bs ins h c k s }) (runArm bs ins h rest)
-        (accesses-grow bs h rest depth close _ (after c k) end k₁ (v .stands)) (ordered-simple bs (touches c) k s) (go f))
+        ordered-then (accesses k) (accesses (countsAfter c k)) (accesses k₁) (record { events = eventsAt bs c k s; state = executed bs ins h c k s }) (runArm bs ins h rest)
+        (accesses-grow bs h rest depth close _ (countsAfter c k) end k₁ (v .stands)) (ordered-simple bs (touches c) k s) (go f))
         (λ depth close at k c first second rest end k₁ v go₁ go₂ go₃ f s.
-        let g₁ = accesses-grow bs h first (depth + 1) 12 (at + 4) (oneIf k) (v .else) (v .k₂) (v .stands-first) in
+        let g₁ = accesses-grow bs h first (depth + 1) 12 (at + 4) (countsAfterIf k) (v .else) (v .k₂) (v .stands-first) in
         let g₂ = accesses-grow bs h second (depth + 1) 13 (v .else) (v .k₂) (v .next) (v .k₃) (v .stands-second) in
-        let x = runArm bs ins h first (take s (k .ifs) 0) in
-        let y = runArm bs ins h second (take s (k .ifs) 1) in
+        let x = runArm bs ins h first (withArm s (k .ifs) 0) in
+        let y = runArm bs ins h second (withArm s (k .ifs) 1) in
         ordered-then (accesses k) (accesses (v .k₃)) (accesses k₁)
-        (cond (holds bs c s) (run.after (took (k .ifs) 0 ∷ []) x) (run.after (took (k .ifs) 1 ∷ []) y)) (runArm bs ins h rest)
+        (cond (holds bs c s) (eventsThen (took (k .ifs) 0 ∷ []) x) (eventsThen (took (k .ifs) 1 ∷ []) y)) (runArm bs ins h rest)
         (accesses-grow bs h rest depth close (v .next) (v .k₃) end k₁ (v .stands))
-        (ordered-cond (accesses k) (accesses (v .k₃)) (holds bs c s) (run.after (took (k .ifs) 0 ∷ []) x) (run.after (took (k .ifs) 1 ∷ []) y)
-        (late k (f .0), longer (accesses k) (accesses (v .k₂)) (accesses (v .k₃)) (x .events) g₂ (go₁ (f .1) (take s (k .ifs) 0)))
-        (late k (f .0), earlier (accesses k) (accesses (v .k₂)) (accesses (v .k₃)) (y .events) g₁ (go₂ (f .2) (take s (k .ifs) 1))))
+        (ordered-cond (accesses k) (accesses (v .k₃)) (holds bs c s) (eventsThen (took (k .ifs) 0 ∷ []) x) (eventsThen (took (k .ifs) 1 ∷ []) y)
+        (late k (f .0), longer (accesses k) (accesses (v .k₂)) (accesses (v .k₃)) (x .events) g₂ (go₁ (f .1) (withArm s (k .ifs) 0)))
+        (late k (f .0), earlier (accesses k) (accesses (v .k₂)) (accesses (v .k₃)) (y .events) g₁ (go₂ (f .2) (withArm s (k .ifs) 1))))
         (go₃ (f .3)))
 
 -- the run of a routine, with the ifs before the access
@@ -137,4 +136,4 @@ pub ordered : (bs ins : List ℕ) (h : Header) (a : Arm) (k : Counts) → decode
 unfolding runOf
 ordered bs ins h a k e access l =
     ordered-arm access (ifsBefore a access) bs ins h a 0 0 (firstCommand h) noCounts (length bs) k (decoded bs h a k e .stands) (ifs-before bs h a k e access l)
-    (start ins (given h))
+    (initial ins (given h))

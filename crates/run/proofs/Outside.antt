@@ -11,13 +11,13 @@ use Rattle.routine_faults.specs.Step.{accesses}
 use Rattle.routine_faults.specs.Inputs.{given}
 use Rattle.routine_faults.specs.declared.Counts.{Counts}
 use Rattle.routine_command.specs.declared.Simple.{Simple}
-use Rattle.routine.specs.Routine.{Arm, done, plain, fork}
-use Rattle.run.specs.State.{start, take, holds, indexOf, lies, arrive, carry}
+use Rattle.routine.specs.Routine.{Arm, done, plain, ifElse}
+use Rattle.run.specs.State.{initial, withArm, holds, indexOf, lies, arrive, executed}
 use Rattle.run.specs.declared.Lies.{Lies}
 use Rattle.run.specs.declared.Outcome.{Outcome}
 use Rattle.run.specs.declared.Side.{Side}
 use Rattle.run.specs.declared.State.{State}
-use Rattle.run.specs.Run.{Event, took, came, Stretch, after, unlessStopped, andThen, eventsAt, runArm, runOf}
+use Rattle.run.specs.Run.{Event, took, came, Execution, eventsThen, unlessStopped, runOn, eventsAt, runArm, runOf}
 
 module _ (bs : List ℕ) (h : Header) where
   -- among the events of a run with this outcome, each access with an index outside is the last, and stopped the run
@@ -41,10 +41,10 @@ module _ (bs : List ℕ) (h : Header) where
   ends-append (came _ _ _ ∷ es) fs o e f =
       ((λ side l. let z = e .0 side l .1 in let n : _≡_ {A = ℕ} 0 1 = cc in absurd (omega arith)), ends-append es fs o (e .1) f)
 
-  abbrev EndsIn : Stretch → Type 0
+  abbrev EndsIn : Execution → Type 0
   EndsIn x = Ends (x .events) (x .state .outcome)
 
-  ends-then : (x : Stretch) (go : State → Stretch) → EndsIn x → ((s : State) → EndsIn (go s)) → EndsIn (andThen x go)
+  ends-then : (x : Execution) (go : State → Execution) → EndsIn x → ((s : State) → EndsIn (go s)) → EndsIn (runOn x go)
   ends-then x go e f = pick (x .state .outcome) e
     where
       pick : (o : Outcome) → Ends (x .events) o → EndsIn (unlessStopped o (x .events) (x .state) go)
@@ -58,15 +58,15 @@ module _ (bs : List ℕ) (h : Header) where
   ends-access s next access array index (Lies.Outside side) e = ((λ side₁ q. (refl, cc)), tt)
 
   module _ (ins : List ℕ) where
-    ends-simple : (c : Simple) (k : Counts) (s : State) → Ends (eventsAt bs c k s) (carry bs ins h c k s .outcome)
-    unfolding carry
+    ends-simple : (c : Simple) (k : Counts) (s : State) → Ends (eventsAt bs c k s) (executed bs ins h c k s .outcome)
+    unfolding executed
     ends-simple (Simple.Set d c) k s = tt
     ends-simple (Simple.Convert op d a) k s = tt
     ends-simple (Simple.Compute op d a b) k s = tt
     ends-simple (Simple.Read d array i) k s = ends-access s _ (accesses k) array (indexOf bs s i) (lies (arraySize bs h array) (indexOf bs s i)) refl
     ends-simple (Simple.Write array i a) k s = ends-access s _ (accesses k) array (indexOf bs s i) (lies (arraySize bs h array) (indexOf bs s i)) refl
 
-    ends-cond : (b : Bool) (x y : Stretch) → EndsIn x → EndsIn y → EndsIn (cond b x y)
+    ends-cond : (b : Bool) (x y : Execution) → EndsIn x → EndsIn y → EndsIn (cond b x y)
     ends-cond true x y e f = e
     ends-cond false x y e f = f
 
@@ -74,20 +74,20 @@ module _ (bs : List ℕ) (h : Header) where
     unfolding runArm
     ends-arm done s = tt
     ends-arm (plain at c k rest) s =
-        ends-then (record { events = eventsAt bs c k s; state = carry bs ins h c k s }) (runArm bs ins h rest) (ends-simple c k s) (ends-arm rest)
-    ends-arm (fork at c k first second rest) s =
+        ends-then (record { events = eventsAt bs c k s; state = executed bs ins h c k s }) (runArm bs ins h rest) (ends-simple c k s) (ends-arm rest)
+    ends-arm (ifElse at c k first second rest) s =
         ends-then
         (cond (holds bs c s)
-        (after (took (k .ifs) 0 ∷ []) (runArm bs ins h first (take s (k .ifs) 0)))
-        (after (took (k .ifs) 1 ∷ []) (runArm bs ins h second (take s (k .ifs) 1))))
+        (eventsThen (took (k .ifs) 0 ∷ []) (runArm bs ins h first (withArm s (k .ifs) 0)))
+        (eventsThen (took (k .ifs) 1 ∷ []) (runArm bs ins h second (withArm s (k .ifs) 1))))
         (runArm bs ins h rest)
         (ends-cond (holds bs c s)
-        (after (took (k .ifs) 0 ∷ []) (runArm bs ins h first (take s (k .ifs) 0)))
-        (after (took (k .ifs) 1 ∷ []) (runArm bs ins h second (take s (k .ifs) 1)))
-        (ends-arm first (take s (k .ifs) 0)) (ends-arm second (take s (k .ifs) 1)))
+        (eventsThen (took (k .ifs) 0 ∷ []) (runArm bs ins h first (withArm s (k .ifs) 0)))
+        (eventsThen (took (k .ifs) 1 ∷ []) (runArm bs ins h second (withArm s (k .ifs) 1)))
+        (ends-arm first (withArm s (k .ifs) 0)) (ends-arm second (withArm s (k .ifs) 1)))
         (ends-arm rest)
 
     -- the run of a routine
     pub ends : (a : Arm) → EndsIn (runOf bs ins h a)
     unfolding runOf
-    ends a = ends-arm a (start ins (given h))
+    ends a = ends-arm a (initial ins (given h))

@@ -7,7 +7,7 @@ use native.Mathlib.Omega.{arith}
 use Rattle.bitvec.specs.Relation.{relates}
 use Rattle.routine_header.specs.Header.{width}
 use Rattle.routine_header.specs.declared.Header.{Header}
-use Rattle.routine_faults.specs.Step.{oneIf}
+use Rattle.routine_faults.specs.Step.{countsAfterIf}
 use Rattle.routine_command.specs.declared.Condition.{Condition}
 use Rattle.routine_faults.specs.declared.Counts.{Counts}
 use Rattle.routine.specs.Routine.{Arm}
@@ -15,20 +15,19 @@ use Rattle.routine.specs.Inner.Stands.{Stands, SomeArm, SomeIf}
 use Rattle.routine.specs.Inner.Passes.{Passes}
 use Rattle.routine.specs.declared.Passed.{Passed}
 use Rattle.routine.proofs.Standing.{second-at}
-use Rattle.run.specs.State.{value, take, holds}
+use Rattle.run.specs.State.{value, withArm, holds}
 use Rattle.run.specs.declared.State.{State}
-use Rattle.run.specs.Run as run
-use Rattle.run.specs.Run.{Stretch, took, runArm, runIf}
+use Rattle.run.specs.Run.{Execution, took, runArm, runIf, eventsThen}
 use Rattle.run.specs.Inner.Walker.{isOver}
 use Rattle.run.specs.Course.{keepsTo, courseTo}
-use Rattle.run.specs.Inner.Walker.{settled, isDone, wayAt, armAt, Arrives, FollowsArm, FollowsIf}
+use Rattle.run.specs.Inner.Walker.{settled, isDone, wayAt, armAt, Follows, FollowsArm, FollowsIf}
 use Rattle.run.specs.declared.Course.{Course}
 use Rattle.run.specs.declared.Goal.{Goal}
 use Rattle.run.specs.declared.Way.{Way}
 use Rattle.run.proofs.Following.{going, either}
 
 -- after the first arm was followed
-pub second-after : (bs : List ℕ) (h : Header) (depth at : ℕ) (k : Counts) → SomeIf bs h depth at (oneIf k) → (inside : Counts) → inside ≡ oneIf k
+pub second-after : (bs : List ℕ) (h : Header) (depth at : ℕ) (k : Counts) → SomeIf bs h depth at (countsAfterIf k) → (inside : Counts) → inside ≡ countsAfterIf k
     → (ins ds : List ℕ) (goal : Goal) (s : State) (r : Way) → FollowsArm bs ins ds goal h (depth + 1) 12 (wayAt (at + 4) inside s Course.Passing) r
     → isDone r ≡ false → SomeArm bs h (depth + 1) 13 (r .next) (r .counts)
 second-after bs h depth at k i inside e ins ds goal s r x f =
@@ -46,18 +45,18 @@ unfolding armAt holds
 arm-is bs c s arm e = e
 
 -- which arm is taken
-zero-first : (b : Bool) (x y : Stretch) → cond {A = ℕ} b 0 1 ≡ 0 → x ≡ cond b x y
+zero-first : (b : Bool) (x y : Execution) → cond {A = ℕ} b 0 1 ≡ 0 → x ≡ cond b x y
 zero-first true x y e = refl
 zero-first false x y e = absurd (omega arith)
 
-else-second : (b : Bool) (x y : Stretch) → (cond {A = ℕ} b 0 1 ≡ 0 → ⊥) → y ≡ cond b x y
+else-second : (b : Bool) (x y : Execution) → (cond {A = ℕ} b 0 1 ≡ 0 → ⊥) → y ≡ cond b x y
 else-second true x y e = absurd (e refl)
 else-second false x y e = refl
 
-module _ (ds : List ℕ) (goal : Goal) (number : ℕ) (x y : Stretch) where
-  -- the stretch of an if, from those of its arms
-  abbrev forkStretch : Bool → Stretch
-  forkStretch b = cond b (run.after (took number 0 ∷ []) x) (run.after (took number 1 ∷ []) y)
+module _ (ds : List ℕ) (goal : Goal) (number : ℕ) (x y : Execution) where
+  -- the execution of an if, from those of its arms
+  abbrev forkStretch : Bool → Execution
+  forkStretch b = cond b (eventsThen (took number 0 ∷ []) x) (eventsThen (took number 1 ∷ []) y)
 
   fork-astray : (b : Bool) → keepsTo ds goal number (cond b 0 1) ≡ false → Course.Astray number ≡ courseTo ds goal (forkStretch b .events)
   unfolding courseTo
@@ -72,12 +71,12 @@ module _ (ds : List ℕ) (goal : Goal) (number : ℕ) (x y : Stretch) where
 
 module _ (bs ins ds : List ℕ) (goal : Goal) (h : Header) (depth : ℕ) (c : Condition) (w : Way) (arm : ℕ) (is : arm ≡ armAt bs c (w .state))
     (b : Bool) (by : b ≡ keepsTo ds goal (w .counts .ifs) arm) where
-  -- the stretches of the arms
-  abbrev firstOf : Arm → Stretch
-  firstOf first = runArm bs ins h first (take (w .state) (w .counts .ifs) 0)
+  -- the executions of the arms
+  abbrev firstOf : Arm → Execution
+  firstOf first = runArm bs ins h first (withArm (w .state) (w .counts .ifs) 0)
 
-  abbrev secondOf : Arm → Stretch
-  secondOf second = runArm bs ins h second (take (w .state) (w .counts .ifs) 1)
+  abbrev secondOf : Arm → Execution
+  secondOf second = runArm bs ins h second (withArm (w .state) (w .counts .ifs) 1)
 
   decision : keepsTo ds goal (w .counts .ifs) (cond (holds bs c (w .state)) 0 1) ≡ b
   unfolding armAt
@@ -94,23 +93,23 @@ module _ (bs ins ds : List ℕ) (goal : Goal) (h : Header) (depth : ℕ) (c : Co
         };
   }
 
-  module _ (e : b ≡ true) (inside : Counts) (k : inside ≡ oneIf (w .counts)) (s : State) where
+  module _ (e : b ≡ true) (inside : Counts) (k : inside ≡ countsAfterIf (w .counts)) (s : State) where
     -- what the arm that was taken comes to is what the if comes to
-    kept : (first second : Arm) (x : Stretch) → x ≡ cond (holds bs c (w .state)) (firstOf first) (secondOf second)
-        → (end : ℕ) (k₁ : Counts) (r : Way) → Arrives ds goal x end k₁ r → Arrives ds goal (runIf bs c (w .counts) (runArm bs ins h first) (runArm bs ins h second) (w .state)) end k₁ r
+    kept : (first second : Arm) (x : Execution) → x ≡ cond (holds bs c (w .state)) (firstOf first) (secondOf second)
+        → (end : ℕ) (k₁ : Counts) (r : Way) → Follows ds goal x end k₁ r → Follows ds goal (runIf bs c (w .counts) (runArm bs ins h first) (runArm bs ins h second) (w .state)) end k₁ r
     kept first second x q end k₁ r a =
         let p = fork-kept ds goal (w .counts .ifs) (firstOf first) (secondOf second) (holds bs c (w .state)) (decision ∙ e) in
         record {
-          course = a .course ∙ ap (λ (y : Stretch). courseTo ds goal (y .events)) q ∙ p .0;
-          state = λ u. a .state u ∙ ap (λ (y : Stretch). y .state) q ∙ p .1;
+          course = a .course ∙ ap (λ (y : Execution). courseTo ds goal (y .events)) q ∙ p .0;
+          state = λ u. a .state u ∙ ap (λ (y : Execution). y .state) q ∙ p .1;
           next = a .next;
           counts = a .counts;
         }
 
-    module _ (z : arm ≡ 0) (t : s ≡ take (w .state) (w .counts .ifs) 0) (r : Way)
+    module _ (z : arm ≡ 0) (t : s ≡ withArm (w .state) (w .counts .ifs) 0) (r : Way)
         (x : FollowsArm bs ins ds goal h (depth + 1) 12 (wayAt (w .next + 4) inside s Course.Passing) r) where
-      first-tells : (first second : Arm) (else : ℕ) (k₁ : Counts) → Stands bs h (depth + 1) 12 (w .next + 4) (oneIf (w .counts)) first else k₁
-          → Arrives ds goal (runIf bs c (w .counts) (runArm bs ins h first) (runArm bs ins h second) (w .state)) else k₁ r
+      first-tells : (first second : Arm) (else : ℕ) (k₁ : Counts) → Stands bs h (depth + 1) 12 (w .next + 4) (countsAfterIf (w .counts)) first else k₁
+          → Follows ds goal (runIf bs c (w .counts) (runArm bs ins h first) (runArm bs ins h second) (w .state)) else k₁ r
       unfolding armAt
       first-tells first second else k₁ p =
           kept first second (runArm bs ins h first s)
@@ -134,7 +133,7 @@ module _ (bs ins ds : List ℕ) (goal : Goal) (h : Header) (depth : ℕ) (c : Co
             record { course = sym (u .0) ∙ a .course; state = λ _. a .state (ap settled (u .0)); next = λ _. d .0; counts = λ _. d .1 };
       }
 
-    pub second-followed : (arm ≡ 0 → ⊥) → s ≡ take (w .state) (w .counts .ifs) 1 → (past : Passed) → Passes bs h (depth + 1) 12 (w .next + 4) inside past
+    pub second-followed : (arm ≡ 0 → ⊥) → s ≡ withArm (w .state) (w .counts .ifs) 1 → (past : Passed) → Passes bs h (depth + 1) 12 (w .next + 4) inside past
         → (r : Way) → FollowsArm bs ins ds goal h (depth + 1) 13 (wayAt (past .next) (past .counts) s Course.Passing) r → FollowsIf bs ins ds goal h depth c w r
     unfolding armAt
     second-followed z t past y r x = record {

@@ -6,12 +6,12 @@ use Prim.Native.Nat.{ℕ, _+_}
 use Rattle.bitvec.specs.declared.Whole.{Whole}
 use Rattle.routine_header.specs.Header.{arraySize}
 use Rattle.routine_header.specs.declared.Header.{Header}
-use Rattle.routine_command.specs.Command.{touches, sizeOfSimple, commandAt}
+use Rattle.routine_command.specs.Command.{touches, simpleSize, commandAt}
 use Rattle.routine_command.specs.declared.Simple.{Simple}
 use Rattle.routine_command.specs.declared.Command.{Command}
-use Rattle.routine_faults.specs.Step.{accesses, after}
+use Rattle.routine_faults.specs.Step.{accesses, countsAfter}
 use Rattle.routine_faults.specs.declared.Counts.{Counts}
-use Rattle.run.specs.State.{value, put, stop, indexOf, lies, arrive, moved, carry}
+use Rattle.run.specs.State.{value, assigned, stop, indexOf, lies, arrive, moved, executed}
 use Rattle.run.specs.Inner.Moves.{operandsOf, valueAfter}
 use Rattle.run.specs.declared.Lies.{Lies}
 use Rattle.run.specs.declared.Side.{Side}
@@ -41,9 +41,9 @@ access-tells goal n array index s next false e Lies.Inside = (rw e, refl)
 access-tells goal n array index s next false e (Lies.Outside side) = (rw e, refl)
 
 module _ (bs ins : List ℕ) (goal : Goal) (h : Header) (k : Counts) (s : State) where
-  tells : (c : Simple) → Told (accesses k) s (moved bs ins h c k s) (courseTo [] goal (eventsAt bs c k s)) (carry bs ins h c k s)
+  tells : (c : Simple) → Told (accesses k) s (moved bs ins h c k s) (courseTo [] goal (eventsAt bs c k s)) (executed bs ins h c k s)
       (reachedBy bs h goal k (value s (operandsOf c .i)) (touches c))
-  unfolding courseTo carry indexOf
+  unfolding courseTo executed indexOf
   tells (Simple.Set d x) = (refl, refl)
   tells (Simple.Convert op d a) = (refl, refl)
   tells (Simple.Compute op d a b) = (refl, refl)
@@ -56,19 +56,19 @@ module _ (bs ins ds : List ℕ) (goal : Goal) (h : Header) (depth close : ℕ) (
     (g : Going bs ins ds goal h depth close w₀ (wayAt at k s Course.Passing)) (r : Command) (is : r ≡ commandAt bs at) (c : Simple) (q : r ≡ Command.Simple c)
     (o : Operands) (p : o ≡ operandsOf c) (t : Reached) (by : t ≡ reachedBy bs h goal k (value s (o .i)) (touches c)) where
   abbrev TellsOf : Reached → Type 0
-  TellsOf = Told (accesses k) s (moved bs ins h c k s) (courseTo [] goal (eventsAt bs c k s)) (carry bs ins h c k s)
+  TellsOf = Told (accesses k) s (moved bs ins h c k s) (courseTo [] goal (eventsAt bs c k s)) (executed bs ins h c k s)
 
   told : (u : Reached) → t ≡ u → TellsOf u
   told u e = subst TellsOf (sym (by ∙ ap (λ (x : Operands). reachedBy bs h goal k (value s (x .i)) (touches c)) p) ∙ e) (tells bs ins goal h k s c)
 
   -- the run goes on, and a variable took a value
-  pub goes-on : t ≡ Reached.Goes → isOver (s .outcome) ≡ false → (n : ℕ) (k₁ : Counts) (x : ℕ) → n ≡ sizeOfSimple c → k₁ ≡ after c k
-      → x ≡ valueAfter bs ins h c k (value s (o .a)) (value s (o .b)) → Going bs ins ds goal h depth close w₀ (wayAt (at + n) k₁ (put s (o .d) x) Course.Passing)
+  pub goes-on : t ≡ Reached.Goes → isOver (s .outcome) ≡ false → (n : ℕ) (k₁ : Counts) (x : ℕ) → n ≡ simpleSize c → k₁ ≡ countsAfter c k
+      → x ≡ valueAfter bs ins h c k (value s (o .a)) (value s (o .b)) → Going bs ins ds goal h depth close w₀ (wayAt (at + n) k₁ (assigned s (o .d) x) Course.Passing)
   goes-on e f n k₁ x en ek ex =
       let u = told Reached.Goes e in
-      let m : put s (o .d) x ≡ moved bs ins h c k s = rw (ex, p) (moves bs ins h c k s) in
-      stepped bs ins ds goal h depth close w₀ (wayAt at k s Course.Passing) g r is c q (wayAt (at + n) k₁ (put s (o .d) x) Course.Passing)
-      (step-is bs ins goal h c at k s n k₁ (put s (o .d) x) Course.Passing en ek (m ∙ sym (u .1)) (sym (u .0))) f
+      let m : assigned s (o .d) x ≡ moved bs ins h c k s = rw (ex, p) (moves bs ins h c k s) in
+      stepped bs ins ds goal h depth close w₀ (wayAt at k s Course.Passing) g r is c q (wayAt (at + n) k₁ (assigned s (o .d) x) Course.Passing)
+      (step-is bs ins goal h c at k s n k₁ (assigned s (o .d) x) Course.Passing en ek (m ∙ sym (u .1)) (sym (u .0))) f
 
   -- a walk that is done tells no offset and no counts
   ended : (v : Way) (y : State) (x : Course) → v ≡ stepOn bs ins goal h c (wayAt at k s Course.Passing) → isDone v ≡ true → isDone (wayAt at k y x) ≡ true
@@ -88,16 +88,16 @@ module _ (bs ins ds : List ℕ) (goal : Goal) (h : Header) (depth close : ℕ) (
       let u = told (Reached.Stops index side) e in
       let m : y ≡ stop s (accesses k) index side = ey ∙ ap (λ (x : ℕ). stop s x index side) en in
       let d : isOver (y .outcome) ≡ true = ap (λ (x : State). isOver (x .outcome)) m in
-      ended (wayAt (at + sizeOfSimple c) (after c k) y Course.Passing) y Course.Passing
-      (step-is bs ins goal h c at k s (sizeOfSimple c) (after c k) y Course.Passing refl refl (m ∙ sym (u .1)) (sym (u .0))) d d refl refl
+      ended (wayAt (at + simpleSize c) (countsAfter c k) y Course.Passing) y Course.Passing
+      (step-is bs ins goal h c at k s (simpleSize c) (countsAfter c k) y Course.Passing refl refl (m ∙ sym (u .1)) (sym (u .0))) d d refl refl
 
   -- an access is the goal
   pub arrives : (array : ℕ) (index : Whole) → t ≡ Reached.Arrives array index
       → FollowsArm bs ins ds goal h depth close w₀ (wayAt at k s (Course.Arrived array index))
   arrives array index e =
-      let v : Way = wayAt (at + sizeOfSimple c) (after c k) (carry bs ins h c k s) (Course.Arrived array index) in
+      let v : Way = wayAt (at + simpleSize c) (countsAfter c k) (executed bs ins h c k s) (Course.Arrived array index) in
       let z = step-done bs ins ds goal h depth close w₀ (wayAt at k s Course.Passing) g r is c q v
-      (step-is bs ins goal h c at k s (sizeOfSimple c) (after c k) (carry bs ins h c k s) (Course.Arrived array index) refl refl refl (sym (told (Reached.Arrives array index) e))) refl in
+      (step-is bs ins goal h c at k s (simpleSize c) (countsAfter c k) (executed bs ins h c k s) (Course.Arrived array index) refl refl refl (sym (told (Reached.Arrives array index) e))) refl in
       record {
         tells = λ a end k₁ b.
             record { course = z .tells a end k₁ b .course; state = λ i. absurd (true≢false i); next = λ i. absurd (true≢false i); counts = λ i. absurd (true≢false i) };

@@ -13,7 +13,7 @@ use Rattle.routine.specs.Routine.{Arm}
 use Rattle.routine.specs.Decode.{noCounts, commandsIn, IsRoutine}
 use Rattle.routine.specs.Inner.Stands.{SomeArm}
 use Rattle.routine.proofs.Accepted.{decoded, commands-are}
-use Rattle.run.specs.State.{start}
+use Rattle.run.specs.State.{initial}
 use Rattle.run.specs.declared.State.{State}
 use Rattle.run.specs.Run.{runArm, runOf}
 use Rattle.run.specs.Course.{courseTo}
@@ -23,8 +23,8 @@ use Rattle.run.specs.declared.Goal.{Goal}
 use Rattle.run.specs.declared.Way.{Way}
 
 -- a run begins going
-pub begun-going : (ins : List ℕ) (n : ℕ) (s : State) → s ≡ start ins n → isOver (s .outcome) ≡ false
-unfolding start
+pub begun-going : (ins : List ℕ) (n : ℕ) (s : State) → s ≡ initial ins n → isOver (s .outcome) ≡ false
+unfolding initial
 begun-going ins n s e = ap (λ (x : State). isOver (x .outcome)) e
 
 -- an accepted routine has a fine header, and its commands stand at the first of them
@@ -38,7 +38,7 @@ module _ (bs : List ℕ) (h : Header) (i : IsRoutine bs h) where
       rw e (record { arm = i .commands; end = length bs; after = i .counts; stands = w .stands })
 
   -- what the commands come to is what the routine comes to
-  pub followed-whole : (ins ds : List ℕ) (goal : Goal) (at : ℕ) (s : State) (r : Way) → at ≡ firstCommand h → s ≡ start ins (given h)
+  pub followed-whole : (ins ds : List ℕ) (goal : Goal) (at : ℕ) (s : State) (r : Way) → at ≡ firstCommand h → s ≡ initial ins (given h)
       → FollowsArm bs ins ds goal h 0 0 (wayAt at noCounts s Course.Passing) r
       → (r .course ≡ courseTo ds goal (runOf bs ins h (commandsIn bs) .events)) × (settled (r .course) ≡ false → r .state ≡ runOf bs ins h (commandsIn bs) .state)
   unfolding runOf

@@ -23,20 +23,19 @@ use Rattle.routine_faults.specs.Inputs.{given}
 use Rattle.routine_faults.specs.Inner.Sound.{Sound, Fine}
 use Rattle.routine_faults.specs.declared.Counts.{Counts}
 use Rattle.routine_faults.proofs.Fine.{fine, set-fine, convert-fine}
-use Rattle.routine.specs.Routine.{Arm, done, plain, fork}
+use Rattle.routine.specs.Routine.{Arm, done, plain, ifElse}
 use Rattle.routine.specs.Decode.{routine, decode, noCounts}
 use Rattle.routine.specs.Inner.Stands.{Stands}
 use Rattle.routine.proofs.Accepted.{decoded}
 use Rattle.routine.proofs.Views.{induction}
-use Rattle.run.specs.State.{over, start, value, put, take, converted, computed, holds, indexOf, lies, arrive, carry}
+use Rattle.run.specs.State.{over, initial, value, assigned, withArm, converted, computed, holds, indexOf, lies, arrive, executed}
 use Rattle.run.specs.declared.Lies.{Lies}
 use Rattle.run.specs.declared.Outcome.{Outcome}
 use Rattle.run.specs.declared.State.{State}
 use Rattle.run_inputs.specs.Inputs.{listed}
 use Rattle.run_inputs.specs.declared.Listed.{Listed}
 use Rattle.run_inputs.proofs.Fitting.{FitSimple, Fit, fitting}
-use Rattle.run.specs.Run as run
-use Rattle.run.specs.Run.{Event, took, Stretch, unlessStopped, andThen, eventsAt, runArm, runOf}
+use Rattle.run.specs.Run.{Event, took, Execution, unlessStopped, runOn, eventsAt, runArm, runOf, eventsThen}
 
 -- ---- entries of a list
 
@@ -88,7 +87,7 @@ module _ (bs : List ℕ) (h : Header) where
   abbrev pub InWidths : State → Type 0
   InWidths s = (v : ℕ) → v < h .variables → value s v < 2 ^ width bs v
 
-  put-in : (s : State) (d x : ℕ) → InWidths s → x < 2 ^ width bs d → InWidths (put s d x)
+  put-in : (s : State) (d x : ℕ) → InWidths s → x < 2 ^ width bs d → InWidths (assigned s d x)
   put-in s d x p q v l = below-set (s .values) d v x (2 ^ width bs v) (λ e. subst (λ (u : ℕ). x < 2 ^ width bs u) e q) (p v l)
 
   arrive-in : (s next : State) (access : ℕ) (index : Whole) (l : Lies) → InWidths s → InWidths next → InWidths (arrive s access index l next)
@@ -96,8 +95,8 @@ module _ (bs : List ℕ) (h : Header) where
   arrive-in s next access index (Lies.Outside side) p q = p
 
   module _ (ins : List ℕ) where
-    carried-in : (c : Simple) (k : Counts) (s : State) → Sound bs h c → FitSimple bs ins h c k → InWidths s → InWidths (carry bs ins h c k s)
-    unfolding carry widthsFit
+    carried-in : (c : Simple) (k : Counts) (s : State) → Sound bs h c → FitSimple bs ins h c k → InWidths s → InWidths (executed bs ins h c k s)
+    unfolding executed widthsFit
     carried-in (Simple.Set d c) k s x f p = put-in s d c p (set-fine bs h d c x .1)
     carried-in (Simple.Convert op d a) k s x f p =
         put-in s d (converted op (width bs d) (width bs a) (value s a)) p
@@ -108,14 +107,14 @@ module _ (bs : List ℕ) (h : Header) where
         arrive-in s _ (accesses k) (indexOf bs s i) (lies (arraySize bs h array) (indexOf bs s i)) p (put-in s d _ p f)
     carried-in (Simple.Write array i a) k s x f p = arrive-in s s (accesses k) (indexOf bs s i) (lies (arraySize bs h array) (indexOf bs s i)) p p
 
-    then-in : (x : Stretch) (go : State → Stretch) → InWidths (x .state) → ((s : State) → InWidths s → InWidths (go s .state)) → InWidths (andThen x go .state)
+    then-in : (x : Execution) (go : State → Execution) → InWidths (x .state) → ((s : State) → InWidths s → InWidths (go s .state)) → InWidths (runOn x go .state)
     then-in x go p f = pick (x .state .outcome)
       where
         pick : (o : Outcome) → InWidths (unlessStopped o (x .events) (x .state) go .state)
         pick Outcome.Going = f (x .state) p
         pick (Outcome.Stopped access index side) = p
 
-    cond-in : (b : Bool) (x y : Stretch) → InWidths (x .state) → InWidths (y .state) → InWidths (cond b x y .state)
+    cond-in : (b : Bool) (x y : Execution) → InWidths (x .state) → InWidths (y .state) → InWidths (cond b x y .state)
     cond-in true x y p q = p
     cond-in false x y p q = q
 
@@ -126,17 +125,17 @@ module _ (bs : List ℕ) (h : Header) where
         induction bs h (λ depth close at k a end k₁. Fit bs ins h a → (s : State) → InWidths s → InWidths (runArm bs ins h a s .state))
         (λ depth close at k mark e l f s p. p)
         (λ depth close at k c rest end k₁ v go f s p.
-        then-in (record { events = eventsAt bs c k s; state = carry bs ins h c k s }) (runArm bs ins h rest) (carried-in c k s (v .sound) (f .0) p) (go (f .1)))
+        then-in (record { events = eventsAt bs c k s; state = executed bs ins h c k s }) (runArm bs ins h rest) (carried-in c k s (v .sound) (f .0) p) (go (f .1)))
         (λ depth close at k c first second rest end k₁ v go₁ go₂ go₃ f s p.
         then-in
         (cond (holds bs c s)
-        (run.after (took (k .ifs) 0 ∷ []) (runArm bs ins h first (take s (k .ifs) 0)))
-        (run.after (took (k .ifs) 1 ∷ []) (runArm bs ins h second (take s (k .ifs) 1))))
+        (eventsThen (took (k .ifs) 0 ∷ []) (runArm bs ins h first (withArm s (k .ifs) 0)))
+        (eventsThen (took (k .ifs) 1 ∷ []) (runArm bs ins h second (withArm s (k .ifs) 1))))
         (runArm bs ins h rest)
         (cond-in (holds bs c s)
-        (run.after (took (k .ifs) 0 ∷ []) (runArm bs ins h first (take s (k .ifs) 0)))
-        (run.after (took (k .ifs) 1 ∷ []) (runArm bs ins h second (take s (k .ifs) 1)))
-        (go₁ (f .0) (take s (k .ifs) 0) p) (go₂ (f .1) (take s (k .ifs) 1) p))
+        (eventsThen (took (k .ifs) 0 ∷ []) (runArm bs ins h first (withArm s (k .ifs) 0)))
+        (eventsThen (took (k .ifs) 1 ∷ []) (runArm bs ins h second (withArm s (k .ifs) 1)))
+        (go₁ (f .0) (withArm s (k .ifs) 0) p) (go₂ (f .1) (withArm s (k .ifs) 1) p))
         (go₃ (f .2)))
 
     -- the beginning, of which n words are laid
@@ -149,8 +148,8 @@ module _ (bs : List ℕ) (h : Header) where
 
     -- the run of a routine on an accepted input list, to its end or its stop
     pub words : (a : Arm) (k : Counts) → decode bs ≡ routine h a k → listed bs ins h a k ≡ Listed.Accepted → InWidths (runOf bs ins h a .state)
-    unfolding runOf start
+    unfolding runOf initial
     words a k d l =
         let f = fitting bs ins h a k d l in
-        arm-in a 0 0 (firstCommand h) noCounts (length bs) k (decoded bs h a k d .stands) (f .reads) (start ins (given h))
+        arm-in a 0 0 (firstCommand h) noCounts (length bs) k (decoded bs h a k d .stands) (f .reads) (initial ins (given h))
         (λ v m. over-in (given h) v (f .parameters))

@@ -30,20 +30,20 @@ over zero xs ys = ys
 over (suc n) xs ys = set (over n xs ys) n (entry xs n)
 
 -- the beginning: the first n variables have their input words, the others are 0, and no if was come to
-unfoldable pub start : (ins : List ℕ) → (n : ℕ) → State
-start ins n = record { values = over n ins (replicate 32 0); trail = replicate 32 2; outcome = Outcome.Going }
+unfoldable pub initial : (ins : List ℕ) → (n : ℕ) → State
+initial ins n = record { values = over n ins (replicate 32 0); trail = replicate 32 2; outcome = Outcome.Going }
 
 -- the value of a variable
 abbrev pub value : State → ℕ → ℕ
 value s v = entry (s .values) v
 
 -- the state with another value for a variable
-abbrev pub put : State → ℕ → ℕ → State
-put s v x = record { values = set (s .values) v x; trail = s .trail; outcome = s .outcome }
+abbrev pub assigned : State → ℕ → ℕ → State
+assigned s v x = record { values = set (s .values) v x; trail = s .trail; outcome = s .outcome }
 
 -- the state after an arm was taken at an if: 0 first arm, 1 else
-abbrev pub take : State → (number arm : ℕ) → State
-take s number arm = record { values = s .values; trail = set (s .trail) number arm; outcome = s .outcome }
+abbrev pub withArm : State → (number arm : ℕ) → State
+withArm s number arm = record { values = s .values; trail = set (s .trail) number arm; outcome = s .outcome }
 
 -- the state that an access stopped
 abbrev pub stop : State → (access : ℕ) → Whole → Side → State
@@ -96,13 +96,13 @@ accessedBy bs h (Touch.Writes array i) k s next = accessed bs h array i k s next
 
 -- the values after a command that does not stop the run: a read gives the input word of its own number, and a write changes none
 unfoldable pub moved : (bs ins : List ℕ) → Header → Simple → Counts → State → State
-moved bs ins h (Simple.Set d c) k s = put s d c
-moved bs ins h (Simple.Convert op d a) k s = put s d (converted op (width bs d) (width bs a) (value s a))
-moved bs ins h (Simple.Compute op d a b) k s = put s d (computed op (width bs d) (value s a) (value s b))
-moved bs ins h (Simple.Read d array i) k s = put s d (entry ins (inputNumber h k))
+moved bs ins h (Simple.Set d c) k s = assigned s d c
+moved bs ins h (Simple.Convert op d a) k s = assigned s d (converted op (width bs d) (width bs a) (value s a))
+moved bs ins h (Simple.Compute op d a b) k s = assigned s d (computed op (width bs d) (value s a) (value s b))
+moved bs ins h (Simple.Read d array i) k s = assigned s d (entry ins (inputNumber h k))
 moved bs ins h (Simple.Write array i a) k s = s
 
 -- the state moves on by one command
-unfoldable pub carry : (bs ins : List ℕ) → Header → Simple → Counts → State → State
+unfoldable pub executed : (bs ins : List ℕ) → Header → Simple → Counts → State → State
 unfolding moved
-carry bs ins h c k s = accessedBy bs h (touches c) k s (moved bs ins h c k s)
+executed bs ins h c k s = accessedBy bs h (touches c) k s (moved bs ins h c k s)

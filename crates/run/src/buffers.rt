@@ -6,7 +6,7 @@ ghost use lib.ListN.{length};
 ghost use Rattle.run.specs.State.{over};
 
 // The first n values go into the lent buffer.
-pub fn put_values(state: State, n: u8, values: &mut [u32])
+pub fn hand_out_values(state: State, n: u8, values: &mut [u32])
     requires { ⌜ (n ≤ 32) × (n ≤ length (now values)) ⌝ }
     ensures { λ r. ⌜ now (values .exit) ≡ over n (state .values) (now (values .entry)) ⌝ }
 {
@@ -20,7 +20,7 @@ pub fn put_values(state: State, n: u8, values: &mut [u32])
 }
 
 // The first n bytes of the trail go into the lent buffer.
-pub fn put_trail(state: State, n: u8, trail: &mut [u8])
+pub fn hand_out_trail(state: State, n: u8, trail: &mut [u8])
     requires { ⌜ (n ≤ 32) × (n ≤ length (now trail)) ⌝ }
     ensures { λ r. ⌜ now (trail .exit) ≡ over n (state .trail) (now (trail .entry)) ⌝ }
 {

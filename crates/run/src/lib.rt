@@ -10,7 +10,7 @@ use bitvec::Whole;
 use routine_faults::Counts;
 use routine_header::Header;
 use slices::Buffer;
-ghost use Rattle.run.specs.Answer.{Answers};
+ghost use Rattle.run.specs.Answer.{RunAnswers};
 
 // Where an index lies outside its array: below 0, or at or above the size.
 pub enum Side {
@@ -93,7 +93,7 @@ pub enum Refusal {
 }
 
 // Whether there is a run.
-pub enum Admitted {
+pub enum AdmittedRun {
     Refused(Refusal),
     Runs(Header, Counts),
 }
@@ -111,14 +111,14 @@ pub enum Ran {
 
 // Runs a routine on an input list. The values and the trail are handed out for a stop as for an end; a refusal leaves both buffers as they were.
 pub fn run(routine: &[u8], inputs: &[u32], values: &mut [u32], trail: &mut [u8]) -> Ran
-    ensures { λ r. ⌜ Answers (now (routine .entry)) (now (inputs .entry)) (now (values .entry)) (now (trail .entry)) (now (values .exit)) (now (trail .exit)) r ⌝ }
+    ensures { λ r. ⌜ RunAnswers (now (routine .entry)) (now (inputs .entry)) (now (values .entry)) (now (trail .entry)) (now (values .exit)) (now (trail .exit)) r ⌝ }
 {
     match admission::admit(routine, inputs, values.len(), trail.len()) {
-        Admitted::Refused(refusal) => Ran::Refused(refusal),
-        Admitted::Runs(h, k) => {
+        AdmittedRun::Refused(refusal) => Ran::Refused(refusal),
+        AdmittedRun::Runs(h, k) => {
             let state = runs::run_to_end(routine, inputs, h);
-            buffers::put_values(state, h.variables, values);
-            buffers::put_trail(state, k.ifs, trail);
+            buffers::hand_out_values(state, h.variables, values);
+            buffers::hand_out_trail(state, k.ifs, trail);
             let outcome = state.outcome;
             runs::answer_of(outcome)
         }

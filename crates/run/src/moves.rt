@@ -44,9 +44,9 @@ fn computed_by(op: u8, w: u8, a: u32, b: u32) -> u32
     ensures { λ r. ⌜ r ≡ computed op w a b ⌝ }
 {
     match op {
-        0x03 => word::sum(w, a, b),
-        0x04 => word::difference(w, a, b),
-        0x05 => word::product(w, a, b),
+        0x03 => word::add(w, a, b),
+        0x04 => word::subtract(w, a, b),
+        0x05 => word::multiply(w, a, b),
         _ => 0,
     }
 }

@@ -7,7 +7,7 @@ use bitvec::Whole;
 use slices::entry_at;
 ghost use mathlib.Core.Path.{_≡_};
 ghost use Prim.Native.Nat.{_<_, _≤_};
-ghost use Rattle.run.specs.State.{start, take, stop, lies};
+ghost use Rattle.run.specs.State.{initial, withArm, stop, lies};
 
 // Where an index lies against an array's size, as whole numbers.
 pub fn lies_at(size: u32, index: Whole) -> Lies
@@ -27,9 +27,9 @@ pub fn lies_at(size: u32, index: Whole) -> Lies
 
 impl State {
     // The beginning: each of the first n variables has its input word.
-    pub fn begin(inputs: &[u32], n: u8) -> State
+    pub fn initial(inputs: &[u32], n: u8) -> State
         requires { ⌜ n ≤ 32 ⌝ }
-        ensures { λ r. ⌜ r ≡ start (now (inputs .entry)) n ⌝ }
+        ensures { λ r. ⌜ r ≡ initial (now (inputs .entry)) n ⌝ }
     {
         let count = n as usize;
         let mut values = [0u32; 32];
@@ -46,9 +46,9 @@ impl State {
     }
 
     // The state after an arm was taken at an if.
-    pub fn took(mut self, number: u8, arm: u8) -> State
+    pub fn with_arm(mut self, number: u8, arm: u8) -> State
         requires { ⌜ number < 32 ⌝ }
-        ensures { λ r. ⌜ r ≡ take self number arm ⌝ }
+        ensures { λ r. ⌜ r ≡ withArm self number arm ⌝ }
     {
         let i = number as usize;
         self.trail[i] = arm;

@@ -38,7 +38,7 @@ ghost use Rattle.bitvec.specs.Signed.{signed};
 ghost use Rattle.bitvec.specs.Relation.{relates};
 ghost use Rattle.routine_header.specs.Header.{width};
 ghost use Rattle.routine_command.specs.Command.{touches};
-ghost use Rattle.routine_faults.specs.Step.{oneIf, accesses};
+ghost use Rattle.routine_faults.specs.Step.{countsAfterIf, accesses};
 ghost use Rattle.routine_faults.specs.Inner.Sound.{Sound, SoundIf, Fine};
 ghost use Rattle.routine.specs.Decode.{IsRoutine, commandsIn};
 ghost use Rattle.routine.specs.Inner.Stands.{SomeArm, SomeIf};
@@ -108,7 +108,7 @@ fn arm_at(bytes: &[u8], h: Header, c: Condition, a: u32, b: u32) -> u8
     requires { ⌜ SoundIf (now bytes) h c × Fine (now bytes) h ⌝ }
     ensures { λ r. ⌜ r ≡ cond (relates (c .relation) (width (now (bytes .entry)) (c .s)) a b) 0 1 ⌝ }
 {
-    if relation::holds(c.relation, width_of(bytes, c.s), a, b) {
+    if relation::relates(c.relation, width_of(bytes, c.s), a, b) {
         0
     } else {
         1
@@ -188,7 +188,7 @@ impl State {
         at: usize,
         k: Counts,
     ) -> Way
-        requires { ⌜ SomeIf (now bytes) h depth at (oneIf k) × (k .ifs < 32) × SoundIf (now bytes) h c × Fine (now bytes) h × (isOver (self .outcome) ≡ false) ⌝ }
+        requires { ⌜ SomeIf (now bytes) h depth at (countsAfterIf k) × (k .ifs < 32) × SoundIf (now bytes) h c × Fine (now bytes) h × (isOver (self .outcome) ≡ false) ⌝ }
         ensures { λ r. ⌜ FollowsIf (now (bytes .entry)) (now (inputs .entry)) (now (decisions .entry)) goal h depth c (wayAt at k self Course.Passing) r ⌝ }
     {
         let inside = counts_after_if(k);
@@ -199,7 +199,7 @@ impl State {
             return way(at, k, self, Course::Astray(k.ifs));
         }
         if arm == 0 {
-            let first = self.took(k.ifs, 0);
+            let first = self.with_arm(k.ifs, 0);
             let r = first.follow_arm(
                 bytes,
                 inputs,
@@ -222,7 +222,7 @@ impl State {
         } else {
             let past = pass_arm(bytes, h, depth + 1, 0x0C, at + 4, inside);
             let between = past.counts;
-            let second = self.took(k.ifs, 1);
+            let second = self.with_arm(k.ifs, 1);
             second.follow_arm(
                 bytes,
                 inputs,
@@ -275,8 +275,18 @@ pub fn follow(routine: &[u8], inputs: &[u32], decisions: &[u8], goal: Goal, h: H
     ensures { λ r. ⌜ r .course ≡ courseTo (now (decisions .entry)) goal (runOf (now (routine .entry)) (now (inputs .entry)) h (commandsIn (now (routine .entry))) .events) ⌝ }
     ensures { λ r. ⌜ (settled (r .course) ≡ false → r .state ≡ runOf (now (routine .entry)) (now (inputs .entry)) h (commandsIn (now (routine .entry))) .state) ⌝ }
 {
-    let none = no_counts();
-    let begun = State::begin(inputs, given_of(h));
+    let nothing_yet = no_counts();
+    let begun = State::initial(inputs, given_of(h));
     let first = first_command(h);
-    begun.follow_arm(routine, inputs, decisions, goal, h, 0, 0x00, first, none)
+    begun.follow_arm(
+        routine,
+        inputs,
+        decisions,
+        goal,
+        h,
+        0,
+        0x00,
+        first,
+        nothing_yet,
+    )
 }

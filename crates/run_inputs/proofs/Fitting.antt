@@ -11,9 +11,9 @@ use lib.Dec.{ltb, eqb}
 use borrow.Author.Tests.{ltb-true}
 use Rattle.slices.specs.Bytes.{entry}
 use Rattle.routine_header.specs.Header.{width}
-use Rattle.routine_faults.specs.Step.{after}
+use Rattle.routine_faults.specs.Step.{countsAfter}
 use Rattle.routine_faults.specs.Inputs.{given, inputNumber, inputCount}
-use Rattle.routine.specs.Routine.{Arm, done, plain, fork, textOf}
+use Rattle.routine.specs.Routine.{Arm, done, plain, ifElse, textOf}
 use Rattle.routine.specs.Decode.{routine, decode, noCounts}
 use Rattle.routine.specs.Inner.Stands.{Stands}
 use Rattle.routine_header.specs.declared.Header.{Header}
@@ -80,13 +80,13 @@ module _ (bs ins : List ℕ) where
     abbrev pub Fit : Arm → Type 0
     Fit done = Unit {0}
     Fit (plain at c k rest) = FitSimple c k × Fit rest
-    Fit (fork at c k first second rest) = Fit first × Fit second × Fit rest
+    Fit (ifElse at c k first second rest) = Fit first × Fit second × Fit rest
 
     -- from the counts k on, the words for vs are accepted
     abbrev Good : Counts → List ℕ → Type 0
     Good k vs = firstGreat bs ins (inputNumber h k) vs ≡ Listed.Accepted
 
-    simple-fit : (c : Simple) (k : Counts) (vs : List ℕ) → Good k (readFirst (touches c) vs) → FitSimple c k × Good (after c k) vs
+    simple-fit : (c : Simple) (k : Counts) (vs : List ℕ) → Good k (readFirst (touches c) vs) → FitSimple c k × Good (countsAfter c k) vs
     simple-fit (Simple.Set d c) k vs e = (tt, e)
     simple-fit (Simple.Convert op d s) k vs e = (tt, e)
     simple-fit (Simple.Compute op d s t) k vs e = (tt, e)

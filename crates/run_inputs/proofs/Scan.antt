@@ -9,13 +9,13 @@ use lib.Dec.{ltb, eqb}
 use borrow.Author.Tests.{ne-eqb}
 use Rattle.slices.specs.Bytes.{entry, word}
 use Rattle.routine_header.specs.Header.{width, firstCommand, between}
-use Rattle.routine_command.specs.Command.{sizeOf, sizeBy, sizeOfSimple, commandBy, commandOf, commandAt, touches}
-use Rattle.routine_faults.specs.Step.{after}
+use Rattle.routine_command.specs.Command.{commandSize, sizeByOp, simpleSize, commandBy, commandOf, commandAt, touches}
+use Rattle.routine_faults.specs.Step.{countsAfter}
 use Rattle.routine_faults.specs.Inputs.{given, inputNumber, inputCount}
 use Rattle.routine.specs.Routine.{Arm, textOf}
 use Rattle.routine.specs.Decode.{routine, decode, commandsIn}
 use Rattle.routine.specs.Inner.Stands.{Stands}
-use Rattle.routine.specs.Inner.Known.{Counted}
+use Rattle.routine.specs.Inner.Known.{IsRoutineWith}
 use Rattle.routine_header.specs.declared.Header.{Header}
 use Rattle.routine_faults.specs.declared.Counts.{Counts}
 use Rattle.routine_command.specs.declared.Simple.{Simple}
@@ -31,7 +31,7 @@ use Rattle.run_inputs.proofs.Fitting.{reads-append}
 
 -- ---- a routine has as many reads as its counts say
 
-read-count : (c : Simple) (k : Counts) (vs : List ℕ) → after c k .reads + length vs ≡ k .reads + length (readFirst (touches c) vs)
+read-count : (c : Simple) (k : Counts) (vs : List ℕ) → countsAfter c k .reads + length vs ≡ k .reads + length (readFirst (touches c) vs)
 read-count (Simple.Set d x) k vs = refl
 read-count (Simple.Convert op d s) k vs = refl
 read-count (Simple.Compute op d s t) k vs = refl
@@ -95,16 +95,16 @@ pub record LeftOf (bs ins : List ℕ) (cs₀ : List Simple) (n₀ end at n : ℕ
 -- the command at `at` and what follows it
 record Onward (bs : List ℕ) (at : ℕ) (cs : List Simple) : Type 0 where
   pub rest : List Simple
-  pub text : Text bs (at + sizeBy (entry bs at)) rest
-  pub room : at + sizeBy (entry bs at) ≤ length bs
+  pub text : Text bs (at + sizeByOp (entry bs at)) rest
+  pub room : at + sizeByOp (entry bs at) ≤ length bs
   pub reads : readVariables cs ≡ readsOf (commandOf bs at) (readVariables rest)
 
 -- the size by the byte of a command that is there
-size-at : (bs : List ℕ) (at : ℕ) (r : Command) → commandOf bs at ≡ r → sizeOf r ≡ sizeBy (entry bs at)
-size-at bs at r e = ap sizeOf (sym e) ∙ size-by (entry bs at) (entry bs (at + 1)) (entry bs (at + 2)) (entry bs (at + 3)) (word bs (at + 2))
+size-at : (bs : List ℕ) (at : ℕ) (r : Command) → commandOf bs at ≡ r → commandSize r ≡ sizeByOp (entry bs at)
+size-at bs at r e = ap commandSize (sym e) ∙ size-by (entry bs at) (entry bs (at + 1)) (entry bs (at + 2)) (entry bs (at + 3)) (word bs (at + 2))
 
 module _ (bs : List ℕ) (at : ℕ) (rest : List Simple) where
-  found : (r : Command) → commandAt bs at ≡ r → (r ≡ Command.Missing → ⊥) → at + sizeOf r ≤ length bs → Text bs (at + sizeOf r) rest
+  found : (r : Command) → commandAt bs at ≡ r → (r ≡ Command.Missing → ⊥) → at + commandSize r ≤ length bs → Text bs (at + commandSize r) rest
       → (cs : List Simple) → readVariables cs ≡ readsOf r (readVariables rest) → Onward bs at cs
   found r e f l t cs q =
       let c = not-cut bs at r e f in
@@ -132,16 +132,16 @@ module _ (bs ins : List ℕ) (cs₀ : List Simple) (n₀ end at n : ℕ) (x : Le
     next : Onward bs at (x .commands)
     next = onward bs at (x .commands) (omega (arith, x .count)) (x .text)
 
-    pub scan-room : (at + sizeBy op ≤ length bs) × (0 < sizeBy op)
+    pub scan-room : (at + sizeByOp op ≤ length bs) × (0 < sizeByOp op)
     scan-room = (rw is (next .room), size-pos (commandBy op 0 0 0 0))
 
-    pub scan-past : (op ≡ 9 → ⊥) → LeftOf bs ins cs₀ n₀ end (at + sizeBy op) n
+    pub scan-past : (op ≡ 9 → ⊥) → LeftOf bs ins cs₀ n₀ end (at + sizeByOp op) n
     scan-past f =
         let e : readVariables (x .commands) ≡ readVariables (next .rest) =
         next .reads ∙ not-nine (entry bs at) (entry bs (at + 1)) (entry bs (at + 2)) (entry bs (at + 3)) (word bs (at + 2)) (readVariables (next .rest)) (λ q. f (is ∙ q)) in
         record {
           commands = next .rest;
-          text = subst (λ (o : ℕ). Text bs (at + sizeBy o) (next .rest)) (sym is) (next .text);
+          text = subst (λ (o : ℕ). Text bs (at + sizeByOp o) (next .rest)) (sym is) (next .text);
           same = ap (firstGreat bs ins n) (sym e) ∙ x .same;
           count = ap (λ (vs : List ℕ). n + length vs) (sym e) ∙ x .count;
         }
@@ -173,7 +173,7 @@ module _ (bs ins : List ℕ) (cs₀ : List Simple) (n₀ end at n : ℕ) (x : Le
 
 -- ---- the reads of a routine
 
-module _ (bs ins : List ℕ) (h : Header) (k : Counts) (c : Counted bs h k) where
+module _ (bs ins : List ℕ) (h : Header) (k : Counts) (c : IsRoutineWith bs h k) where
   pub commands-decoded : c .commands ≡ commandsIn bs
   commands-decoded = sym (commands-are bs h (c .commands) k (c .decodes))
 

@@ -1,5 +1,5 @@
 // Whether an input list is accepted: 9 and 10.
-use routine_command::commands::size_by;
+use routine_command::commands::size_by_op;
 use routine_faults::Counts;
 use routine_faults::steps::fits_width;
 use routine_faults::words::given_of;
@@ -17,7 +17,7 @@ ghost use Rattle.routine_header.specs.Header.{width};
 ghost use Rattle.routine_faults.specs.Inputs.{given};
 ghost use Rattle.routine.specs.Routine.{textOf};
 ghost use Rattle.routine.specs.Decode.{commandsIn};
-ghost use Rattle.routine.specs.Inner.Known.{Counted};
+ghost use Rattle.routine.specs.Inner.Known.{IsRoutineWith};
 ghost use Rattle.run_inputs.specs.Inputs.{variablesFrom, readVariables, firstGreat, listed};
 
 // What is said of an input list.
@@ -53,7 +53,7 @@ fn check_given(bytes: &[u8], inputs: &[u32], count: u8) -> Listed
 
 // The first read, in text order, whose word is too great. The bytes after the last read are not looked at.
 fn check_reads(bytes: &[u8], inputs: &[u32], h: Header, k: Counts) -> Listed
-    requires { ⌜ Counted (now bytes) h k ⌝ }
+    requires { ⌜ IsRoutineWith (now bytes) h k ⌝ }
     ensures { λ r. ⌜ r ≡ firstGreat (now (bytes .entry)) (now (inputs .entry)) (given h) (readVariables (textOf (commandsIn (now (bytes .entry))))) ⌝ }
 {
     let end = input_count(h, k);
@@ -68,7 +68,7 @@ fn check_reads(bytes: &[u8], inputs: &[u32], h: Header, k: Counts) -> Listed
             at += 4;
             n += 1;
         } else {
-            at += size_by(op);
+            at += size_by_op(op);
         }
     }
     Listed::Accepted
@@ -76,7 +76,7 @@ fn check_reads(bytes: &[u8], inputs: &[u32], h: Header, k: Counts) -> Listed
 
 // 9 and 10: one word for each parameter and each read, and none too great.
 pub fn check_inputs(bytes: &[u8], inputs: &[u32], h: Header, k: Counts) -> Listed
-    requires { ⌜ Counted (now bytes) h k ⌝ }
+    requires { ⌜ IsRoutineWith (now bytes) h k ⌝ }
     ensures { λ r. ⌜ r ≡ listed (now (bytes .entry)) (now (inputs .entry)) h (commandsIn (now (bytes .entry))) k ⌝ }
 {
     if inputs.len() != input_count(h, k) {

@@ -15,18 +15,18 @@ use Rattle.routine_faults.specs.Inputs.{given}
 use Rattle.routine.proofs.Accepted.{decoded}
 use Rattle.routine_faults.proofs.Fine.{fine}
 use Rattle.cnf.specs.Clause.{Clause}
-use Rattle.cnf.specs.Inner.Append.{Appended, Room}
+use Rattle.cnf.specs.Inner.Append.{Appended, CountRoom}
 use Rattle.cnf.specs.declared.Store.{Store}
 use Rattle.cnf.proofs.Appending.{appended-then}
 use Rattle.netlist.specs.declared.Node.the-variants.{One}
-use Rattle.netlist.specs.Node.{clausesOf}
+use Rattle.netlist.specs.Node.{netlistClauses}
 use Rattle.netlist.specs.Inner.Emit.{Emitted, Ready}
 use Rattle.netlist.specs.declared.Net.{Net}
 use Rattle.netlist.proofs.Emitting.{emitted-then, ready-after, ready-clauses}
-use Rattle.translation_command.specs.Command.{Stretch, after}
-use Rattle.translation_meaning.specs.Walk.{armOf}
-use Rattle.translation_meaning.specs.Translation.{parameterNodes, start, whole, lastClauses, clausesOfAll, sizeOf}
-use Rattle.translation_walk.specs.Inner.Walker.{wiresAt, beginning, Arrives, Roomy, ArmMade, ArmRoom, Begun, WholeMade, noStore}
+use Rattle.translation_command.specs.Command.{Encoding, nodesThen}
+use Rattle.translation_meaning.specs.Walk.{encodeArm}
+use Rattle.translation_meaning.specs.Translation.{parameterNodes, initialWires, translationOf, lastClauses, clausesOfAll, translationSize}
+use Rattle.translation_walk.specs.Inner.Walker.{wiresAt, beginning, WalksTo, Roomy, ArmEncoded, ArmReady, Begun, ClaimEncoded, noStore}
 use Rattle.translation_meaning.specs.declared.Size.{Size}
 use Rattle.lead.specs.declared.Target.{Target}
 use Rattle.translation_walk.specs.declared.Walk.{Walk}
@@ -56,22 +56,22 @@ module _ {bs : List ℕ} {h : Header} (i : IsRoutine bs h) {w u w₁ u₁ : List
     few-here : n .next ≤ 2048
     few-here = omega (arith, from, parameters-few bs h (fine-here bs h i))
 
-    room-for : (t : Target) (ds : List ℕ) (at : ℕ) (a : Arm) (k : Counts) → decode bs ≡ routine h a k → Roomy n (armOf bs h t ds a (n .next) (wiresAt l (beginning at n)))
+    room-for : (t : Target) (ds : List ℕ) (at : ℕ) (a : Arm) (k : Counts) → decode bs ≡ routine h a k → Roomy n (encodeArm bs h t ds a (n .next) (wiresAt l (beginning at n)))
     room-for t ds at a k d = roomy bs t ds h a k d n (ready-here .words) (ready-here .clauses) few-here (n .next) (wiresAt l (beginning at n))
 
     module _ {t : Target} {ds : List ℕ} where
-      pub whole-roomy : {at : ℕ} → at ≡ firstCommand h → ArmRoom bs h t ds 0 0 l (beginning at n)
+      pub whole-roomy : {at : ℕ} → at ≡ firstCommand h → ArmReady bs h t ds 0 0 l (beginning at n)
       whole-roomy {at} e = record {
         some = record { arm = i .commands; end = length bs; after = i .counts; stands = rw e (decoded bs h (i .commands) (i .counts) (i .decodes) .stands) };
         room = room-for t ds at (i .commands) (i .counts) (i .decodes);
         places = ap length (b .lits) ∙ parameters-length bs (given h);
       }
 
-      module _ {w₂ u₂ l₂ : List ℕ} {at : ℕ} (e : at ≡ firstCommand h) {r : Walk} (x : ArmMade bs h t ds 0 0 w₁ u₁ l (beginning at n) w₂ u₂ l₂ r) where
-        arrives : (a : Arm) (k : Counts) → decode bs ≡ routine h a k → Arrives w₁ u₁ n (armOf bs h t ds a (n .next) (wiresAt l (beginning at n))) (length bs) k w₂ u₂ l₂ r
+      module _ {w₂ u₂ l₂ : List ℕ} {at : ℕ} (e : at ≡ firstCommand h) {r : Walk} (x : ArmEncoded bs h t ds 0 0 w₁ u₁ l (beginning at n) w₂ u₂ l₂ r) where
+        arrives : (a : Arm) (k : Counts) → decode bs ≡ routine h a k → WalksTo w₁ u₁ n (encodeArm bs h t ds a (n .next) (wiresAt l (beginning at n))) (length bs) k w₂ u₂ l₂ r
         arrives a k d = x .tells a (length bs) k (rw e (decoded bs h a k d .stands))
 
-        pub claim-room : Room (r .net .store) 2 4
+        pub claim-room : CountRoom (r .net .store) 2 4
         claim-room =
             let q = arrives (i .commands) (i .counts) (i .decodes) in
             ready-clauses 1 (ready-after 1 (q .emitted) (room-for t ds at (i .commands) (i .counts) (i .decodes)) (omega arith)) (omega arith) (omega arith)
@@ -81,36 +81,36 @@ module _ {bs : List ℕ} {h : Header} (i : IsRoutine bs h) {w u w₁ u₁ : List
 
         module _ {w₃ u₃ : List ℕ} {all : Store} (c : Appended w₂ u₂ (r .net .store) (lastClauses (r .reach .claim)) w₃ u₃ all) where
           module _ (a : Arm) (k : Counts) (d : decode bs ≡ routine h a k) where
-            X : Stretch
-            X = whole bs t ds h a
+            X : Encoding
+            X = translationOf bs t ds h a
 
-            Y : Stretch
-            Y = armOf bs h t ds a (2 + length (parameterNodes bs (given h))) (start bs (given h))
+            Y : Encoding
+            Y = encodeArm bs h t ds a (2 + length (parameterNodes bs (given h))) (initialWires bs (given h))
 
-            arm-is : armOf bs h t ds a (n .next) (wiresAt l (beginning at n)) ≡ Y
-            unfolding Y start
-            arm-is = λ j. armOf bs h t ds a (from j) (record { lits = b .lits j; arrival = 2; claim = Claim.Open })
+            arm-is : encodeArm bs h t ds a (n .next) (wiresAt l (beginning at n)) ≡ Y
+            unfolding Y initialWires
+            arm-is = λ j. encodeArm bs h t ds a (from j) (record { lits = b .lits j; arrival = 2; claim = Claim.Open })
 
-            arm-there : Arrives w₁ u₁ n Y (length bs) k w₂ u₂ l₂ r
-            arm-there = subst (λ (z : Stretch). Arrives w₁ u₁ n z (length bs) k w₂ u₂ l₂ r) arm-is (arrives a k d)
+            arm-there : WalksTo w₁ u₁ n Y (length bs) k w₂ u₂ l₂ r
+            arm-there = subst (λ (z : Encoding). WalksTo w₁ u₁ n z (length bs) k w₂ u₂ l₂ r) arm-is (arrives a k d)
 
             nodes-made : Emitted w u empty (One ∷ (parameterNodes bs (given h) ++ Y .nodes)) w₂ u₂ (r .net)
             nodes-made = emitted-then p (emitted-then (b .emitted w₁ u₁) (arm-there .emitted))
 
             all-made : Appended w u noStore (clausesOfAll X) w₃ u₃ all
-            unfolding clausesOfAll whole X Y
+            unfolding clausesOfAll translationOf X Y
             all-made =
-                subst (λ (cs : List Clause). Appended w u noStore (clausesOf 1 (One ∷ (parameterNodes bs (given h) ++ Y .nodes)) ++ cs) w₃ u₃ all)
+                subst (λ (cs : List Clause). Appended w u noStore (netlistClauses 1 (One ∷ (parameterNodes bs (given h) ++ Y .nodes)) ++ cs) w₃ u₃ all)
                 (ap lastClauses (arm-there .claim))
                 (appended-then (nodes-made .store) c)
 
-            size-is : _≡_ {A = Size} (record { clauses = all .clauses; words = all .words; variables = r .net .next - 1 }) (sizeOf X)
-            unfolding whole X Y
+            size-is : _≡_ {A = Size} (record { clauses = all .clauses; words = all .words; variables = r .net .next - 1 }) (translationSize X)
+            unfolding translationOf X Y
             size-is =
-                let v : r .net .next - 1 ≡ length (whole bs t ds h a .nodes) = omega (arith, nodes-made .next) in
+                let v : r .net .next - 1 ≡ length (translationOf bs t ds h a .nodes) = omega (arith, nodes-made .next) in
                 λ j. record { clauses = (all-made .count ∙ zero-add _) j; words = (all-made .used ∙ zero-add _) j; variables = v j }
 
-          pub whole-made : WholeMade bs h t ds w u w₃ u₃ (record { clauses = all .clauses; words = all .words; variables = r .net .next - 1 })
+          pub whole-made : ClaimEncoded bs h t ds w u w₃ u₃ (record { clauses = all .clauses; words = all .words; variables = r .net .next - 1 })
           unfolding X
           whole-made = record {
             size = λ a k d. size-is a k d;

@@ -12,8 +12,8 @@ use Rattle.routine_header.specs.declared.Header.{Header}
 use Rattle.routine_faults.specs.declared.Counts.{Counts}
 use Rattle.cnf.specs.Clause.{flatten, offsets}
 use Rattle.cnf.proofs.Appending.{length-offsets}
-use Rattle.translation_meaning.specs.Translation.{whole, clausesOfAll, sizeOf}
-use Rattle.translation_walk.specs.Inner.Walker.{WholeMade}
+use Rattle.translation_meaning.specs.Translation.{translationOf, clausesOfAll, translationSize}
+use Rattle.translation_walk.specs.Inner.Walker.{ClaimEncoded}
 use Rattle.slices.specs.Lent.{usable}
 use Rattle.slices.specs.declared.Buffer.{Buffer}
 use Rattle.translation.specs.Inner.Fitted.{Fitted}
@@ -37,27 +37,27 @@ sets-part vs l k h q =
 
 -- ---- the three answers
 
-module _ (bs : List ℕ) (h : Header) (t : Target) (ds words starts : List ℕ) (v z v₁ z₁ : List ℕ) (need : Size) (n : WholeMade bs h t ds v z v₁ z₁ need) (w c : ℕ)
+module _ (bs : List ℕ) (h : Header) (t : Target) (ds words starts : List ℕ) (v z v₁ z₁ : List ℕ) (need : Size) (n : ClaimEncoded bs h t ds v z v₁ z₁ need) (w c : ℕ)
     (ew : w ≡ usable words) (ec : c ≡ usable starts) where
   -- the counts over empty slices are the counts
-  words-are : (a : Arm) (k : Counts) → decode bs ≡ routine h a k → need .words ≡ sizeOf (whole bs t ds h a) .words
+  words-are : (a : Arm) (k : Counts) → decode bs ≡ routine h a k → need .words ≡ translationSize (translationOf bs t ds h a) .words
   words-are a k d = ap (λ (s : Size). s .words) (n .size a k d)
 
-  clauses-are : (a : Arm) (k : Counts) → decode bs ≡ routine h a k → need .clauses ≡ sizeOf (whole bs t ds h a) .clauses
+  clauses-are : (a : Arm) (k : Counts) → decode bs ≡ routine h a k → need .clauses ≡ translationSize (translationOf bs t ds h a) .clauses
   clauses-are a k d = ap (λ (s : Size). s .clauses) (n .size a k d)
 
   pub words-short : w < need .words → Fitted bs h t ds words starts words starts (Translated.Refused (Refusal.TooSmall Buffer.Words))
-  words-short l = record { tells = λ a k d. rw (lt-leb (sizeOf (whole bs t ds h a) .words) (usable words) (omega (arith, words-are a k d))) }
+  words-short l = record { tells = λ a k d. rw (lt-leb (translationSize (translationOf bs t ds h a) .words) (usable words) (omega (arith, words-are a k d))) }
 
   pub starts-short : need .words ≤ w → c < need .clauses → Fitted bs h t ds words starts words starts (Translated.Refused (Refusal.TooSmall Buffer.Starts))
-  starts-short l q = record { tells = λ a k d. rw (le-leb (sizeOf (whole bs t ds h a) .words) (usable words) (omega (arith, words-are a k d)), lt-leb (sizeOf (whole bs t ds h a) .clauses) (usable starts) (omega (arith, clauses-are a k d))) }
+  starts-short l q = record { tells = λ a k d. rw (le-leb (translationSize (translationOf bs t ds h a) .words) (usable words) (omega (arith, words-are a k d)), lt-leb (translationSize (translationOf bs t ds h a) .clauses) (usable starts) (omega (arith, clauses-are a k d))) }
 
   module _ (l : need .words ≤ w) (q : need .clauses ≤ c) (words₁ starts₁ : List ℕ) (made : Size)
-      (m : WholeMade bs h t ds (take w words) (take c starts) words₁ starts₁ made) where
+      (m : ClaimEncoded bs h t ds (take w words) (take c starts) words₁ starts₁ made) where
     pub both-fit : Fitted bs h t ds words starts (words₁ ++ drop w words) (starts₁ ++ drop c starts) (Translated.Made made)
     both-fit = record {
       tells = λ a k d.
-          let x = whole bs t ds h a in
+          let x = translationOf bs t ds h a in
           let lw : length (flatten (clausesOfAll x)) ≤ w = omega (arith, words-are a k d) in
           let lc : length (offsets 0 (clausesOfAll x)) ≤ c = rw (length-offsets 0 (clausesOfAll x)) (omega (arith, clauses-are a k d)) in
           let p = m .written a k d (record { words = rw (length-take-le w words (omega arith)) (omega (arith, lw)); starts = rw (length-take-le c starts (omega arith)) (omega (arith, clauses-are a k d)) }) in
@@ -65,6 +65,6 @@ module _ (bs : List ℕ) (h : Header) (t : Target) (ds words starts : List ℕ) 
           ap (λ (y : List ℕ). y ++ drop w words) (p .words) ∙ sets-part (flatten (clausesOfAll x)) words w (omega arith) lw in
           let ss : starts₁ ++ drop c starts ≡ sets starts 0 (offsets 0 (clausesOfAll x)) =
           ap (λ (y : List ℕ). y ++ drop c starts) (p .starts) ∙ sets-part (offsets 0 (clausesOfAll x)) starts c (omega arith) lc in
-          rw (le-leb (sizeOf (whole bs t ds h a) .words) (usable words) (omega (arith, words-are a k d)), le-leb (sizeOf (whole bs t ds h a) .clauses) (usable starts) (omega (arith, clauses-are a k d)))
+          rw (le-leb (translationSize (translationOf bs t ds h a) .words) (usable words) (omega (arith, words-are a k d)), le-leb (translationSize (translationOf bs t ds h a) .clauses) (usable starts) (omega (arith, clauses-are a k d)))
           (λ j. record { translated = Translated.Made (m .size a k d j); words = ww j; starts = ss j });
     }

@@ -8,37 +8,37 @@ use lib.Dec.{leb}
 use Rattle.slices.specs.Lent.{usable}
 use Rattle.slices.specs.declared.Buffer.{Buffer}
 use Rattle.cnf.specs.Clause.{flatten, offsets}
-use Rattle.lead.specs.Lead.{Admission, refused, translates, admission}
+use Rattle.lead.specs.Lead.{ClaimAdmission, refused, translates, claimAdmission}
 use Rattle.lead.specs.declared.Target.{Target}
-use Rattle.translation_command.specs.Command.{Stretch}
-use Rattle.translation_meaning.specs.Translation.{whole, clausesOfAll, sizeOf}
+use Rattle.translation_command.specs.Command.{Encoding}
+use Rattle.translation_meaning.specs.Translation.{translationOf, clausesOfAll, translationSize}
 use Rattle.translation.specs.declared.Refusal.{Refusal}
 use Rattle.translation.specs.declared.Translated.{Translated}
 
 -- the answer, and both buffers
-pub record Answer : Type 0 where
+pub record TranslationAnswer : Type 0 where
   pub translated : Translated
   pub words : List ℕ
   pub starts : List ℕ
 
 -- 16: words, then starts; what was too small leaves both as they were
-abbrev pub fitted : (words starts : List ℕ) → Stretch → Answer
+abbrev pub fitted : (words starts : List ℕ) → Encoding → TranslationAnswer
 fitted words starts x =
-    cond (leb (sizeOf x .words) (usable words))
-    (cond (leb (sizeOf x .clauses) (usable starts))
-    (record { translated = Translated.Made (sizeOf x); words = sets words 0 (flatten (clausesOfAll x)); starts = sets starts 0 (offsets 0 (clausesOfAll x)) })
+    cond (leb (translationSize x .words) (usable words))
+    (cond (leb (translationSize x .clauses) (usable starts))
+    (record { translated = Translated.Made (translationSize x); words = sets words 0 (flatten (clausesOfAll x)); starts = sets starts 0 (offsets 0 (clausesOfAll x)) })
     (record { translated = Translated.Refused (Refusal.TooSmall Buffer.Starts); words = words; starts = starts }))
     (record { translated = Translated.Refused (Refusal.TooSmall Buffer.Words); words = words; starts = starts })
 
 -- a refusal leaves both buffers unchanged
-abbrev pub answerBy : (bs : List ℕ) → Target → (ds words starts : List ℕ) → Admission → Answer
-answerBy bs t ds words starts (refused refusal) = record { translated = Translated.Refused (Refusal.Lead refusal); words = words; starts = starts }
-answerBy bs t ds words starts (translates h a k) = fitted words starts (whole bs t ds h a)
+abbrev pub translationAnswerBy : (bs : List ℕ) → Target → (ds words starts : List ℕ) → ClaimAdmission → TranslationAnswer
+translationAnswerBy bs t ds words starts (refused refusal) = record { translated = Translated.Refused (Refusal.Lead refusal); words = words; starts = starts }
+translationAnswerBy bs t ds words starts (translates h a k) = fitted words starts (translationOf bs t ds h a)
 
 -- what `translate` answers
-unfoldable pub answer : (bs : List ℕ) → Target → (ds words starts : List ℕ) → Answer
-answer bs t ds words starts = answerBy bs t ds words starts (admission bs t ds)
+unfoldable pub translationAnswer : (bs : List ℕ) → Target → (ds words starts : List ℕ) → TranslationAnswer
+translationAnswer bs t ds words starts = translationAnswerBy bs t ds words starts (claimAdmission bs t ds)
 
 -- the answer is r, and the buffers became words₁ and starts₁
-pub record Answers (bs : List ℕ) (t : Target) (ds words starts words₁ starts₁ : List ℕ) (r : Translated) : Type 0 where
-  pub equal : _≡_ {A = Answer} (record { translated = r; words = words₁; starts = starts₁ }) (answer bs t ds words starts)
+pub record TranslationAnswers (bs : List ℕ) (t : Target) (ds words starts words₁ starts₁ : List ℕ) (r : Translated) : Type 0 where
+  pub equal : _≡_ {A = TranslationAnswer} (record { translated = r; words = words₁; starts = starts₁ }) (translationAnswer bs t ds words starts)

@@ -1,14 +1,14 @@
 // The translation of a claim into clauses.
-pub mod wholes;
+pub mod fitting;
 
-use lead::Admitted;
+use lead::AdmittedClaim;
 use lead::Target;
 use lead::admit;
 use slices::Buffer;
 use translation_meaning::Size;
 ghost use Rattle.lead.specs.Lead.{targetOf};
 ghost use Rattle.translation_meaning.specs.Faithful.{Demand2};
-ghost use Rattle.translation.specs.Answer.{Answers};
+ghost use Rattle.translation.specs.Answer.{TranslationAnswers};
 
 // Why there is no translation.
 pub enum Refusal {
@@ -32,12 +32,12 @@ pub fn translate(
     words: &mut [u32],
     starts: &mut [u32],
 ) -> Translated
-    ensures { λ r. ⌜ Answers (now (routine .entry)) (targetOf access side) (now (decisions .entry)) (now (words .entry)) (now (starts .entry)) (now (words .exit)) (now (starts .exit)) r ⌝ }
+    ensures { λ r. ⌜ TranslationAnswers (now (routine .entry)) (targetOf access side) (now (decisions .entry)) (now (words .entry)) (now (starts .entry)) (now (words .exit)) (now (starts .exit)) r ⌝ }
     ensures { λ r. ⌜ Demand2 (now (routine .entry)) (targetOf access side) (now (decisions .entry)) ⌝ }
 {
     let t = Target { access, side };
     match admit(routine, t, decisions) {
-        Admitted::Refused(refusal) => Translated::Refused(Refusal::Lead(refusal)),
-        Admitted::Translates(h) => wholes::fit(routine, h, t, decisions, words, starts),
+        AdmittedClaim::Refused(refusal) => Translated::Refused(Refusal::Lead(refusal)),
+        AdmittedClaim::Translates(h) => fitting::fit(routine, h, t, decisions, words, starts),
     }
 }

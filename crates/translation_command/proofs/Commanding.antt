@@ -24,27 +24,27 @@ use Rattle.arithmetic.specs.Circuit.{Number}
 use Rattle.arithmetic.specs.Inner.Made as made
 use Rattle.arithmetic.specs.declared.Bundle.{Bundle}
 use Rattle.translation_access.proofs.Gates.{claim-short, passing-short}
-use Rattle.translation_state.specs.Wires.{Wires, bitsIn, bitsPut, bitsOf, put, arriving, claiming, isMade}
+use Rattle.translation_state.specs.Wires.{Wires, bitsIn, bitsSet, bitsOf, withBits, arriving, claiming, isMade}
 use Rattle.translation_state.specs.Inner.Reach.{wiresOf}
-use Rattle.translation_command.specs.Command.{Stretch, after, still, claimed, passed, readInto, simple}
+use Rattle.translation_command.specs.Command.{Encoding, nodesThen, still, claimed, passed, readInto, simple}
 use Rattle.translation_access.specs.Index.{claim, passing}
-use Rattle.translation_command.specs.Inner.Makes.{accessOf, Makes}
+use Rattle.translation_command.specs.Inner.Encodes.{accessOf, Encodes}
 use Rattle.lead.specs.declared.Target.{Target}
-use Rattle.translation_command.specs.declared.Made.{Made}
+use Rattle.translation_command.specs.declared.Encoded.{Encoded}
 use Rattle.routine_faults.proofs.Tests.{not-both}
 
 module _ (bs : List ℕ) (h : Header) (t : Target) (g array i : ℕ) (k : Counts) (s : Wires) (a : Bits) (size w : ℕ) (p : a ≡ bitsOf bs s i) (q : size ≡ arraySize bs h array)
     (e : w ≡ width bs i) where
   -- the named access, from the bits of its index, its width and its size
   pub claim-at : accesses k ≡ t .access
-      → _≡_ {A = Stretch} (record { nodes = claim (t .side) g a size w .nodes; wires = claiming s (claim (t .side) g a size w .lit) }) (accessOf bs h t g array i k s)
+      → _≡_ {A = Encoding} (record { nodes = claim (t .side) g a size w .nodes; wires = claiming s (claim (t .side) g a size w .lit) }) (accessOf bs h t g array i k s)
   claim-at f =
       rw (eq-eqb _ _ f)
       (λ j. record { nodes = claim (t .side) g (p j) (q j) (e j) .nodes; wires = claiming s (claim (t .side) g (p j) (q j) (e j) .lit) })
 
   -- another access
   pub pass-at : (accesses k ≡ t .access → ⊥)
-      → _≡_ {A = Stretch} (record { nodes = passing g a size w (s .arrival) .nodes; wires = arriving s (passing g a size w (s .arrival) .lit) }) (accessOf bs h t g array i k s)
+      → _≡_ {A = Encoding} (record { nodes = passing g a size w (s .arrival) .nodes; wires = arriving s (passing g a size w (s .arrival) .lit) }) (accessOf bs h t g array i k s)
   pass-at f =
       rw (ne-eqb _ _ f)
       (λ j. record { nodes = passing g (p j) (q j) (e j) (s .arrival) .nodes; wires = arriving s (passing g (p j) (q j) (e j) (s .arrival) .lit) })
@@ -63,12 +63,12 @@ module _ (bs : List ℕ) (h : Header) (t : Target) (g array i : ℕ) (k : Counts
   unfolding simple
   write-is a = pick (eqb (accesses k) (t .access))
     where
-      x : Stretch
+      x : Encoding
       x = passed bs h g array i s
 
       pick : (b : Bool)
           → cond b (claimed bs h t g array i s) (passed bs h g array i s)
-          ≡ cond b (claimed bs h t g array i s) (after (passed bs h g array i s .nodes) (still (passed bs h g array i s .wires)))
+          ≡ cond b (claimed bs h t g array i s) (nodesThen (passed bs h g array i s .nodes) (still (passed bs h g array i s .wires)))
       pick true = refl
       pick false = λ j. record { nodes = sym (append-nil (passed bs h g array i s .nodes)) j; wires = passed bs h g array i s .wires }
 
@@ -81,38 +81,38 @@ module _ (bs : List ℕ) (h : Header) (t : Target) (g array i : ℕ) (k : Counts
       pick : (b : Bool) → isMade (cond b (claimed bs h t g array i s) (passed bs h g array i s) .wires .claim) ≡ true
           → cond b (claimed bs h t g array i s) (passed bs h g array i s)
           ≡ cond b (claimed bs h t g array i s)
-          (after (passed bs h g array i s .nodes) (readInto bs h d k (g + length (passed bs h g array i s .nodes)) (passed bs h g array i s .wires)))
+          (nodesThen (passed bs h g array i s .nodes) (readInto bs h d k (g + length (passed bs h g array i s .nodes)) (passed bs h g array i s .wires)))
       pick true e = refl
       pick false e = let z = not-both (isMade (s .claim)) e o in absurd z
 
   -- another read goes on after its access
   pub read-goes : (d : ℕ) → isMade (accessOf bs h t g array i k s .wires .claim) ≡ false
-      → after (accessOf bs h t g array i k s .nodes)
+      → nodesThen (accessOf bs h t g array i k s .nodes)
       (readInto bs h d k (g + length (accessOf bs h t g array i k s .nodes)) (accessOf bs h t g array i k s .wires))
       ≡ simple bs h t g (Simple.Read d array i) k s
   unfolding simple
   read-goes d = pick (eqb (accesses k) (t .access))
     where
       pick : (b : Bool) → isMade (cond b (claimed bs h t g array i s) (passed bs h g array i s) .wires .claim) ≡ false
-          → after (cond b (claimed bs h t g array i s) (passed bs h g array i s) .nodes)
+          → nodesThen (cond b (claimed bs h t g array i s) (passed bs h g array i s) .nodes)
           (readInto bs h d k (g + length (cond b (claimed bs h t g array i s) (passed bs h g array i s) .nodes)) (cond b (claimed bs h t g array i s) (passed bs h g array i s) .wires))
           ≡ cond b (claimed bs h t g array i s)
-          (after (passed bs h g array i s .nodes) (readInto bs h d k (g + length (passed bs h g array i s .nodes)) (passed bs h g array i s .wires)))
+          (nodesThen (passed bs h g array i s .nodes) (readInto bs h d k (g + length (passed bs h g array i s .nodes)) (passed bs h g array i s .wires)))
       pick true e = let z : _≡_ {A = Bool} true false = e in absurd (not-both true refl z)
       pick false e = refl
 
--- the same buffers by an equal stretch
-pub makes-as : {w u w₁ u₁ l₁ : List ℕ} {n : Net} {x y : Stretch} {r : Made} → x ≡ y → Makes w u n x w₁ u₁ l₁ r → Makes w u n y w₁ u₁ l₁ r
-makes-as {w} {u} {w₁} {u₁} {l₁} {n} {x} {y} {r} e m = subst (λ (z : Stretch). Makes w u n z w₁ u₁ l₁ r) e m
+-- the same buffers by an equal encoding
+pub makes-as : {w u w₁ u₁ l₁ : List ℕ} {n : Net} {x y : Encoding} {r : Encoded} → x ≡ y → Encodes w u n x w₁ u₁ l₁ r → Encodes w u n y w₁ u₁ l₁ r
+makes-as {w} {u} {w₁} {u₁} {l₁} {n} {x} {y} {r} e m = subst (λ (z : Encoding). Encodes w u n z w₁ u₁ l₁ r) e m
 
 -- an access, and then the bits of a read
-pub read-makes : {w u w₁ u₁ l₁ : List ℕ} {n : Net} {x : Stretch} {m : Made} (bs : List ℕ) (h : Header) (d : ℕ) (k : Counts)
-    → Makes w u n x w₁ u₁ l₁ m → (wd : ℕ) → wd ≡ width bs d → (n₁ : Net) → TakesInputs (m .net) wd n₁
-    → (l₂ : List ℕ) → l₂ ≡ bitsPut bs l₁ d (inBit (m .net .next))
-    → Makes w u n (after (x .nodes) (readInto bs h d k (n .next + length (x .nodes)) (x .wires))) w₁ u₁ l₂ (record { net = n₁; reach = m .reach })
+pub read-makes : {w u w₁ u₁ l₁ : List ℕ} {n : Net} {x : Encoding} {m : Encoded} (bs : List ℕ) (h : Header) (d : ℕ) (k : Counts)
+    → Encodes w u n x w₁ u₁ l₁ m → (wd : ℕ) → wd ≡ width bs d → (n₁ : Net) → TakesInputs (m .net) wd n₁
+    → (l₂ : List ℕ) → l₂ ≡ bitsSet bs l₁ d (inBit (m .net .next))
+    → Encodes w u n (nodesThen (x .nodes) (readInto bs h d k (n .next + length (x .nodes)) (x .wires))) w₁ u₁ l₂ (record { net = n₁; reach = m .reach })
 read-makes {w₁ = w₁} {u₁ = u₁} {n = n} {x = x} {m} bs h d k p wd e n₁ q l₂ z = record {
   emitted = emitted-then (p .emitted) (rw e at (q .tells w₁ u₁ (inputNumber h k)));
-  wires = ap (λ (l : List ℕ). wiresOf l (m .reach)) z ∙ (λ j. put bs (p .wires j) d (inBit (p .emitted .next j)));
+  wires = ap (λ (l : List ℕ). wiresOf l (m .reach)) z ∙ (λ j. withBits bs (p .wires j) d (inBit (p .emitted .next j)));
 }
 
 -- 4 w w variables are enough for a multiplication

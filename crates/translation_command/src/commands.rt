@@ -1,5 +1,5 @@
 // Commands that are no if.
-use crate::Made;
+use crate::Encoded;
 use crate::operations::compute;
 use crate::operations::convert;
 use arithmetic::constants::const_bits;
@@ -29,19 +29,19 @@ ghost use lib.ListN.{length};
 ghost use Rattle.routine_faults.specs.Inner.Sound.{Sound, Fine};
 ghost use Rattle.netlist.specs.Inner.Emit.{Emitted, Ready};
 ghost use Rattle.arithmetic.specs.Extend.{constBit};
-ghost use Rattle.translation_state.specs.Wires.{allPlaces, bitsIn, bitsPut, isMade};
+ghost use Rattle.translation_state.specs.Wires.{allPlaces, bitsIn, bitsSet, isMade};
 ghost use Rattle.translation_state.specs.Inner.Reach.{wiresOf};
 ghost use Rattle.translation_command.specs.Operation.{conversion, computation};
 ghost use Rattle.translation_command.specs.Command.{simple};
-ghost use Rattle.translation_command.specs.Inner.Makes.{accessOf, Makes};
+ghost use Rattle.translation_command.specs.Inner.Encodes.{accessOf, Encodes};
 ghost use Rattle.routine_header.specs.Header.{width};
 ghost use Rattle.routine_command.specs.declared.Simple.{Simple};
 
 // d := c.
-fn set_made(lits: &mut [u32], bytes: &[u8], h: Header, d: u8, c: u32)
+fn encode_set(lits: &mut [u32], bytes: &[u8], h: Header, d: u8, c: u32)
     requires { ⌜ length (now lits) ≡ allPlaces ⌝ }
     requires { ⌜ Sound (now bytes) h (Simple.Set d c) × Fine (now bytes) h ⌝ }
-    ensures { λ _. ⌜ now (lits .exit) ≡ bitsPut (now (bytes .entry)) (now (lits .entry)) d (constBit c) ⌝ }
+    ensures { λ _. ⌜ now (lits .exit) ≡ bitsSet (now (bytes .entry)) (now (lits .entry)) d (constBit c) ⌝ }
 {
     let w = width_of(bytes, d) as usize;
     let bits = const_bits(c);
@@ -49,10 +49,10 @@ fn set_made(lits: &mut [u32], bytes: &[u8], h: Header, d: u8, c: u32)
 }
 
 // Copy, cut, and the extensions.
-fn convert_made(lits: &mut [u32], bytes: &[u8], h: Header, op: u8, d: u8, a: u8)
+fn encode_convert(lits: &mut [u32], bytes: &[u8], h: Header, op: u8, d: u8, a: u8)
     requires { ⌜ length (now lits) ≡ allPlaces ⌝ }
     requires { ⌜ Sound (now bytes) h (Simple.Convert op d a) × Fine (now bytes) h ⌝ }
-    ensures { λ _. ⌜ now (lits .exit) ≡ bitsPut (now (bytes .entry)) (now (lits .entry)) d (conversion op (bitsIn (now (bytes .entry)) (now (lits .entry)) a) (width (now (bytes .entry)) a)) ⌝ }
+    ensures { λ _. ⌜ now (lits .exit) ≡ bitsSet (now (bytes .entry)) (now (lits .entry)) d (conversion op (bitsIn (now (bytes .entry)) (now (lits .entry)) a) (width (now (bytes .entry)) a)) ⌝ }
 {
     let from = place_of(a);
     let to = from + width_of(bytes, a) as usize;
@@ -62,7 +62,7 @@ fn convert_made(lits: &mut [u32], bytes: &[u8], h: Header, op: u8, d: u8, a: u8)
 }
 
 // Add, subtract, multiply.
-fn compute_made(
+fn encode_compute(
     words: &mut [u32],
     starts: &mut [u32],
     lits: &mut [u32],
@@ -78,7 +78,7 @@ fn compute_made(
     requires { ⌜ length (now lits) ≡ allPlaces ⌝ }
     requires { ⌜ Sound (now bytes) h (Simple.Compute op d a b) × Fine (now bytes) h ⌝ }
     ensures { λ r. ⌜ Emitted (now (words .entry)) (now (starts .entry)) n (computation op (n .next) (bitsIn (now (bytes .entry)) (now (lits .entry)) a) (bitsIn (now (bytes .entry)) (now (lits .entry)) b) (width (now (bytes .entry)) d) .nodes) (now (words .exit)) (now (starts .exit)) r ⌝ }
-    ensures { λ _. ⌜ now (lits .exit) ≡ bitsPut (now (bytes .entry)) (now (lits .entry)) d (computation op (n .next) (bitsIn (now (bytes .entry)) (now (lits .entry)) a) (bitsIn (now (bytes .entry)) (now (lits .entry)) b) (width (now (bytes .entry)) d) .bits) ⌝ }
+    ensures { λ _. ⌜ now (lits .exit) ≡ bitsSet (now (bytes .entry)) (now (lits .entry)) d (computation op (n .next) (bitsIn (now (bytes .entry)) (now (lits .entry)) a) (bitsIn (now (bytes .entry)) (now (lits .entry)) b) (width (now (bytes .entry)) d) .bits) ⌝ }
 {
     let w = width_of(bytes, d) as usize;
     let x = place_of(a);
@@ -90,7 +90,7 @@ fn compute_made(
 }
 
 // An access: the named one makes the claim, and another one leaves arrival.
-fn access_made(
+fn encode_access(
     words: &mut [u32],
     starts: &mut [u32],
     lits: &[u32],
@@ -102,11 +102,11 @@ fn access_made(
     i: u8,
     k: Counts,
     s: Reach,
-) -> Made
+) -> Encoded
     requires { ⌜ Ready n 8192 ⌝ }
     requires { ⌜ length (now lits) ≡ allPlaces ⌝ }
     requires { ⌜ (i < h .variables) × Fine (now bytes) h ⌝ }
-    ensures { λ r. ⌜ Makes (now (words .entry)) (now (starts .entry)) n (accessOf (now (bytes .entry)) h t (n .next) array i k (wiresOf (now (lits .entry)) s)) (now (words .exit)) (now (starts .exit)) (now (lits .entry)) r ⌝ }
+    ensures { λ r. ⌜ Encodes (now (words .entry)) (now (starts .entry)) n (accessOf (now (bytes .entry)) h t (n .next) array i k (wiresOf (now (lits .entry)) s)) (now (words .exit)) (now (starts .exit)) (now (lits .entry)) r ⌝ }
 {
     let arrival = s.arrival;
     let from = place_of(i);
@@ -120,16 +120,16 @@ fn access_made(
             side: r.lit,
         };
         let reach = Reach { arrival, claim };
-        return Made { net, reach };
+        return Encoded { net, reach };
     }
     let r = pass_access(words, starts, n, &lits[from..to], size, arrival);
     let net = r.net;
     let reach = with_arrival(s, r.lit);
-    Made { net, reach }
+    Encoded { net, reach }
 }
 
 // A read: an access, and then its bits as inputs.
-fn read_made(
+fn encode_read(
     words: &mut [u32],
     starts: &mut [u32],
     lits: &mut [u32],
@@ -142,13 +142,13 @@ fn read_made(
     i: u8,
     k: Counts,
     s: Reach,
-) -> Made
+) -> Encoded
     requires { ⌜ Ready n 8192 ⌝ }
     requires { ⌜ length (now lits) ≡ allPlaces ⌝ }
     requires { ⌜ Sound (now bytes) h (Simple.Read d array i) × Fine (now bytes) h × (isMade (s .claim) ≡ false) ⌝ }
-    ensures { λ r. ⌜ Makes (now (words .entry)) (now (starts .entry)) n (simple (now (bytes .entry)) h t (n .next) (Simple.Read d array i) k (wiresOf (now (lits .entry)) s)) (now (words .exit)) (now (starts .exit)) (now (lits .exit)) r ⌝ }
+    ensures { λ r. ⌜ Encodes (now (words .entry)) (now (starts .entry)) n (simple (now (bytes .entry)) h t (n .next) (Simple.Read d array i) k (wiresOf (now (lits .entry)) s)) (now (words .exit)) (now (starts .exit)) (now (lits .exit)) r ⌝ }
 {
-    let m = access_made(words, starts, lits, n, bytes, h, t, array, i, k, s);
+    let m = encode_access(words, starts, lits, n, bytes, h, t, array, i, k, s);
     let reach = m.reach;
     if is_made(reach) {
         return m;
@@ -158,11 +158,11 @@ fn read_made(
     let w = width_of(bytes, d) as usize;
     let net = take_inputs(first, w);
     store_bits(lits, place_of(d), &bits[..w]);
-    Made { net, reach }
+    Encoded { net, reach }
 }
 
 // A command that is no if, after the counts k.
-pub fn simple_made(
+pub fn encode_simple(
     words: &mut [u32],
     starts: &mut [u32],
     lits: &mut [u32],
@@ -173,30 +173,30 @@ pub fn simple_made(
     c: Simple,
     k: Counts,
     s: Reach,
-) -> Made
+) -> Encoded
     requires { ⌜ Ready n 8192 ⌝ }
     requires { ⌜ length (now lits) ≡ allPlaces ⌝ }
     requires { ⌜ Sound (now bytes) h c × Fine (now bytes) h × (isMade (s .claim) ≡ false) ⌝ }
-    ensures { λ r. ⌜ Makes (now (words .entry)) (now (starts .entry)) n (simple (now (bytes .entry)) h t (n .next) c k (wiresOf (now (lits .entry)) s)) (now (words .exit)) (now (starts .exit)) (now (lits .exit)) r ⌝ }
+    ensures { λ r. ⌜ Encodes (now (words .entry)) (now (starts .entry)) n (simple (now (bytes .entry)) h t (n .next) c k (wiresOf (now (lits .entry)) s)) (now (words .exit)) (now (starts .exit)) (now (lits .exit)) r ⌝ }
 {
     match c {
         Simple::Set { d, c } => {
-            set_made(lits, bytes, h, d, c);
-            Made { net: n, reach: s }
+            encode_set(lits, bytes, h, d, c);
+            Encoded { net: n, reach: s }
         }
         Simple::Convert { op, d, s: a } => {
-            convert_made(lits, bytes, h, op, d, a);
-            Made { net: n, reach: s }
+            encode_convert(lits, bytes, h, op, d, a);
+            Encoded { net: n, reach: s }
         }
         Simple::Compute { op, d, s: a, t: b } => {
-            let net = compute_made(words, starts, lits, n, bytes, h, op, d, a, b);
-            Made { net, reach: s }
+            let net = encode_compute(words, starts, lits, n, bytes, h, op, d, a, b);
+            Encoded { net, reach: s }
         }
         Simple::Read { d, array, i } => {
-            read_made(words, starts, lits, n, bytes, h, t, d, array, i, k, s)
+            encode_read(words, starts, lits, n, bytes, h, t, d, array, i, k, s)
         }
         Simple::Write { array, i, .. } => {
-            access_made(words, starts, lits, n, bytes, h, t, array, i, k, s)
+            encode_access(words, starts, lits, n, bytes, h, t, array, i, k, s)
         }
     }
 }

@@ -5,8 +5,8 @@ mod operations;
 use netlist::Net;
 use translation_state::Reach;
 
-// What a command made: what is emitted, arrival and the claim.
-pub struct Made {
+// What a command is encoded as: what is emitted, arrival and the claim.
+pub struct Encoded {
     pub net: Net,
     pub reach: Reach,
 }

@@ -2,9 +2,9 @@
 use arithmetic::Bundle;
 use arithmetic::PLACES;
 use arithmetic::extensions::extended;
-use arithmetic::products::multiply;
-use arithmetic::sums::add;
-use arithmetic::sums::subtract;
+use arithmetic::products::emit_product;
+use arithmetic::sums::emit_difference;
+use arithmetic::sums::emit_sum;
 use arithmetic::sums::sum_bits;
 use netlist::Net;
 ghost use mathlib.Core.Path.{_≡_};
@@ -46,15 +46,15 @@ pub fn compute(
     match op {
         0x03 => {
             let bits = sum_bits(n.next);
-            let net = add(words, starts, n, a, b, 3);
+            let net = emit_sum(words, starts, n, a, b, 3);
             Bundle { net, bits }
         }
         0x04 => {
             let bits = sum_bits(n.next);
-            let net = subtract(words, starts, n, a, b);
+            let net = emit_difference(words, starts, n, a, b);
             Bundle { net, bits }
         }
-        0x05 => multiply(words, starts, n, a, b),
+        0x05 => emit_product(words, starts, n, a, b),
         _ => Bundle {
             net: n,
             bits: [3u32; PLACES],

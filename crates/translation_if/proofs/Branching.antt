@@ -29,9 +29,9 @@ use Rattle.arithmetic.proofs.Join.{join-lit, join-turn, length-joiner}
 use Rattle.comparison.specs.Relation.{relation}
 use Rattle.comparison.proofs.Relating.{relation-short}
 use Rattle.translation_state.specs.Wires.{Wires, placeOf}
-use Rattle.translation_if.specs.Branch.{armArrival, conditionOf, joinGroups, joined}
-use Rattle.translation_command.specs.Inner.Makes.{Makes}
-use Rattle.translation_if.specs.Inner.Branched.{Branched}
+use Rattle.translation_if.specs.If.{armArrival, conditionOf, joinGroups, joinArms}
+use Rattle.translation_command.specs.Inner.Encodes.{Encodes}
+use Rattle.translation_if.specs.Inner.BeginsIf.{BeginsIf}
 use Rattle.translation_state.specs.declared.Claim.{Claim}
 use Rattle.translation_state.proofs.Overlay.{set-own, sets-after, table-more}
 use Rattle.translation_state.proofs.Ranges.{ranged}
@@ -71,7 +71,7 @@ module _ {W U W₁ U₁ W₂ U₂ W₃ U₃ : List ℕ} {n : Net} {t a b : Test}
   second : Decides W₂ U₂ (a .net) (armArrival (eqb d 0) (at + length (armArrival (eqb d 1) at arrival (x .lit) .nodes)) arrival (opp (x .lit))) W₃ U₃ b
   second = subst (λ (z : Predicate). Decides W₂ U₂ (a .net) z W₃ U₃ b) (λ i. armArrival (eqb d 0) (there i) arrival ((o ∙ ap opp (p .lit)) i)) r
 
-  pub branch-made : Branched bs W U n c d s W₃ U₃ (record { net = b .net; condition = t .lit; first = a .lit; second = b .lit })
+  pub branch-made : BeginsIf bs W U n c d s W₃ U₃ (record { net = b .net; condition = t .lit; first = a .lit; second = b .lit })
   branch-made = record {
     emitted = emitted-then (p .emitted) (emitted-then (first .emitted) (second .emitted));
     condition = p .lit;
@@ -197,8 +197,8 @@ pub arms-joined : {W U W₁ U₁ W₂ U₂ : List ℕ} {n n₁ n₂ : Net} (bs :
     → Emitted W U n (joinGroups bs (n .next) c (x .lits) (y .lits) (h .variables) .nodes) W₁ U₁ n₁
     → l ≡ joinGroups bs (n .next) c (x .lits) (y .lits) (h .variables) .lits
     → a ≡ opp (x .arrival) → b ≡ opp (y .arrival) → Emitted W₁ U₁ n₁ (And a b ∷ []) W₂ U₂ n₂
-    → Makes W U n (joined bs h (n .next) c x y) W₂ U₂ l (record { net = n₂; reach = record { arrival = 2 * n₁ .next + 1; claim = Claim.Open } })
-unfolding joined
+    → Encodes W U n (joinArms bs h (n .next) c x y) W₂ U₂ l (record { net = n₂; reach = record { arrival = 2 * n₁ .next + 1; claim = Claim.Open } })
+unfolding joinArms
 arms-joined {W} {U} {W₂ = W₂} {U₂ = U₂} {n} {n₂ = n₂} bs h c x y l a b p s e f q = record {
   emitted =
       subst (λ (ns : List Node). Emitted W U n (joinGroups bs (n .next) c (x .lits) (y .lits) (h .variables) .nodes ++ ns) W₂ U₂ n₂) (λ i. And (e i) (f i) ∷ [])

@@ -1,2 +1,2 @@
-pub mod Branch
+pub mod If
 pub mod Inner

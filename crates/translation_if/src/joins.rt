@@ -5,7 +5,7 @@ use netlist::emit;
 use netlist::opposite;
 use routine_header::Header;
 use routine_header::width_of;
-use translation_command::Made;
+use translation_command::Encoded;
 use translation_state::Claim;
 use translation_state::Reach;
 use translation_state::literals::place_of;
@@ -19,8 +19,8 @@ ghost use Rattle.arithmetic.specs.Bits.{bitsAt, tabulate};
 ghost use Rattle.arithmetic.specs.Join.{join};
 ghost use Rattle.translation_state.specs.Wires.{allPlaces};
 ghost use Rattle.translation_state.specs.Inner.Reach.{wiresOf};
-ghost use Rattle.translation_if.specs.Branch.{joinGroups, joined};
-ghost use Rattle.translation_command.specs.Inner.Makes.{Makes};
+ghost use Rattle.translation_if.specs.If.{joinGroups, joinArms};
+ghost use Rattle.translation_command.specs.Inner.Encodes.{Encodes};
 
 // A group of bits joined: the first arm's where the condition c holds, else the other's.
 fn join_group(
@@ -94,11 +94,11 @@ pub fn join_arms(
     x: Reach,
     other: &[u32],
     y: Reach,
-) -> Made
+) -> Encoded
     requires { ⌜ Ready n 8192 ⌝ }
     requires { ⌜ (length (now lits) ≡ allPlaces) × (length (now other) ≡ allPlaces) ⌝ }
     requires { ⌜ Fine (now bytes) h ⌝ }
-    ensures { λ r. ⌜ Makes (now (words .entry)) (now (starts .entry)) n (joined (now (bytes .entry)) h (n .next) c (wiresOf (now (lits .entry)) x) (wiresOf (now (other .entry)) y)) (now (words .exit)) (now (starts .exit)) (now (lits .exit)) r ⌝ }
+    ensures { λ r. ⌜ Encodes (now (words .entry)) (now (starts .entry)) n (joinArms (now (bytes .entry)) h (n .next) c (wiresOf (now (lits .entry)) x) (wiresOf (now (other .entry)) y)) (now (words .exit)) (now (starts .exit)) (now (lits .exit)) r ⌝ }
 {
     let n1 = join_groups(words, starts, lits, n, bytes, h, c, other);
     let a = opposite(x.arrival);
@@ -107,5 +107,5 @@ pub fn join_arms(
     let net = emit(words, starts, n1, Node::And(a, b));
     let claim = Claim::Open;
     let reach = Reach { arrival, claim };
-    Made { net, reach }
+    Encoded { net, reach }
 }

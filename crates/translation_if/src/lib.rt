@@ -19,11 +19,11 @@ ghost use Rattle.netlist.specs.Inner.Emit.{Ready};
 ghost use Rattle.arithmetic.specs.Inner.Made.{Decides};
 ghost use Rattle.translation_state.specs.Wires.{allPlaces};
 ghost use Rattle.translation_state.specs.Inner.Reach.{wiresOf};
-ghost use Rattle.translation_if.specs.Branch.{armArrival};
-ghost use Rattle.translation_if.specs.Inner.Branched.{Branched};
+ghost use Rattle.translation_if.specs.If.{armArrival};
+ghost use Rattle.translation_if.specs.Inner.BeginsIf.{BeginsIf};
 
 // The beginning of an if: what is emitted, the literal of its condition, and the arrivals of its arms.
-pub struct Branches {
+pub struct IfBegun {
     pub net: Net,
     pub condition: u32,
     pub first: u32,
@@ -51,7 +51,7 @@ fn arm_arrival(
 }
 
 // The condition and both arrivals, before either arm's commands; d is the decision.
-pub fn branch(
+pub fn begin_if(
     words: &mut [u32],
     starts: &mut [u32],
     lits: &[u32],
@@ -61,11 +61,11 @@ pub fn branch(
     c: Condition,
     d: u8,
     s: Reach,
-) -> Branches
+) -> IfBegun
     requires { ⌜ Ready n 8192 ⌝ }
     requires { ⌜ length (now lits) ≡ allPlaces ⌝ }
     requires { ⌜ SoundIf (now bytes) h c × Fine (now bytes) h ⌝ }
-    ensures { λ r. ⌜ Branched (now (bytes .entry)) (now (words .entry)) (now (starts .entry)) n c d (wiresOf (now (lits .entry)) s) (now (words .exit)) (now (starts .exit)) r ⌝ }
+    ensures { λ r. ⌜ BeginsIf (now (bytes .entry)) (now (words .entry)) (now (starts .entry)) n c d (wiresOf (now (lits .entry)) s) (now (words .exit)) (now (starts .exit)) r ⌝ }
 {
     let w = width_of(bytes, c.s) as usize;
     let a = place_of(c.s);
@@ -85,7 +85,7 @@ pub fn branch(
     let fails = opposite(holds);
     let y = arm_arrival(words, starts, n2, d == 0, s.arrival, fails);
     let net = y.net;
-    Branches {
+    IfBegun {
         net,
         condition: holds,
         first: x.lit,

@@ -5,8 +5,8 @@ use mathlib.Core.Bool.{true, cond}
 use Prim.Native.Nat.{ℕ, _+_, _≤_}
 use lib.ListN.{length}
 use Rattle.slices.specs.Bytes.{entry}
-use Rattle.routine_faults.specs.Step.{accesses, after, oneIf}
-use Rattle.routine_command.specs.Command.{sizeOfSimple}
+use Rattle.routine_faults.specs.Step.{accesses, countsAfter, countsAfterIf}
+use Rattle.routine_command.specs.Command.{simpleSize}
 use Rattle.routine.specs.Routine.{Arm}
 use Rattle.routine.specs.Inner.Stands.{Stands}
 use Rattle.routine_faults.specs.Inner.Sound.{Fine}
@@ -14,17 +14,16 @@ use Rattle.routine_header.specs.declared.Header.{Header}
 use Rattle.routine_faults.specs.declared.Counts.{Counts}
 use Rattle.routine.proofs.Views.{induction}
 use Rattle.routine.proofs.Numbering.{EachIf, Before}
-use Rattle.run.specs.State.{take, holds, carry}
-use Rattle.run.specs.Run as run
-use Rattle.run.specs.Run.{took, eventsAt, runArm}
+use Rattle.run.specs.State.{withArm, holds, executed}
+use Rattle.run.specs.Run.{took, eventsAt, runArm, Execution, eventsThen, runOn}
 use Rattle.run.specs.declared.State.{State}
 use Rattle.run.specs.Course.{courseTo, course}
 use Rattle.cnf.specs.Meaning.{Assign}
 use Rattle.netlist.specs.Meaning.{Inputs}
 use Rattle.netlist.proofs.Truth.{Models, models-append}
-use Rattle.translation_command.specs.Command.{Stretch, simple}
+use Rattle.translation_command.specs.Command.{Encoding, simple}
 use Rattle.translation_state.specs.Wires.{Wires, isMade}
-use Rattle.translation_meaning.specs.Walk.{andThen, forked, armOf}
+use Rattle.translation_meaning.specs.Walk.{encodeOn, encodeIf, encodeArm}
 use Rattle.translation_meaning.specs.Faithful.{bitsOfList}
 use Rattle.translation_state.specs.declared.Claim.{Claim}
 use Rattle.lead.specs.declared.Target.{Target}
@@ -43,25 +42,25 @@ module _ (bs ins : List ℕ) (h : Header) (fine : Fine bs h) (t : Target) (ds : 
   abbrev I : Inputs
   I = bitsOfList ins
 
-  -- the models of a stretch that another may follow, and those of the other
-  models-first : (g : ℕ) (x : Stretch) (go : ℕ → Wires → Stretch) → Models I ρ g (andThen g x go .nodes) → Models I ρ g (x .nodes)
+  -- the models of an encoding that another may follow, and those of the other
+  models-first : (g : ℕ) (x : Encoding) (go : ℕ → Wires → Encoding) → Models I ρ g (encodeOn g x go .nodes) → Models I ρ g (x .nodes)
   models-first g x go =
-      then-by (λ (z : Stretch). Models I ρ g (z .nodes) → Models I ρ g (x .nodes)) g x go (λ e m. m)
+      then-by (λ (z : Encoding). Models I ρ g (z .nodes) → Models I ρ g (x .nodes)) g x go (λ e m. m)
       (λ e m. models-append I ρ g (x .nodes) (go (g + length (x .nodes)) (x .wires) .nodes) m .0)
 
-  models-next : (g : ℕ) (x : Stretch) (go : ℕ → Wires → Stretch) → x .wires .claim ≡ Claim.Open → Models I ρ g (andThen g x go .nodes)
+  models-next : (g : ℕ) (x : Encoding) (go : ℕ → Wires → Encoding) → x .wires .claim ≡ Claim.Open → Models I ρ g (encodeOn g x go .nodes)
       → Models I ρ (g + length (x .nodes)) (go (g + length (x .nodes)) (x .wires) .nodes)
   models-next g x go q =
-      then-by (λ (z : Stretch). Models I ρ g (z .nodes) → Models I ρ (g + length (x .nodes)) (go (g + length (x .nodes)) (x .wires) .nodes)) g x go
+      then-by (λ (z : Encoding). Models I ρ g (z .nodes) → Models I ρ (g + length (x .nodes)) (go (g + length (x .nodes)) (x .wires) .nodes)) g x go
       (λ e. not-both (isMade (x .wires .claim)) e (ap isMade q))
       (λ e m. models-append I ρ g (x .nodes) (go (g + length (x .nodes)) (x .wires) .nodes) m .1)
 
-  -- a stretch that tallies, and what goes on after it
-  goes-on : (g : ℕ) (x : Stretch) (go : ℕ → Wires → Stretch) (y : run.Stretch) (on : State → run.Stretch)
+  -- an encoding that tallies, and what goes on after it
+  goes-on : (g : ℕ) (x : Encoding) (go : ℕ → Wires → Encoding) (y : Execution) (on : State → Execution)
       → (Models I ρ g (x .nodes) → Tallies bs h fine t ds before ρ x y) → (x .wires .claim ≡ Claim.Open → Runs bs ins h fine t ds before ρ o go on)
       → ((g₁ : ℕ) (s : Wires) → Deadens I ρ o bs h t ds g₁ s (go g₁ s))
       → (isMade (x .wires .claim) ≡ true → (r : State) → Elsewhere (course ds (t .access) before (on r .events)))
-      → Models I ρ g (andThen g x go .nodes) → Tallies bs h fine t ds before ρ (andThen g x go) (run.andThen y on)
+      → Models I ρ g (encodeOn g x go .nodes) → Tallies bs h fine t ds before ρ (encodeOn g x go) (runOn y on)
   goes-on g x go y on p f dead apart m =
       tally-then bs h fine t ds before ρ g x go y on (p (models-first g x go m))
       (λ l e u w. f e (g + length (x .nodes)) (x .wires) (y .state) (models-next g x go e m) (record { unclaimed = e; come = l; going = u; worth = w }))
@@ -71,25 +70,25 @@ module _ (bs ins : List ℕ) (h : Header) (fine : Fine bs h) (t : Target) (ds : 
   -- an arm that does not stand after the named access, before which `before` ifs stand
   pub arm-alive : t .side ≤ 1 → ((n : ℕ) → entry ds n ≤ 2) → (a : Arm) (depth close at : ℕ) (k : Counts) (end : ℕ) (k₁ : Counts)
       → Stands bs h depth close at k a end k₁ → Fit bs ins h a → EachIf (Before before (t .access)) a → accesses k ≤ t .access
-      → Runs bs ins h fine t ds before ρ o (armOf bs h t ds a) (runArm bs ins h a)
-  unfolding armOf runArm courseTo
+      → Runs bs ins h fine t ds before ρ o (encodeArm bs h t ds a) (runArm bs ins h a)
+  unfolding encodeArm runArm courseTo
   arm-alive sd few =
       induction bs h (λ depth close at k a end k₁. Fit bs ins h a → EachIf (Before before (t .access)) a → accesses k ≤ t .access
-      → Runs bs ins h fine t ds before ρ o (armOf bs h t ds a) (runArm bs ins h a))
+      → Runs bs ins h fine t ds before ρ o (encodeArm bs h t ds a) (runArm bs ins h a))
       (λ depth close at k mark e l f n ahead g s r m a. alive-through bs ins h fine t ds before ρ o s _ r a refl)
       (λ depth close at k c rest end k₁ v go f n ahead g s r m a.
       let p = simple-claims t bs h ds g c k s (a .unclaimed) in
-      goes-on g (simple bs h t g c k s) (armOf bs h t ds rest) (record { events = eventsAt bs c k r; state = carry bs ins h c k r }) (runArm bs ins h rest)
+      goes-on g (simple bs h t g c k s) (encodeArm bs h t ds rest) (record { events = eventsAt bs c k r; state = executed bs ins h c k r }) (runArm bs ins h rest)
       (λ m₁. simple-alive bs ins h fine t ds before ρ o sd g c k s r (v .sound) (f .0) m₁ a)
       (λ e. go (f .1) n (p .unnamed (ap isMade e) ahead)) (arm-dead I ρ o bs h t ds rest)
-      (λ q. misses bs ins h ds (t .access) before rest depth close (at + sizeOfSimple c) (after c k) end k₁ (v .stands) (p .named q .1)) m)
+      (λ q. misses bs ins h ds (t .access) before rest depth close (at + simpleSize c) (countsAfter c k) end k₁ (v .stands) (p .named q .1)) m)
       (λ depth close at k c first second rest end k₁ v go₁ go₂ go₃ f n ahead g s r m a.
-      let l₁ = accesses-grow bs h first (depth + 1) 12 (at + 4) (oneIf k) (v .else) (v .k₂) (v .stands-first) in
+      let l₁ = accesses-grow bs h first (depth + 1) 12 (at + 4) (countsAfterIf k) (v .else) (v .k₂) (v .stands-first) in
       let l₂ = accesses-grow bs h second (depth + 1) 13 (v .else) (v .k₂) (v .next) (v .k₃) (v .stands-second) in
-      let p₁ = arm-claims t bs h ds first (depth + 1) 12 (at + 4) (oneIf k) (v .else) (v .k₂) (v .stands-first) in
+      let p₁ = arm-claims t bs h ds first (depth + 1) 12 (at + 4) (countsAfterIf k) (v .else) (v .k₂) (v .stands-first) in
       let p₂ = arm-claims t bs h ds second (depth + 1) 13 (v .else) (v .k₂) (v .next) (v .k₃) (v .stands-second) in
-      let x₁ = armOf bs h t ds first in
-      let x₂ = armOf bs h t ds second in
+      let x₁ = encodeArm bs h t ds first in
+      let x₂ = encodeArm bs h t ds second in
       let arms : Arms bs ins h fine t ds before ρ o x₁ x₂ (runArm bs ins h first) (runArm bs ins h second) = record {
         one = go₁ (f .0) (n .1) ahead;
         two = λ g₁ s₁ e q. go₂ (f .1) (n .2) (p₁ g₁ s₁ e .unnamed q ahead);
@@ -99,9 +98,9 @@ module _ (bs ins : List ℕ) (h : Header) (fine : Fine bs h) (t : Target) (ds : 
         apart = λ g₁ s₁ e q. misses bs ins h ds (t .access) before second (depth + 1) 13 (v .else) (v .k₂) (v .next) (v .k₃) (v .stands-second) (p₁ g₁ s₁ e .named q .1);
       } in
       let p = fork-claims t bs h ds x₁ x₂ k (v .k₂) (v .k₃) p₁ p₂ l₁ l₂ (entry ds (k .ifs)) g c s (a .unclaimed) in
-      goes-on g (forked bs h (entry ds (k .ifs)) g c s x₁ x₂) (armOf bs h t ds rest)
-      (cond (holds bs c r) (run.after (took (k .ifs) 0 ∷ []) (runArm bs ins h first (take r (k .ifs) 0)))
-      (run.after (took (k .ifs) 1 ∷ []) (runArm bs ins h second (take r (k .ifs) 1))))
+      goes-on g (encodeIf bs h (entry ds (k .ifs)) g c s x₁ x₂) (encodeArm bs h t ds rest)
+      (cond (holds bs c r) (eventsThen (took (k .ifs) 0 ∷ []) (runArm bs ins h first (withArm r (k .ifs) 0)))
+      (eventsThen (took (k .ifs) 1 ∷ []) (runArm bs ins h second (withArm r (k .ifs) 1))))
       (runArm bs ins h rest)
       (fork-alive bs ins h fine t ds before ρ o x₁ x₂ (runArm bs ins h first) (runArm bs ins h second) arms (k .ifs) (few (k .ifs)) (n .0 .1 ahead) g c s r (v .sound) a)
       (λ e. go₃ (f .2) (n .3) (p .unnamed (ap isMade e) ahead)) (arm-dead I ρ o bs h t ds rest)

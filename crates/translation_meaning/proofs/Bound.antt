@@ -1,10 +1,10 @@
 -- How many variables a translation takes at most. Assumes nothing.
 use Rattle.cnf.specs.Clause.{flatten}
 use Rattle.cnf.proofs.Appending.{flatten-append}
-use Rattle.netlist.specs.Node.{nodeClauses, clausesOf}
+use Rattle.netlist.specs.Node.{nodeClauses, netlistClauses}
 use Rattle.netlist.specs.declared.Node.{Node}
 use Rattle.netlist.proofs.Nodes.{clausesOf-few, clausesOf-short}
-use Rattle.translation_meaning.specs.Translation.{lastClauses, clausesOfAll, parameterNodes, start, whole}
+use Rattle.translation_meaning.specs.Translation.{lastClauses, clausesOfAll, parameterNodes, initialWires, translationOf}
 use Rattle.translation_state.specs.declared.Claim.{Claim}
 use mathlib.Core.Path.{_≡_, ap, subst, _∙_}
 use mathlib.Core.List.{List, _++_}
@@ -16,7 +16,7 @@ use lib.ListN.{length, length-append}
 use lib.Dec.{eqb}
 use Rattle.slices.specs.Bytes.{entry}
 use Rattle.routine_header.specs.Header.{width, arraySize}
-use Rattle.routine.specs.Routine.{Arm, done, plain, fork}
+use Rattle.routine.specs.Routine.{Arm, done, plain, ifElse}
 use Rattle.routine.specs.Decode.{routine, decode}
 use Rattle.routine.specs.Inner.Stands.{Stands}
 use Rattle.routine_faults.specs.Inner.Sound.{Sound, SoundIf, Fine}
@@ -42,11 +42,11 @@ use Rattle.arithmetic.proofs.Input.{length-inputs}
 use Rattle.arithmetic.proofs.Join.{length-joiner}
 use Rattle.comparison.proofs.Relating.{relation-short}
 use Rattle.translation_state.specs.Wires.{Wires, bitsIn, bitsOf}
-use Rattle.translation_command.specs.Command.{Stretch, still, passed, access, readInto, simple}
+use Rattle.translation_command.specs.Command.{Encoding, still, passed, access, readInto, simple}
 use Rattle.translation_command.specs.Operation.{computation}
 use Rattle.translation_access.proofs.Gates.{passing-short, claim-short}
-use Rattle.translation_meaning.specs.Walk.{andThen, forked, armOf}
-use Rattle.translation_if.specs.Branch.{conditionOf, armArrival, arrivals, joinGroups, joined}
+use Rattle.translation_meaning.specs.Walk.{encodeOn, encodeIf, encodeArm}
+use Rattle.translation_if.specs.If.{conditionOf, armArrival, arrivals, joinGroups, joinArms}
 use Rattle.lead.specs.declared.Target.{Target}
 use Rattle.translation_meaning.proofs.Stretches.{then-by, access-by, fork-by, frontOf, firstFrom, firstWires, firstOf, secondFrom, secondWires, secondOf, joinFrom, joinOf}
 use Rattle.translation_meaning.proofs.Counted.{commandsIn, ifsIn, all-ifs, few-commands}
@@ -80,14 +80,14 @@ arrivals-few d g arrival c = pick (eqb d 1) (eqb d 0)
 unfoldable allowed : (m j : ℕ) → Arm → ℕ
 allowed m j done = 0
 allowed m j (plain at c k rest) = m + allowed m j rest
-allowed m j (fork at c k first second rest) = m + j + allowed m j first + allowed m j second + allowed m j rest
+allowed m j (ifElse at c k first second rest) = m + j + allowed m j first + allowed m j second + allowed m j rest
 
 -- the same by the counts
 allowed-is : (m j : ℕ) (a : Arm) → allowed m j a ≡ m * commandsIn a + j * ifsIn a
 unfolding allowed commandsIn ifsIn
 allowed-is m j done = omega arith
 allowed-is m j (plain at c k rest) = simp mul-add (omega (arith, allowed-is m j rest))
-allowed-is m j (fork at c k first second rest) =
+allowed-is m j (ifElse at c k first second rest) =
     simp mul-add (omega (arith, allowed-is m j first, allowed-is m j second, allowed-is m j rest))
 
 module _ (bs : List ℕ) (h : Header) (w : ℕ) (narrow : (v : ℕ) → v < h .variables → width bs v ≤ w) where
@@ -113,8 +113,8 @@ module _ (bs : List ℕ) (h : Header) (w : ℕ) (narrow : (v : ℕ) → v < h .v
 
   module _ (few : h .variables ≤ 32) (m : ℕ) (big : Enough w m) (t : Target) where
     -- the end of an if
-    joined-few : (g c : ℕ) (x y : Wires) → length (joined bs h g c x y .nodes) ≤ 32 * w + 1
-    unfolding joined
+    joined-few : (g c : ℕ) (x y : Wires) → length (joinArms bs h g c x y .nodes) ≤ 32 * w + 1
+    unfolding joinArms
     joined-few g c x y =
         simp length-append (omega (arith, joins-few g c (x .lits) (y .lits) (h .variables) (omega arith), mul-le-mul-left w few))
 
@@ -131,15 +131,15 @@ module _ (bs : List ℕ) (h : Header) (w : ℕ) (narrow : (v : ℕ) → v < h .v
         pick false false false = omega arith
 
     -- an access, and what goes on after it
-    at-access : (g array i : ℕ) (k : Counts) (s : Wires) (go : ℕ → Wires → Stretch) → i < h .variables
+    at-access : (g array i : ℕ) (k : Counts) (s : Wires) (go : ℕ → Wires → Encoding) → i < h .variables
         → ((g₁ : ℕ) (u : Wires) → length (go g₁ u .nodes) ≤ w) → length (access bs h t g array i k s go .nodes) ≤ m
     at-access g array i k s go l f =
         let a : Bits = bitsOf bs s i in
         let size : ℕ = arraySize bs h array in
         let v : ℕ = width bs i in
-        let p : Stretch = passed bs h g array i s in
-        let x : Stretch = go (g + length (p .nodes)) (p .wires) in
-        access-by (λ (z : Stretch). length (z .nodes) ≤ m) bs h t g array i k s go
+        let p : Encoding = passed bs h g array i s in
+        let x : Encoding = go (g + length (p .nodes)) (p .wires) in
+        access-by (λ (z : Encoding). length (z .nodes) ≤ m) bs h t g array i k s go
         (λ e. omega (arith, claim-short (t .side) g a size v, narrow i l, big .access))
         (λ e. omega (
           arith,
@@ -164,8 +164,8 @@ module _ (bs : List ℕ) (h : Header) (w : ℕ) (narrow : (v : ℕ) → v < h .v
 
     -- ---- ifs
 
-    -- a stretch takes at most so many variables, wherever it begins
-    abbrev Few : ℕ → (ℕ → Wires → Stretch) → Type 0
+    -- an encoding takes at most so many variables, wherever it begins
+    abbrev Few : ℕ → (ℕ → Wires → Encoding) → Type 0
     Few n go = (g : ℕ) (s : Wires) → length (go g s .nodes) ≤ n
 
     -- the gates of the condition and of the arms' arrivals
@@ -184,8 +184,8 @@ module _ (bs : List ℕ) (h : Header) (w : ℕ) (narrow : (v : ℕ) → v < h .v
         )
 
     -- an if, whose arms take at most n₁ and n₂
-    fork-few : (first second : ℕ → Wires → Stretch) (n₁ n₂ : ℕ) → Few n₁ first → Few n₂ second → (d g : ℕ) (c : Condition) (s : Wires) → SoundIf bs h c
-        → length (forked bs h d g c s first second .nodes) ≤ m + (32 * w + 1) + n₁ + n₂
+    fork-few : (first second : ℕ → Wires → Encoding) (n₁ n₂ : ℕ) → Few n₁ first → Few n₂ second → (d g : ℕ) (c : Condition) (s : Wires) → SoundIf bs h c
+        → length (encodeIf bs h d g c s first second .nodes) ≤ m + (32 * w + 1) + n₁ + n₂
     fork-few first second n₁ n₂ one two d g c s q =
         let ns : List Node = frontOf bs h d g c s first second in
         let x = firstOf bs h d g c s first second in
@@ -195,7 +195,7 @@ module _ (bs : List ℕ) (h : Header) (w : ℕ) (narrow : (v : ℕ) → v < h .v
         let l₁ : length (x .nodes) ≤ n₁ = one (firstFrom bs h d g c s first second) (firstWires bs h d g c s first second) in
         let l₂ : length (y .nodes) ≤ n₂ = two (secondFrom bs h d g c s first second) (secondWires bs h d g c s first second) in
         let l₃ : length (j .nodes) ≤ 32 * w + 1 = joined-few (joinFrom bs h d g c s first second) (conditionOf bs g c s .lit) (x .wires) (y .wires) in
-        fork-by bs h d g c s first second (λ (z : Stretch). length (z .nodes) ≤ m + (32 * w + 1) + n₁ + n₂)
+        fork-by bs h d g c s first second (λ (z : Encoding). length (z .nodes) ≤ m + (32 * w + 1) + n₁ + n₂)
         (λ e. omega (arith, length-append ns (x .nodes), l₀, l₁))
         (λ e e₁. omega (arith, length-append ns (x .nodes ++ y .nodes), length-append (x .nodes) (y .nodes), l₀, l₁, l₂))
         (λ e e₁. omega (
@@ -209,36 +209,36 @@ module _ (bs : List ℕ) (h : Header) (w : ℕ) (narrow : (v : ℕ) → v < h .v
           l₃,
         ))
 
-    -- a stretch, and what goes on after it: where the claim was made there is less
-    goes-on : (n₁ n₂ g : ℕ) (x : Stretch) (go : ℕ → Wires → Stretch) → length (x .nodes) ≤ n₁ → Few n₂ go → length (andThen g x go .nodes) ≤ n₁ + n₂
+    -- an encoding, and what goes on after it: where the claim was made there is less
+    goes-on : (n₁ n₂ g : ℕ) (x : Encoding) (go : ℕ → Wires → Encoding) → length (x .nodes) ≤ n₁ → Few n₂ go → length (encodeOn g x go .nodes) ≤ n₁ + n₂
     goes-on n₁ n₂ g x go l f =
-        then-by (λ (z : Stretch). length (z .nodes) ≤ n₁ + n₂) g x go (λ e. omega (arith, l))
+        then-by (λ (z : Encoding). length (z .nodes) ≤ n₁ + n₂) g x go (λ e. omega (arith, l))
         (λ e.
-        let y : Stretch = go (g + length (x .nodes)) (x .wires) in
+        let y : Encoding = go (g + length (x .nodes)) (x .wires) in
         omega (arith, length-append (x .nodes) (y .nodes), l, f (g + length (x .nodes)) (x .wires)))
 
     -- an arm that stands
     arm-few : (ds : List ℕ) (a : Arm) (depth close at : ℕ) (k : Counts) (end : ℕ) (k₁ : Counts) → Stands bs h depth close at k a end k₁
-        → Few (allowed m (32 * w + 1) a) (armOf bs h t ds a)
-    unfolding armOf allowed
+        → Few (allowed m (32 * w + 1) a) (encodeArm bs h t ds a)
+    unfolding encodeArm allowed
     arm-few ds =
-        induction bs h (λ depth close at k a end k₁. Few (allowed m (32 * w + 1) a) (armOf bs h t ds a))
+        induction bs h (λ depth close at k a end k₁. Few (allowed m (32 * w + 1) a) (encodeArm bs h t ds a))
         (λ depth close at k mark e l g s. omega arith)
         (λ depth close at k c rest end k₁ v go g s.
-        goes-on m (allowed m (32 * w + 1) rest) g (simple bs h t g c k s) (armOf bs h t ds rest) (simple-few g c k s (v .sound)) go)
+        goes-on m (allowed m (32 * w + 1) rest) g (simple bs h t g c k s) (encodeArm bs h t ds rest) (simple-few g c k s (v .sound)) go)
         (λ depth close at k c first second rest end k₁ v go₁ go₂ go₃ g s.
         goes-on (m + (32 * w + 1) + allowed m (32 * w + 1) first + allowed m (32 * w + 1) second) (allowed m (32 * w + 1) rest) g
-        (forked bs h (entry ds (k .ifs)) g c s (armOf bs h t ds first) (armOf bs h t ds second)) (armOf bs h t ds rest)
-        (fork-few (armOf bs h t ds first) (armOf bs h t ds second) (allowed m (32 * w + 1) first) (allowed m (32 * w + 1) second) go₁ go₂
+        (encodeIf bs h (entry ds (k .ifs)) g c s (encodeArm bs h t ds first) (encodeArm bs h t ds second)) (encodeArm bs h t ds rest)
+        (fork-few (encodeArm bs h t ds first) (encodeArm bs h t ds second) (allowed m (32 * w + 1) first) (allowed m (32 * w + 1) second) go₁ go₂
         (entry ds (k .ifs)) g c s (v .sound))
         go₃)
 
   -- an arm takes at most 4 w (w + 1) variables for each command, and 32 w + 1 more for each if
   pub arm-bound : 1 ≤ w → Fine bs h → (t : Target) (ds : List ℕ) (a : Arm) (depth close at : ℕ) (k : Counts) (end : ℕ) (k₁ : Counts)
       → Stands bs h depth close at k a end k₁ → (g : ℕ) (s : Wires)
-      → length (armOf bs h t ds a g s .nodes) ≤ 4 * w * (w + 1) * commandsIn a + (32 * w + 1) * ifsIn a
+      → length (encodeArm bs h t ds a g s .nodes) ≤ 4 * w * (w + 1) * commandsIn a + (32 * w + 1) * ifsIn a
   arm-bound l f t ds a depth close at k end k₁ st g s =
-      subst (λ (n : ℕ). length (armOf bs h t ds a g s .nodes) ≤ n) (allowed-is (4 * w * (w + 1)) (32 * w + 1) a)
+      subst (λ (n : ℕ). length (encodeArm bs h t ds a g s .nodes) ≤ n) (allowed-is (4 * w * (w + 1)) (32 * w + 1) a)
       (arm-few (f .few) (4 * w * (w + 1)) (enough w l) t ds a depth close at k end k₁ st g s)
 
 -- ---- a routine
@@ -251,14 +251,14 @@ parameters-few bs h f =
 -- a translation whose widths are at most w takes at most so many variables
 pub whole-bound : (bs : List ℕ) (t : Target) (ds : List ℕ) (h : Header) (a : Arm) (k : Counts) → decode bs ≡ routine h a k → (w : ℕ) → 1 ≤ w
     → ((v : ℕ) → v < h .variables → width bs v ≤ w)
-    → length (whole bs t ds h a .nodes) ≤ 1 + 32 * w + 4 * w * (w + 1) * commandsIn a + (32 * w + 1) * k .ifs
-unfolding whole
+    → length (translationOf bs t ds h a .nodes) ≤ 1 + 32 * w + 4 * w * (w + 1) * commandsIn a + (32 * w + 1) * k .ifs
+unfolding translationOf
 whole-bound bs t ds h a k e w l narrow =
     let d = decoded bs h a k e in
     let f = fine bs h (d .header) in
     let ns : List Node = parameterNodes bs (given h) in
-    let s : Wires = start bs (given h) in
-    let x : Stretch = armOf bs h t ds a (2 + length ns) s in
+    let s : Wires = initialWires bs (given h) in
+    let x : Encoding = encodeArm bs h t ds a (2 + length ns) s in
     let p = parameters-short bs h w narrow (given h) (f .parameters) in
     let n : given h ≤ 32 = omega (arith, f .parameters, f .few) in
     let q : length (x .nodes) ≤ 4 * w * (w + 1) * commandsIn a + (32 * w + 1) * k .ifs =
@@ -268,7 +268,7 @@ whole-bound bs t ds h a k e w l narrow =
 -- after the parameters there is room for all commands of a routine, and for 2 ^ 25 variables more
 pub roomy : (bs : List ℕ) (t : Target) (ds : List ℕ) (h : Header) (a : Arm) (k : Counts) → decode bs ≡ routine h a k → (n : Net)
     → n .store .words ≤ 24 * n .next → n .store .clauses ≤ 6 * n .next → n .next ≤ 2048 → (g : ℕ) (s : Wires)
-    → Ready n (2 ^ 25 + length (armOf bs h t ds a g s .nodes))
+    → Ready n (2 ^ 25 + length (encodeArm bs h t ds a g s .nodes))
 roomy bs t ds h a k e n words clauses next g s =
     let d = decoded bs h a k e in
     let f = fine bs h (d .header) in
@@ -283,20 +283,20 @@ last-few (Claim.Made arrival side) = (omega arith, omega arith)
 
 module _ (bs : List ℕ) (t : Target) (ds : List ℕ) (h : Header) (a : Arm) where
   -- at most 6 clauses for each variable: variable 1 has one, which leaves room for the last two
-  pub clauses-bound : length (clausesOfAll (whole bs t ds h a)) ≤ 6 * length (whole bs t ds h a .nodes)
-  unfolding clausesOfAll clausesOf nodeClauses whole
+  pub clauses-bound : length (clausesOfAll (translationOf bs t ds h a)) ≤ 6 * length (translationOf bs t ds h a .nodes)
+  unfolding clausesOfAll netlistClauses nodeClauses translationOf
   clauses-bound =
-      let x = armOf bs h t ds a (2 + length (parameterNodes bs (given h))) (start bs (given h)) in
+      let x = encodeArm bs h t ds a (2 + length (parameterNodes bs (given h))) (initialWires bs (given h)) in
       let ns = parameterNodes bs (given h) ++ x .nodes in
       simp length-append (omega (arith, clausesOf-few 2 ns, last-few (x .wires .claim) .0, length-append (parameterNodes bs (given h)) (x .nodes)))
 
   -- and at most 24 words
-  pub words-bound : length (flatten (clausesOfAll (whole bs t ds h a))) ≤ 24 * length (whole bs t ds h a .nodes)
-  unfolding clausesOfAll clausesOf nodeClauses whole
+  pub words-bound : length (flatten (clausesOfAll (translationOf bs t ds h a))) ≤ 24 * length (translationOf bs t ds h a .nodes)
+  unfolding clausesOfAll netlistClauses nodeClauses translationOf
   words-bound =
-      let x = armOf bs h t ds a (2 + length (parameterNodes bs (given h))) (start bs (given h)) in
+      let x = encodeArm bs h t ds a (2 + length (parameterNodes bs (given h))) (initialWires bs (given h)) in
       let ns = parameterNodes bs (given h) ++ x .nodes in
-      let cs = clausesOf 2 ns in
+      let cs = netlistClauses 2 ns in
       let ls = lastClauses (x .wires .claim) in
       let e : length (flatten (cs ++ ls)) ≡ length (flatten cs) + length (flatten ls) = ap length (flatten-append cs ls) ∙ length-append (flatten cs) (flatten ls) in
       omega (arith, e, clausesOf-short 2 ns, last-few (x .wires .claim) .1, length-append (parameterNodes bs (given h)) (x .nodes))

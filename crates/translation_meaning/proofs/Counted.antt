@@ -3,8 +3,8 @@ use mathlib.Core.Path.{_≡_}
 use mathlib.Core.List.{List}
 use Prim.Native.Nat.{ℕ, _+_, _*_, _≤_}
 use native.Mathlib.Omega.{arith}
-use Rattle.routine_command.specs.Command.{sizeOfSimple}
-use Rattle.routine.specs.Routine.{Arm, done, plain, fork}
+use Rattle.routine_command.specs.Command.{simpleSize}
+use Rattle.routine.specs.Routine.{Arm, done, plain, ifElse}
 use Rattle.routine.specs.Decode.{routine, decode}
 use Rattle.routine.specs.Inner.Stands.{Stands}
 use Rattle.routine_header.specs.declared.Header.{Header}
@@ -18,16 +18,16 @@ use Rattle.routine.proofs.Counting.{same-ifs}
 unfoldable pub commandsIn : Arm → ℕ
 commandsIn done = 0
 commandsIn (plain at c k rest) = 1 + commandsIn rest
-commandsIn (fork at c k first second rest) = 1 + commandsIn first + commandsIn second + commandsIn rest
+commandsIn (ifElse at c k first second rest) = 1 + commandsIn first + commandsIn second + commandsIn rest
 
 -- its ifs, those in the arms of its ifs too
 unfoldable pub ifsIn : Arm → ℕ
 ifsIn done = 0
 ifsIn (plain at c k rest) = ifsIn rest
-ifsIn (fork at c k first second rest) = 1 + ifsIn first + ifsIn second + ifsIn rest
+ifsIn (ifElse at c k first second rest) = 1 + ifsIn first + ifsIn second + ifsIn rest
 
 -- a command takes at least 3 bytes
-three-bytes : (c : Simple) → 3 ≤ sizeOfSimple c
+three-bytes : (c : Simple) → 3 ≤ simpleSize c
 three-bytes (Simple.Set d c) = omega arith
 three-bytes (Simple.Convert op d s) = omega arith
 three-bytes (Simple.Compute op d s t) = omega arith

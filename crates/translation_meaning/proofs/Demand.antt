@@ -39,10 +39,10 @@ use Rattle.netlist.specs.Inner.Value.{nodeVal}
 use Rattle.netlist.proofs.Literals.{lit-true}
 use Rattle.netlist.proofs.Model.{WellFormed, valueAt, eval, satisfied-iff, evaluated}
 use Rattle.netlist.proofs.Truth.{Models, models-iff, models-append}
-use Rattle.translation_command.specs.Command.{Stretch}
+use Rattle.translation_command.specs.Command.{Encoding}
 use Rattle.translation_state.specs.Wires.{Wires, isMade}
-use Rattle.translation_meaning.specs.Walk.{armOf}
-use Rattle.translation_meaning.specs.Translation.{parameterNodes, start, whole}
+use Rattle.translation_meaning.specs.Walk.{encodeArm}
+use Rattle.translation_meaning.specs.Translation.{parameterNodes, initialWires, translationOf}
 use Rattle.translation_meaning.specs.Faithful.{bitsOfList, Solves, Faithful, Demand2}
 use Rattle.translation_state.specs.declared.Claim.{Claim}
 use Rattle.lead.specs.declared.Target.{Target}
@@ -117,11 +117,11 @@ module _ (bs : List ℕ) (t : Target) (ds : List ℕ) (h : Header) (a : Arm) (k 
   abbrev g : ℕ
   g = 2 + length ps
 
-  abbrev x : Stretch
-  x = armOf bs h t ds a g (start bs (given h))
+  abbrev x : Encoding
+  x = encodeArm bs h t ds a g (initialWires bs (given h))
 
-  start-open : start bs (given h) .claim ≡ Claim.Open
-  unfolding start
+  start-open : initialWires bs (given h) .claim ≡ Claim.Open
+  unfolding initialWires
   start-open = refl
 
   -- the claim is made
@@ -131,7 +131,7 @@ module _ (bs : List ℕ) (t : Target) (ds : List ℕ) (h : Header) (a : Arm) (k 
       pick : (b : Bool) → isMade (x .wires .claim) ≡ b → isMade (x .wires .claim) ≡ true
       pick true e = e
       pick false e =
-          let p = arm-claims t bs h ds a 0 0 (firstCommand h) noCounts (length bs) k stands g (start bs (given h)) start-open .unnamed e (omega arith) in
+          let p = arm-claims t bs h ds a 0 0 (firstCommand h) noCounts (length bs) k stands g (initialWires bs (given h)) start-open .unnamed e (omega arith) in
           absurd (omega arith)
 
   made : MadeBy (x .wires .claim)
@@ -140,9 +140,9 @@ module _ (bs : List ℕ) (t : Target) (ds : List ℕ) (h : Header) (a : Arm) (k 
   claims : x .wires .claim ≡ Claim.Made (x .wires .arrival) (made .side)
   claims =
       made .is
-      ∙ ap (λ (z : ℕ). Claim.Made z (made .side)) (arm-settled t bs h ds a g (start bs (given h)) start-open (made .arrival) (made .side) (made .is))
+      ∙ ap (λ (z : ℕ). Claim.Made z (made .side)) (arm-settled t bs h ds a g (initialWires bs (given h)) start-open (made .arrival) (made .side) (made .is))
 
-  formed : WellFormed 1 (whole bs t ds h a .nodes)
+  formed : WellFormed 1 (translationOf bs t ds h a .nodes)
   formed = whole-formed bs h ok t ds a (firstCommand h) noCounts (length bs) k stands
 
   module _ (ins : List ℕ) (accepted : listed bs ins h a k ≡ Listed.Accepted) where
@@ -152,21 +152,21 @@ module _ (bs : List ℕ) (t : Target) (ds : List ℕ) (h : Header) (a : Arm) (k 
     fits : Fitting bs ins h a
     fits = fitting bs ins h a k is accepted
 
-    module _ (ρ : Assign) (solves : Solves ins (whole bs t ds h a) ρ) where
-      models : Models I ρ 1 (whole bs t ds h a .nodes)
-      models = models-iff I ρ 1 (whole bs t ds h a .nodes) .0 (solves .satisfies, solves .extends)
+    module _ (ρ : Assign) (solves : Solves ins (translationOf bs t ds h a) ρ) where
+      models : Models I ρ 1 (translationOf bs t ds h a .nodes)
+      models = models-iff I ρ 1 (translationOf bs t ds h a .nodes) .0 (solves .satisfies, solves .extends)
 
       truth : ρ 1 ≡ true
-      unfolding whole nodeVal
+      unfolding translationOf nodeVal
       truth = models .0
 
       parts : Models I ρ 2 ps × Models I ρ g (x .nodes)
-      unfolding whole
+      unfolding translationOf
       parts = models-append I ρ 2 ps (x .nodes) (models .1)
 
       -- at the start the parameters have their words
-      alive : Alive bs ins h ok t ds before ρ truth (start bs (given h)) (state.start ins (given h))
-      unfolding start state.start
+      alive : Alive bs ins h ok t ds before ρ truth (initialWires bs (given h)) (state.initial ins (given h))
+      unfolding initialWires state.initial
       alive = record {
         unclaimed = refl;
         come = lit-true ρ truth;
@@ -178,7 +178,7 @@ module _ (bs : List ℕ) (t : Target) (ds : List ℕ) (h : Header) (a : Arm) (k 
       unfolding runOf
       tally =
           arm-alive bs ins h ok t ds before ρ truth side few a 0 0 (firstCommand h) noCounts (length bs) k stands (fits .reads)
-          (ifs-before bs h a k is (t .access) named) (omega arith) g (start bs (given h)) (state.start ins (given h)) (parts .1) alive
+          (ifs-before bs h a k is (t .access) named) (omega arith) g (initialWires bs (given h)) (state.initial ins (given h)) (parts .1) alive
 
   -- its course arrived just where it goes the way and comes to the access
   same : (ins : List ℕ) (array : ℕ) (index : Whole) → (course ds (t .access) before (runOf bs ins h a .events) ≡ Course.Arrived array index)
@@ -186,16 +186,16 @@ module _ (bs : List ℕ) (t : Target) (ds : List ℕ) (h : Header) (a : Arm) (k 
   same ins = arrival bs ins ds h a k is (t .access) named
 
   all-parts : Faithful bs t ds h a k
-  unfolding whole
+  unfolding translationOf
   all-parts = record {
     arrival = x .wires .arrival;
     side = made .side;
     claims = claims;
-    solution = λ ins e. valueAt (eval (bitsOfList ins) (whole bs t ds h a .nodes));
-    solves = λ ins e. let p = evaluated (bitsOfList ins) (whole bs t ds h a .nodes) formed in record { satisfies = p .0; extends = p .1 };
+    solution = λ ins e. valueAt (eval (bitsOfList ins) (translationOf bs t ds h a .nodes));
+    solves = λ ins e. let p = evaluated (bitsOfList ins) (translationOf bs t ds h a .nodes) formed in record { satisfies = p .0; extends = p .1 };
     only = λ ins e ρ σ p q v l m.
-        satisfied-iff (bitsOfList ins) ρ (whole bs t ds h a .nodes) formed .0 (p .satisfies, p .extends) v l m
-        ∙ sym (satisfied-iff (bitsOfList ins) σ (whole bs t ds h a .nodes) formed .0 (q .satisfies, q .extends) v l m);
+        satisfied-iff (bitsOfList ins) ρ (translationOf bs t ds h a .nodes) formed .0 (p .satisfies, p .extends) v l m
+        ∙ sym (satisfied-iff (bitsOfList ins) σ (translationOf bs t ds h a .nodes) formed .0 (q .satisfies, q .extends) v l m);
     arrives = λ ins e ρ p. arrives-says bs h ok t ds before ρ (x .wires) (made .side) claims (runOf bs ins h a .events) (same ins) (runOf bs ins h a .state) (tally ins e ρ p);
     lies = λ ins e ρ p. lies-says bs h ok t ds before ρ (x .wires) (made .side) claims (runOf bs ins h a .events) (same ins) (runOf bs ins h a .state) (tally ins e ρ p);
   }

@@ -15,9 +15,8 @@ use Rattle.routine_faults.specs.Inner.Sound.{SoundIf, Fine}
 use Rattle.routine_header.specs.declared.Header.{Header}
 use Rattle.routine_command.specs.declared.Condition.{Condition}
 use Rattle.routine_faults.proofs.Fine.{condition-fine}
-use Rattle.run.specs.State.{take, holds}
-use Rattle.run.specs.Run as run
-use Rattle.run.specs.Run.{took}
+use Rattle.run.specs.State.{withArm, holds}
+use Rattle.run.specs.Run.{took, Execution, eventsThen}
 use Rattle.run.specs.declared.State.{State}
 use Rattle.run.specs.Course.{follows, courseTo, course}
 use Rattle.run.specs.declared.Course.{Course}
@@ -27,9 +26,9 @@ use Rattle.netlist.proofs.Truth.{Models, models-append}
 use Rattle.arithmetic.proofs.Values.{value}
 use Rattle.comparison.proofs.Relating.{relation-value}
 use Rattle.translation_state.specs.Wires.{Wires, bitsOf, arriving, isMade}
-use Rattle.translation_command.specs.Command.{Stretch}
-use Rattle.translation_if.specs.Branch.{conditionOf, arrivals, joined}
-use Rattle.translation_meaning.specs.Walk.{forked}
+use Rattle.translation_command.specs.Command.{Encoding}
+use Rattle.translation_if.specs.If.{conditionOf, arrivals, joinArms}
+use Rattle.translation_meaning.specs.Walk.{encodeIf}
 use Rattle.translation_meaning.specs.Faithful.{bitsOfList}
 use Rattle.translation_state.specs.declared.Claim.{Claim}
 use Rattle.lead.specs.declared.Target.{Target}
@@ -79,40 +78,40 @@ module _ (bs ins : List ℕ) (h : Header) (fine : Fine bs h) (t : Target) (ds : 
 
   -- ---- the end of an if
 
-  module _ (g l : ℕ) (x y : Wires) (m : Models I ρ g (joined bs h g l x y .nodes)) (c : Course) (r : State) where
-    joined-open : joined bs h g l x y .wires .claim ≡ Claim.Open
-    unfolding joined
+  module _ (g l : ℕ) (x y : Wires) (m : Models I ρ g (joinArms bs h g l x y .nodes)) (c : Course) (r : State) where
+    joined-open : joinArms bs h g l x y .wires .claim ≡ Claim.Open
+    unfolding joinArms
     joined-open = refl
 
-    left-first : lit ρ (y .arrival) ≡ false → lit ρ (joined bs h g l x y .wires .arrival) ≡ lit ρ (x .arrival)
+    left-first : lit ρ (y .arrival) ≡ false → lit ρ (joinArms bs h g l x y .wires .arrival) ≡ lit ρ (x .arrival)
     left-first e = joined-lit I ρ bs h g l x y m ∙ ap (λ (b : Bool). lit ρ (x .arrival) || b) e ∙ or-false (lit ρ (x .arrival))
       where
         or-false : (b : Bool) → (b || false) ≡ b
         or-false true = refl
         or-false false = refl
 
-    left-else : lit ρ (x .arrival) ≡ false → lit ρ (joined bs h g l x y .wires .arrival) ≡ lit ρ (y .arrival)
+    left-else : lit ρ (x .arrival) ≡ false → lit ρ (joinArms bs h g l x y .wires .arrival) ≡ lit ρ (y .arrival)
     left-else e = joined-lit I ρ bs h g l x y m ∙ ap (λ (b : Bool). b || lit ρ (y .arrival)) e
 
-    first-worth : lit ρ l ≡ true → length (x .lits) ≡ 1024 → Worth bs h fine ρ (x .lits) (r .values) → Worth bs h fine ρ (joined bs h g l x y .wires .lits) (r .values)
-    unfolding joined
+    first-worth : lit ρ l ≡ true → length (x .lits) ≡ 1024 → Worth bs h fine ρ (x .lits) (r .values) → Worth bs h fine ρ (joinArms bs h g l x y .wires .lits) (r .values)
+    unfolding joinArms
     first-worth e n w = join-first bs h fine ρ I g l (x .lits) (y .lits) n (r .values) e (joined-gates I ρ bs h g l x y m) w
 
     -- the first arm was taken
     joined-first : lit ρ l ≡ true → lit ρ (y .arrival) ≡ false → length (x .lits) ≡ 1024 → isMade (x .claim) ≡ false → Tally bs h fine t ds before ρ x c r
-        → Tally bs h fine t ds before ρ (joined bs h g l x y .wires) c r
+        → Tally bs h fine t ds before ρ (joinArms bs h g l x y .wires) c r
     joined-first e f n q (through a b p u w) = through joined-open (left-first f ∙ b) p u (first-worth e n w)
     joined-first e f n q (lost a b p) = lost joined-open (left-first f ∙ b) p
     joined-first e f n q (missed a b p) = not-both (isMade (x .claim)) a q
     joined-first e f n q (here side array index a b p v) = not-both (isMade (x .claim)) (ap isMade a) q
 
-    else-worth : lit ρ l ≡ false → length (x .lits) ≡ 1024 → Worth bs h fine ρ (y .lits) (r .values) → Worth bs h fine ρ (joined bs h g l x y .wires .lits) (r .values)
-    unfolding joined
+    else-worth : lit ρ l ≡ false → length (x .lits) ≡ 1024 → Worth bs h fine ρ (y .lits) (r .values) → Worth bs h fine ρ (joinArms bs h g l x y .wires .lits) (r .values)
+    unfolding joinArms
     else-worth e n w = join-second bs h fine ρ I g l (x .lits) (y .lits) n (r .values) e (joined-gates I ρ bs h g l x y m) w
 
     -- the else was taken
     joined-else : lit ρ l ≡ false → lit ρ (x .arrival) ≡ false → length (x .lits) ≡ 1024 → isMade (y .claim) ≡ false → Tally bs h fine t ds before ρ y c r
-        → Tally bs h fine t ds before ρ (joined bs h g l x y .wires) c r
+        → Tally bs h fine t ds before ρ (joinArms bs h g l x y .wires) c r
     joined-else e f n q (through a b p u w) = through joined-open (left-else f ∙ b) p u (else-worth e n w)
     joined-else e f n q (lost a b p) = lost joined-open (left-else f ∙ b) p
     joined-else e f n q (missed a b p) = not-both (isMade (y .claim)) a q
@@ -121,11 +120,11 @@ module _ (bs ins : List ℕ) (h : Header) (fine : Fine bs h) (t : Target) (ds : 
   -- ---- the whole if
 
   -- what an arm's translation and its run do, from where they are come to
-  abbrev pub Runs : (ℕ → Wires → Stretch) → (State → run.Stretch) → Type 0
+  abbrev pub Runs : (ℕ → Wires → Encoding) → (State → Execution) → Type 0
   Runs go on = (g : ℕ) (s : Wires) (r : State) → Models I ρ g (go g s .nodes) → Alive bs ins h fine t ds before ρ o s r → Tallies bs h fine t ds before ρ (go g s) (on r)
 
   -- what is known of the two arms
-  pub record Arms (first second : ℕ → Wires → Stretch) (on₁ on₂ : State → run.Stretch) : Type 0 where
+  pub record Arms (first second : ℕ → Wires → Encoding) (on₁ on₂ : State → Execution) : Type 0 where
     pub one : Runs first on₁
     -- where the named access is not in the first arm
     pub two : (g : ℕ) (s : Wires) → s .claim ≡ Claim.Open → isMade (first g s .wires .claim) ≡ false → Runs second on₂
@@ -136,7 +135,7 @@ module _ (bs ins : List ℕ) (h : Header) (fine : Fine bs h) (t : Target) (ds : 
     pub apart : (g : ℕ) (s : Wires) → s .claim ≡ Claim.Open → isMade (first g s .wires .claim) ≡ true → (r : State) → Elsewhere (course ds (t .access) before (on₂ r .events))
 
   -- the if of number n, which stands before the named access
-  module _ (first second : ℕ → Wires → Stretch) (on₁ on₂ : State → run.Stretch) (arms : Arms first second on₁ on₂) (n : ℕ) (few : entry ds n ≤ 2)
+  module _ (first second : ℕ → Wires → Encoding) (on₁ on₂ : State → Execution) (arms : Arms first second on₁ on₂) (n : ℕ) (few : entry ds n ≤ 2)
       (ahead : n < before) (g : ℕ) (c : Condition) (s : Wires) (r : State) (sound : SoundIf bs h c) (a : Alive bs ins h fine t ds before ρ o s r) where
     -- the decision, the condition's literal, and the parts of the if
     abbrev d : ℕ
@@ -145,13 +144,13 @@ module _ (bs ins : List ℕ) (h : Header) (fine : Fine bs h) (t : Target) (ds : 
     abbrev l : ℕ
     l = conditionOf bs g c s .lit
 
-    abbrev x : Stretch
+    abbrev x : Encoding
     x = firstOf bs h d g c s first second
 
-    abbrev y : Stretch
+    abbrev y : Encoding
     y = secondOf bs h d g c s first second
 
-    abbrev j : Stretch
+    abbrev j : Encoding
     j = joinOf bs h d g c s first second
 
     abbrev g₁ : ℕ
@@ -174,7 +173,7 @@ module _ (bs ins : List ℕ) (h : Header) (fine : Fine bs h) (t : Target) (ds : 
 
     -- the models of the whole if, of its condition, and of the gates of both arrivals
     abbrev Fork-models : Type 0
-    Fork-models = Models I ρ g (forked bs h d g c s first second .nodes)
+    Fork-models = Models I ρ g (encodeIf bs h d g c s first second .nodes)
 
     abbrev Condition-models : Type 0
     Condition-models = Models I ρ g (conditionOf bs g c s .nodes)
@@ -189,11 +188,11 @@ module _ (bs ins : List ℕ) (h : Header) (fine : Fine bs h) (t : Target) (ds : 
         → isMade (y .wires .claim) ≡ true → P (y .wires))
         → (Condition-models → Branch-models → Models I ρ g₂ (x .nodes) → Models I ρ g₃ (y .nodes) → Models I ρ g₄ (j .nodes)
         → isMade (x .wires .claim) ≡ false → isMade (y .wires .claim) ≡ false → P (j .wires))
-        → Models I ρ g (forked bs h d g c s first second .nodes) → P (forked bs h d g c s first second .wires)
+        → Models I ρ g (encodeIf bs h d g c s first second .nodes) → P (encodeIf bs h d g c s first second .wires)
     by-claim P p q k =
         let cn = conditionOf bs g c s .nodes in
         let bn = arrivals d g₁ (s .arrival) l .nodes in
-        fork-by bs h d g c s first second (λ (z : Stretch). Models I ρ g (z .nodes) → P (z .wires))
+        fork-by bs h d g c s first second (λ (z : Encoding). Models I ρ g (z .nodes) → P (z .wires))
         (λ e m. let u = models-three I ρ g cn bn (x .nodes) m in p (u .0) (u .1) (u .2) e)
         (λ e f m.
         let u = models-three I ρ g cn bn (x .nodes ++ y .nodes) m in
@@ -208,7 +207,7 @@ module _ (bs ins : List ℕ) (h : Header) (fine : Fine bs h) (t : Target) (ds : 
     says : Condition-models → lit ρ l ≡ holds bs c r
     says m = condition-says g c s r sound m (a .worth)
 
-    alive-at : (k : ℕ) (arm : ℕ) → lit ρ k ≡ true → Alive bs ins h fine t ds before ρ o (arriving s k) (take r n arm)
+    alive-at : (k : ℕ) (arm : ℕ) → lit ρ k ≡ true → Alive bs ins h fine t ds before ρ o (arriving s k) (withArm r n arm)
     alive-at k arm e = record { unclaimed = a .unclaimed; come = e; going = a .going; worth = a .worth }
 
     -- the arrivals of the arms, by the truth of the condition
@@ -233,8 +232,8 @@ module _ (bs ins : List ℕ) (h : Header) (fine : Fine bs h) (t : Target) (ds : 
     -- ---- the first arm is taken
 
     module _ (e : holds bs c r ≡ true) where
-      abbrev z₁ : run.Stretch
-      z₁ = on₁ (take r n 0)
+      abbrev z₁ : Execution
+      z₁ = on₁ (withArm r n 0)
 
       abbrev c₁ : Course
       c₁ = course ds (t .access) before (z₁ .events)
@@ -244,7 +243,7 @@ module _ (bs ins : List ℕ) (h : Header) (fine : Fine bs h) (t : Target) (ds : 
           arms .dead₂ g₃ s₂ ym (else-come cm bm ∙ ap (λ (b : Bool). cond (eqb d 0) false (not b)) e ∙ never (eqb d 0))
 
       -- the else was decided: the run goes astray, and both arms are dead
-      first-astray : eqb d 1 ≡ true → Fork-models → Tally bs h fine t ds before ρ (forked bs h d g c s first second .wires) (Course.Astray n) (z₁ .state)
+      first-astray : eqb d 1 ≡ true → Fork-models → Tally bs h fine t ds before ρ (encodeIf bs h d g c s first second .wires) (Course.Astray n) (z₁ .state)
       first-astray q =
           by-claim (λ (w : Wires). Tally bs h fine t ds before ρ w (Course.Astray n) (z₁ .state))
           (λ cm bm xm p. not-here bs h fine t ds before ρ (x .wires) (Course.Astray n) (z₁ .state) (dead cm bm xm) (strays (z₁ .state)))
@@ -256,7 +255,7 @@ module _ (bs ins : List ℕ) (h : Header) (fine : Fine bs h) (t : Target) (ds : 
           dead cm bm xm = arms .dead₁ g₂ s₁ xm (first-come cm bm ∙ ap (λ (b : Bool). cond b false (holds bs c r)) q)
 
       -- it was not: the first arm is run
-      first-taken : eqb d 1 ≡ false → Fork-models → Tally bs h fine t ds before ρ (forked bs h d g c s first second .wires) c₁ (z₁ .state)
+      first-taken : eqb d 1 ≡ false → Fork-models → Tally bs h fine t ds before ρ (encodeIf bs h d g c s first second .wires) c₁ (z₁ .state)
       first-taken q =
           by-claim (λ (w : Wires). Tally bs h fine t ds before ρ w c₁ (z₁ .state))
           (λ cm bm xm p. tally cm bm xm)
@@ -264,23 +263,23 @@ module _ (bs ins : List ℕ) (h : Header) (fine : Fine bs h) (t : Target) (ds : 
           (λ cm bm xm ym jm p p₁. joined-first g₄ l (x .wires) (y .wires) jm c₁ (z₁ .state) (says cm ∙ e) (else-dead cm bm ym) first-places p (tally cm bm xm))
         where
           tally : Condition-models → Branch-models → Models I ρ g₂ (x .nodes) → Tally bs h fine t ds before ρ (x .wires) c₁ (z₁ .state)
-          tally cm bm xm = arms .one g₂ s₁ (take r n 0) xm (alive-at (arrivals d g₁ (s .arrival) l .first) 0 (first-come cm bm ∙ ap₂ (λ (p v : Bool). cond p false v) q e))
+          tally cm bm xm = arms .one g₂ s₁ (withArm r n 0) xm (alive-at (arrivals d g₁ (s .arrival) l .first) 0 (first-come cm bm ∙ ap₂ (λ (p v : Bool). cond p false v) q e))
 
-      first-run : Fork-models → Tallies bs h fine t ds before ρ (forked bs h d g c s first second) (run.after (took n 0 ∷ []) z₁)
+      first-run : Fork-models → Tallies bs h fine t ds before ρ (encodeIf bs h d g c s first second) (eventsThen (took n 0 ∷ []) z₁)
       unfolding courseTo
       first-run mm =
           rw (lt-ltb n before ahead, follows-first d few)
           (pick (eqb d 1) refl)
         where
-          pick : (b : Bool) → eqb d 1 ≡ b → Tally bs h fine t ds before ρ (forked bs h d g c s first second .wires) (cond (not b) c₁ (Course.Astray n)) (z₁ .state)
+          pick : (b : Bool) → eqb d 1 ≡ b → Tally bs h fine t ds before ρ (encodeIf bs h d g c s first second .wires) (cond (not b) c₁ (Course.Astray n)) (z₁ .state)
           pick true q = first-astray q mm
           pick false q = first-taken q mm
 
     -- ---- the else is taken
 
     module _ (e : holds bs c r ≡ false) where
-      abbrev z₂ : run.Stretch
-      z₂ = on₂ (take r n 1)
+      abbrev z₂ : Execution
+      z₂ = on₂ (withArm r n 1)
 
       abbrev c₂ : Course
       c₂ = course ds (t .access) before (z₂ .events)
@@ -289,7 +288,7 @@ module _ (bs ins : List ℕ) (h : Header) (fine : Fine bs h) (t : Target) (ds : 
       first-dead cm bm xm = arms .dead₁ g₂ s₁ xm (first-come cm bm ∙ ap (λ (b : Bool). cond (eqb d 1) false b) e ∙ never (eqb d 1))
 
       -- the first arm was decided: the run goes astray, and both arms are dead
-      else-astray : eqb d 0 ≡ true → Fork-models → Tally bs h fine t ds before ρ (forked bs h d g c s first second .wires) (Course.Astray n) (z₂ .state)
+      else-astray : eqb d 0 ≡ true → Fork-models → Tally bs h fine t ds before ρ (encodeIf bs h d g c s first second .wires) (Course.Astray n) (z₂ .state)
       else-astray q =
           by-claim (λ (w : Wires). Tally bs h fine t ds before ρ w (Course.Astray n) (z₂ .state))
           (λ cm bm xm p. not-here bs h fine t ds before ρ (x .wires) (Course.Astray n) (z₂ .state) (first-dead cm bm xm) (strays (z₂ .state)))
@@ -301,33 +300,33 @@ module _ (bs ins : List ℕ) (h : Header) (fine : Fine bs h) (t : Target) (ds : 
           dead cm bm ym = arms .dead₂ g₃ s₂ ym (else-come cm bm ∙ ap (λ (b : Bool). cond b false (not (holds bs c r))) q)
 
       -- it was not: the else is run
-      else-taken : eqb d 0 ≡ false → Fork-models → Tally bs h fine t ds before ρ (forked bs h d g c s first second .wires) c₂ (z₂ .state)
+      else-taken : eqb d 0 ≡ false → Fork-models → Tally bs h fine t ds before ρ (encodeIf bs h d g c s first second .wires) c₂ (z₂ .state)
       else-taken q =
           by-claim (λ (w : Wires). Tally bs h fine t ds before ρ w c₂ (z₂ .state))
-          (λ cm bm xm p. missed p (first-dead cm bm xm) (arms .apart g₂ s₁ (a .unclaimed) p (take r n 1)))
+          (λ cm bm xm p. missed p (first-dead cm bm xm) (arms .apart g₂ s₁ (a .unclaimed) p (withArm r n 1)))
           (λ cm bm xm ym p p₁. tally p cm bm ym)
           (λ cm bm xm ym jm p p₁. joined-else g₄ l (x .wires) (y .wires) jm c₂ (z₂ .state) (says cm ∙ e) (first-dead cm bm xm) first-places p₁ (tally p cm bm ym))
         where
           tally : isMade (x .wires .claim) ≡ false → Condition-models → Branch-models → Models I ρ g₃ (y .nodes) → Tally bs h fine t ds before ρ (y .wires) c₂ (z₂ .state)
           tally u cm bm ym =
-              arms .two g₂ s₁ (a .unclaimed) u g₃ s₂ (take r n 1) ym
+              arms .two g₂ s₁ (a .unclaimed) u g₃ s₂ (withArm r n 1) ym
               (alive-at (arrivals d g₁ (s .arrival) l .second) 1 (else-come cm bm ∙ ap₂ (λ (p v : Bool). cond p false (not v)) q e))
 
-      else-run : Fork-models → Tallies bs h fine t ds before ρ (forked bs h d g c s first second) (run.after (took n 1 ∷ []) z₂)
+      else-run : Fork-models → Tallies bs h fine t ds before ρ (encodeIf bs h d g c s first second) (eventsThen (took n 1 ∷ []) z₂)
       unfolding courseTo
       else-run mm =
           rw (lt-ltb n before ahead, follows-else d few)
           (pick (eqb d 0) refl)
         where
-          pick : (b : Bool) → eqb d 0 ≡ b → Tally bs h fine t ds before ρ (forked bs h d g c s first second .wires) (cond (not b) c₂ (Course.Astray n)) (z₂ .state)
+          pick : (b : Bool) → eqb d 0 ≡ b → Tally bs h fine t ds before ρ (encodeIf bs h d g c s first second .wires) (cond (not b) c₂ (Course.Astray n)) (z₂ .state)
           pick true q = else-astray q mm
           pick false q = else-taken q mm
 
     -- an if
-    pub fork-alive : Models I ρ g (forked bs h d g c s first second .nodes)
-        → Tallies bs h fine t ds before ρ (forked bs h d g c s first second)
-        (cond (holds bs c r) (run.after (took n 0 ∷ []) (on₁ (take r n 0))) (run.after (took n 1 ∷ []) (on₂ (take r n 1))))
+    pub fork-alive : Models I ρ g (encodeIf bs h d g c s first second .nodes)
+        → Tallies bs h fine t ds before ρ (encodeIf bs h d g c s first second)
+        (cond (holds bs c r) (eventsThen (took n 0 ∷ []) (on₁ (withArm r n 0))) (eventsThen (took n 1 ∷ []) (on₂ (withArm r n 1))))
     fork-alive m =
-        by-cond (Tallies bs h fine t ds before ρ (forked bs h d g c s first second)) (holds bs c r)
-        (run.after (took n 0 ∷ []) (on₁ (take r n 0))) (run.after (took n 1 ∷ []) (on₂ (take r n 1)))
+        by-cond (Tallies bs h fine t ds before ρ (encodeIf bs h d g c s first second)) (holds bs c r)
+        (eventsThen (took n 0 ∷ []) (on₁ (withArm r n 0))) (eventsThen (took n 1 ∷ []) (on₂ (withArm r n 1)))
         (λ e. first-run e m) (λ e. else-run e m)

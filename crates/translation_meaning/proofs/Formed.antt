@@ -38,13 +38,13 @@ use Rattle.arithmetic.proofs.Extend.{const-before, extend-before}
 use Rattle.arithmetic.proofs.Input.{length-inputs, inputs-formed, input-before}
 use Rattle.comparison.proofs.Access.{above-formed, above-before}
 use Rattle.comparison.proofs.Relating.{relation-formed, relation-before}
-use Rattle.translation_state.specs.Wires.{Wires, bitsPut, bitsOf, put, arriving}
-use Rattle.translation_command.specs.Command.{Stretch, after, still, access, readInto, simple}
+use Rattle.translation_state.specs.Wires.{Wires, bitsSet, bitsOf, withBits, arriving}
+use Rattle.translation_command.specs.Command.{Encoding, nodesThen, still, access, readInto, simple}
 use Rattle.translation_command.specs.Operation.{conversion, computation}
 use Rattle.translation_access.specs.Index.{top, passing, claim}
-use Rattle.translation_meaning.specs.Walk.{andThen, forked, armOf}
-use Rattle.translation_if.specs.Branch.{Arrivals, conditionOf, armArrival, arrivals}
-use Rattle.translation_meaning.specs.Translation.{parameterNodes, parameterLits, start, whole}
+use Rattle.translation_meaning.specs.Walk.{encodeOn, encodeIf, encodeArm}
+use Rattle.translation_if.specs.If.{Arrivals, conditionOf, armArrival, arrivals}
+use Rattle.translation_meaning.specs.Translation.{parameterNodes, parameterLits, initialWires, translationOf}
 use Rattle.translation_state.specs.declared.Claim.{Claim}
 use Rattle.lead.specs.declared.Target.{Target}
 use Rattle.translation_meaning.proofs.Stretches.{then-by, access-by, fork-by, firstFrom, firstWires, firstOf, secondFrom, secondWires, secondOf, joinFrom, joinOf}
@@ -123,7 +123,7 @@ module _ (bs : List ℕ) (h : Header) (fine : Fine bs h) where
 
   module _ (t : Target) where
     -- an access, and what goes on after it
-    at-access : (g array i : ℕ) (k : Counts) (s : Wires) (go : ℕ → Wires → Stretch) → i < h .variables → Wired g s
+    at-access : (g array i : ℕ) (k : Counts) (s : Wires) (go : ℕ → Wires → Encoding) → i < h .variables → Wired g s
         → ((g₁ : ℕ) (u : Wires) → Wired g₁ u → Made g₁ (go g₁ u)) → Made g (access bs h t g array i k s go)
     at-access g array i k s go l w f =
         let a : Bits = bitsOf bs s i in
@@ -155,11 +155,11 @@ module _ (bs : List ℕ) (h : Header) (fine : Fine bs h) where
 
     pub simple-made : (g : ℕ) (c : Simple) (k : Counts) (s : Wires) → Sound bs h c → Wired g s → Made g (simple bs h t g c k s)
     unfolding simple
-    simple-made g (Simple.Set d c) k s q w = still-made g (put bs s d (constBit c)) (wired-put bs g s w d (constBit c) (const-before g c (width bs d) (w .some)))
+    simple-made g (Simple.Set d c) k s q w = still-made g (withBits bs s d (constBit c)) (wired-put bs g s w d (constBit c) (const-before g c (width bs d) (w .some)))
     simple-made g (Simple.Convert op d a) k s q w =
         let p = convert-fine bs h op d a q in
         let f : Bits = conversion op (bitsOf bs s a) (width bs a) in
-        still-made g (put bs s d f)
+        still-made g (withBits bs s d f)
         (wired-put bs g s w d f (convert-before op g (bitsOf bs s a) (width bs a) (width bs d) (wide bs h fine a (p .1)) (w .some) (var-bits bs h fine g s w a (p .1))))
     simple-made g (Simple.Compute op d a b) k s q w =
         let p = compute-fine bs h op d a b q in
@@ -201,17 +201,17 @@ module _ (bs : List ℕ) (h : Header) (fine : Fine bs h) where
           second = before-pos _ _ (omega arith) (omega arith);
         }
 
-    made-front : (g : ℕ) (a b : List Node) (x : Stretch) → WellFormed g a → WellFormed (g + length a) b → Made (g + length a + length b) x
-        → Made g (after (a ++ b) x)
+    made-front : (g : ℕ) (a b : List Node) (x : Encoding) → WellFormed g a → WellFormed (g + length a) b → Made (g + length a + length b) x
+        → Made g (nodesThen (a ++ b) x)
     made-front g a b x p q m =
         let e : g + length a + length b ≡ g + length (a ++ b) = add-assoc g (length a) (length b) ∙ ap (λ (n : ℕ). g + n) (sym (length-append a b)) in
         made-after g (a ++ b) x (formed-append g a b p q) (subst (λ (n : ℕ). Made n x) e m)
 
-    abbrev Arms : (ℕ → Wires → Stretch) → Type 0
+    abbrev Arms : (ℕ → Wires → Encoding) → Type 0
     Arms go = (g : ℕ) (s : Wires) → Wired g s → Made g (go g s)
 
-    module _ (first second : ℕ → Wires → Stretch) (one : Arms first) (two : Arms second) where
-      pub fork-made : (d g : ℕ) (c : Condition) (s : Wires) → SoundIf bs h c → Wired g s → Made g (forked bs h d g c s first second)
+    module _ (first second : ℕ → Wires → Encoding) (one : Arms first) (two : Arms second) where
+      pub fork-made : (d g : ℕ) (c : Condition) (s : Wires) → SoundIf bs h c → Wired g s → Made g (encodeIf bs h d g c s first second)
       fork-made d g c s q w =
           let f = condition-fine bs h c q in
           let v = width bs (c .s) in
@@ -236,30 +236,30 @@ module _ (bs : List ℕ) (h : Header) (fine : Fine bs h) where
           let m₂ : Made g₃ y = two g₃ s₂ (wired-arriving {s = s} _ (wired-later {s = s} g₃ (omega arith) w) (before-later g₃ (omega arith) (br .second))) in
           fork-by bs h d g c s first second (Made g)
           (λ e. made-front g cn bn x cf (br .gates) m₁)
-          (λ e e₁. made-front g cn bn (after (x .nodes) y) cf (br .gates) (made-after g₂ (x .nodes) y (m₁ .formed) m₂))
-          (λ e e₁. made-front g cn bn (after (x .nodes) (after (y .nodes) j)) cf (br .gates)
-          (made-after g₂ (x .nodes) (after (y .nodes) j) (m₁ .formed)
+          (λ e e₁. made-front g cn bn (nodesThen (x .nodes) y) cf (br .gates) (made-after g₂ (x .nodes) y (m₁ .formed) m₂))
+          (λ e e₁. made-front g cn bn (nodesThen (x .nodes) (nodesThen (y .nodes) j)) cf (br .gates)
+          (made-after g₂ (x .nodes) (nodesThen (y .nodes) j) (m₁ .formed)
           (made-after g₃ (y .nodes) j (m₂ .formed)
           (joined-made bs h fine g₄ l (x .wires) (y .wires) (wired-later {s = x .wires} g₄ (omega arith) (m₁ .wired)) (m₂ .wired) (before-later g₄ (omega arith) lb)))))
 
-    -- a stretch, and what goes on after it
-    goes-on : (g : ℕ) (x : Stretch) (go : ℕ → Wires → Stretch) → Made g x → Arms go → Made g (andThen g x go)
+    -- an encoding, and what goes on after it
+    goes-on : (g : ℕ) (x : Encoding) (go : ℕ → Wires → Encoding) → Made g x → Arms go → Made g (encodeOn g x go)
     goes-on g x go m f =
         then-by (Made g) g x go (λ e. m)
         (λ e. made-after g (x .nodes) (go (g + length (x .nodes)) (x .wires)) (m .formed) (f (g + length (x .nodes)) (x .wires) (m .wired)))
 
     -- an arm that stands
     pub arm-made : (ds : List ℕ) (a : Arm) (depth close at : ℕ) (k : Counts) (end : ℕ) (k₁ : Counts) → Stands bs h depth close at k a end k₁
-        → Arms (armOf bs h t ds a)
-    unfolding armOf
+        → Arms (encodeArm bs h t ds a)
+    unfolding encodeArm
     arm-made ds =
-        induction bs h (λ depth close at k a end k₁. Arms (armOf bs h t ds a))
+        induction bs h (λ depth close at k a end k₁. Arms (encodeArm bs h t ds a))
         (λ depth close at k mark e l g s w. still-made g s w)
         (λ depth close at k c rest end k₁ v go g s w.
-        goes-on g (simple bs h t g c k s) (armOf bs h t ds rest) (simple-made g c k s (v .sound) w) go)
+        goes-on g (simple bs h t g c k s) (encodeArm bs h t ds rest) (simple-made g c k s (v .sound) w) go)
         (λ depth close at k c first second rest end k₁ v go₁ go₂ go₃ g s w.
-        goes-on g (forked bs h (entry ds (k .ifs)) g c s (armOf bs h t ds first) (armOf bs h t ds second)) (armOf bs h t ds rest)
-        (fork-made (armOf bs h t ds first) (armOf bs h t ds second) go₁ go₂ (entry ds (k .ifs)) g c s (v .sound) w) go₃)
+        goes-on g (encodeIf bs h (entry ds (k .ifs)) g c s (encodeArm bs h t ds first) (encodeArm bs h t ds second)) (encodeArm bs h t ds rest)
+        (fork-made (encodeArm bs h t ds first) (encodeArm bs h t ds second) go₁ go₂ (entry ds (k .ifs)) g c s (v .sound) w) go₃)
 
     -- ---- the start
 
@@ -280,37 +280,37 @@ module _ (bs : List ℕ) (h : Header) (fine : Fine bs h) where
         let z : g + width bs p ≡ 2 + length (ns ++ ms) = omega arith in
         record {
           gates = formed-append 2 ns ms (q .gates) (inputs-formed g p (width bs p));
-          lits = subst (λ (n : ℕ). Held n (bitsPut bs (parameterLits bs p) p (inBit g))) z
+          lits = subst (λ (n : ℕ). Held n (bitsSet bs (parameterLits bs p) p (inBit g))) z
               (held-put bs (g + width bs p) (parameterLits bs p) (held-later (g + width bs p) (omega arith) (q .lits)) p (inBit g) (input-before g (width bs p) (omega arith)));
         }
 
     abbrev wholeFrom : ℕ
     wholeFrom = 2 + length (parameterNodes bs (given h))
 
-    start-wired : Wired wholeFrom (start bs (given h))
-    unfolding start
+    start-wired : Wired wholeFrom (initialWires bs (given h))
+    unfolding initialWires
     start-wired = record { some = omega arith; held = started (given h) .lits; arrival = before-pos wholeFrom 1 (omega arith) (omega arith); claim = tt }
 
     module _ (ds : List ℕ) (a : Arm) (at : ℕ) (k : Counts) (end : ℕ) (k₁ : Counts) (st : Stands bs h 0 0 at k a end k₁) where
-      commands-made : Made wholeFrom (armOf bs h t ds a wholeFrom (start bs (given h)))
-      commands-made = arm-made ds a 0 0 at k end k₁ st wholeFrom (start bs (given h)) start-wired
+      commands-made : Made wholeFrom (encodeArm bs h t ds a wholeFrom (initialWires bs (given h)))
+      commands-made = arm-made ds a 0 0 at k end k₁ st wholeFrom (initialWires bs (given h)) start-wired
 
       -- a whole translation is well formed
-      pub whole-formed : WellFormed 1 (whole bs t ds h a .nodes)
-      unfolding whole
+      pub whole-formed : WellFormed 1 (translationOf bs t ds h a .nodes)
+      unfolding translationOf
       whole-formed = (
         tt,
-        formed-append 2 (parameterNodes bs (given h)) (armOf bs h t ds a wholeFrom (start bs (given h)) .nodes)
+        formed-append 2 (parameterNodes bs (given h)) (encodeArm bs h t ds a wholeFrom (initialWires bs (given h)) .nodes)
             (started (given h) .gates) (commands-made .formed),
       )
 
       -- the claim's literals are of its variables
-      pub whole-named : (arrival side : ℕ) → whole bs t ds h a .wires .claim ≡ Claim.Made arrival side
-          → Before (1 + length (whole bs t ds h a .nodes)) arrival × Before (1 + length (whole bs t ds h a .nodes)) side
-      unfolding whole
+      pub whole-named : (arrival side : ℕ) → translationOf bs t ds h a .wires .claim ≡ Claim.Made arrival side
+          → Before (1 + length (translationOf bs t ds h a .nodes)) arrival × Before (1 + length (translationOf bs t ds h a .nodes)) side
+      unfolding translationOf
       whole-named arrival side e =
           let ns : List Node = parameterNodes bs (given h) in
-          let x : Stretch = armOf bs h t ds a wholeFrom (start bs (given h)) in
+          let x : Encoding = encodeArm bs h t ds a wholeFrom (initialWires bs (given h)) in
           let z = length-append ns (x .nodes) in
           subst (Named (1 + length (One ∷ (ns ++ x .nodes)))) e
           (named-later (1 + length (One ∷ (ns ++ x .nodes))) (x .wires .claim) (omega arith) (commands-made .wired .claim))

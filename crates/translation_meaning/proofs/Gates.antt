@@ -20,10 +20,10 @@ use Rattle.arithmetic.specs.Bits.{Bits}
 use Rattle.comparison.specs.Access.{above}
 use Rattle.translation_access.specs.Index.{top, passing}
 use Rattle.translation_state.specs.Wires.{Wires}
-use Rattle.translation_if.specs.Branch.{armArrival, arrivals, joinGroups, joined}
+use Rattle.translation_if.specs.If.{armArrival, arrivals, joinGroups, joinArms}
 
 module _ (ins : Inputs) (ρ : Assign) where
-  -- three stretches one after the other
+  -- three encodings one after the other
   pub models-three : (g : ℕ) (a b c : List Node) → Models ins ρ g ((a ++ b) ++ c)
       → Models ins ρ g a × Models ins ρ (g + length a) b × Models ins ρ (g + length a + length b) c
   models-three g a b c m =
@@ -74,14 +74,14 @@ module _ (ins : Inputs) (ρ : Assign) where
 
   module _ (bs : List ℕ) (h : Header) (g c : ℕ) (x y : Wires) where
     -- an if is left where one of its arms is
-    pub joined-lit : Models ins ρ g (joined bs h g c x y .nodes) → lit ρ (joined bs h g c x y .wires .arrival) ≡ (lit ρ (x .arrival) || lit ρ (y .arrival))
-    unfolding joined nodeVal
+    pub joined-lit : Models ins ρ g (joinArms bs h g c x y .nodes) → lit ρ (joinArms bs h g c x y .wires .arrival) ≡ (lit ρ (x .arrival) || lit ρ (y .arrival))
+    unfolding joinArms nodeVal
     joined-lit m =
         let v : ℕ = g + length (joinGroups bs g c (x .lits) (y .lits) (h .variables) .nodes) in
         let p = models-append ins ρ g (joinGroups bs g c (x .lits) (y .lits) (h .variables) .nodes) (And (opp (x .arrival)) (opp (y .arrival)) ∷ []) m in
         lit-neg ρ v ∙ ap not (p .1 .0 ∙ ap₂ (λ (a b : Bool). a && b) (lit-opp ρ (x .arrival)) (lit-opp ρ (y .arrival)))
         ∙ neither (lit ρ (x .arrival)) (lit ρ (y .arrival))
 
-    pub joined-gates : Models ins ρ g (joined bs h g c x y .nodes) → Models ins ρ g (joinGroups bs g c (x .lits) (y .lits) (h .variables) .nodes)
-    unfolding joined
+    pub joined-gates : Models ins ρ g (joinArms bs h g c x y .nodes) → Models ins ρ g (joinGroups bs g c (x .lits) (y .lits) (h .variables) .nodes)
+    unfolding joinArms
     joined-gates m = models-append ins ρ g (joinGroups bs g c (x .lits) (y .lits) (h .variables) .nodes) (And (opp (x .arrival)) (opp (y .arrival)) ∷ []) m .0

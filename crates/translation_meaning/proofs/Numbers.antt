@@ -7,16 +7,15 @@ use native.Mathlib.Omega.{arith}
 use borrow.Author.Tests.{ne-eqb}
 use Rattle.bitvec.specs.declared.Whole.{Whole}
 use Rattle.routine_command.specs.Command.{touches}
-use Rattle.routine_faults.specs.Step.{accesses, oneIf}
+use Rattle.routine_faults.specs.Step.{accesses, countsAfterIf}
 use Rattle.routine.specs.Routine.{Arm}
 use Rattle.routine.specs.Inner.Stands.{Stands}
 use Rattle.routine_header.specs.declared.Header.{Header}
 use Rattle.routine_faults.specs.declared.Counts.{Counts}
 use Rattle.routine_command.specs.declared.Touch.{Touch}
 use Rattle.routine.proofs.Views.{induction}
-use Rattle.run.specs.State.{take, holds, carry}
-use Rattle.run.specs.Run as run
-use Rattle.run.specs.Run.{took, came, eventsBy, eventsAt, runArm}
+use Rattle.run.specs.State.{withArm, holds, executed}
+use Rattle.run.specs.Run.{took, came, eventsBy, eventsAt, runArm, Execution, eventsThen, runOn}
 use Rattle.run.specs.declared.State.{State}
 use Rattle.run.specs.Course.{keeps, courseTo, course}
 use Rattle.run.specs.declared.Course.{Course}
@@ -41,10 +40,10 @@ elsewhere-then (Course.Arrived array index) y p q = p
 
 module _ (bs ins : List ℕ) (h : Header) (ds : List ℕ) (access before : ℕ) where
   -- the run over x does not come to the access
-  abbrev pub Misses : run.Stretch → Type 0
+  abbrev pub Misses : Execution → Type 0
   Misses x = Elsewhere (course ds access before (x .events))
 
-  misses-then : (x : run.Stretch) (go : State → run.Stretch) → Misses x → Misses (go (x .state)) → Misses (run.andThen x go)
+  misses-then : (x : Execution) (go : State → Execution) → Misses x → Misses (go (x .state)) → Misses (runOn x go)
   misses-then x go p q =
       run-then-by Misses x go
       (λ e. subst Elsewhere (sym (course-append ds access before (x .events) (go (x .state) .events)))
@@ -61,7 +60,7 @@ module _ (bs ins : List ℕ) (h : Header) (ds : List ℕ) (access before : ℕ) 
   misses-simple (Touch.Reads d array i) k s l = misses-came (accesses k) array _ l
   misses-simple (Touch.Writes array i) k s l = misses-came (accesses k) array _ l
 
-  misses-took : (number arm : ℕ) (x : run.Stretch) → Misses x → Misses (run.after (took number arm ∷ []) x)
+  misses-took : (number arm : ℕ) (x : Execution) → Misses x → Misses (eventsThen (took number arm ∷ []) x)
   unfolding courseTo
   misses-took number arm x p =
       by-cond Elsewhere (keeps ds before number arm) (course ds access before (x .events)) (Course.Astray number) (λ e. p) (λ e. tt)
@@ -74,17 +73,17 @@ module _ (bs ins : List ℕ) (h : Header) (ds : List ℕ) (access before : ℕ) 
       induction bs h (λ depth close at k a end k₁. access < accesses k → (r : State) → Misses (runArm bs ins h a r))
       (λ depth close at k mark e l f r. tt)
       (λ depth close at k c rest end k₁ v go f r.
-      misses-then (record { events = eventsAt bs c k r; state = carry bs ins h c k r }) (runArm bs ins h rest) (misses-simple (touches c) k r f)
-      (go (omega (arith, after-grows c k)) (carry bs ins h c k r)))
+      misses-then (record { events = eventsAt bs c k r; state = executed bs ins h c k r }) (runArm bs ins h rest) (misses-simple (touches c) k r f)
+      (go (omega (arith, after-grows c k)) (executed bs ins h c k r)))
       (λ depth close at k c first second rest end k₁ v go₁ go₂ go₃ f r.
-      let g₁ = accesses-grow bs h first (depth + 1) 12 (at + 4) (oneIf k) (v .else) (v .k₂) (v .stands-first) in
+      let g₁ = accesses-grow bs h first (depth + 1) 12 (at + 4) (countsAfterIf k) (v .else) (v .k₂) (v .stands-first) in
       let g₂ = accesses-grow bs h second (depth + 1) 13 (v .else) (v .k₂) (v .next) (v .k₃) (v .stands-second) in
-      let x : run.Stretch =
-      cond (holds bs c r) (run.after (took (k .ifs) 0 ∷ []) (runArm bs ins h first (take r (k .ifs) 0)))
-      (run.after (took (k .ifs) 1 ∷ []) (runArm bs ins h second (take r (k .ifs) 1))) in
+      let x : Execution =
+      cond (holds bs c r) (eventsThen (took (k .ifs) 0 ∷ []) (runArm bs ins h first (withArm r (k .ifs) 0)))
+      (eventsThen (took (k .ifs) 1 ∷ []) (runArm bs ins h second (withArm r (k .ifs) 1))) in
       misses-then x (runArm bs ins h rest)
-      (by-cond Misses (holds bs c r) (run.after (took (k .ifs) 0 ∷ []) (runArm bs ins h first (take r (k .ifs) 0)))
-      (run.after (took (k .ifs) 1 ∷ []) (runArm bs ins h second (take r (k .ifs) 1)))
-      (λ e. misses-took (k .ifs) 0 (runArm bs ins h first (take r (k .ifs) 0)) (go₁ (omega arith) (take r (k .ifs) 0)))
-      (λ e. misses-took (k .ifs) 1 (runArm bs ins h second (take r (k .ifs) 1)) (go₂ (omega arith) (take r (k .ifs) 1))))
+      (by-cond Misses (holds bs c r) (eventsThen (took (k .ifs) 0 ∷ []) (runArm bs ins h first (withArm r (k .ifs) 0)))
+      (eventsThen (took (k .ifs) 1 ∷ []) (runArm bs ins h second (withArm r (k .ifs) 1)))
+      (λ e. misses-took (k .ifs) 0 (runArm bs ins h first (withArm r (k .ifs) 0)) (go₁ (omega arith) (withArm r (k .ifs) 0)))
+      (λ e. misses-took (k .ifs) 1 (runArm bs ins h second (withArm r (k .ifs) 1)) (go₂ (omega arith) (withArm r (k .ifs) 1))))
       (go₃ (omega arith) (x .state)))

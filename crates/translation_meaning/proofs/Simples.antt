@@ -21,7 +21,7 @@ use Rattle.routine_faults.specs.declared.Counts.{Counts}
 use Rattle.routine_command.specs.declared.Simple.{Simple}
 use Rattle.routine_faults.proofs.Fine.{set-fine, convert-fine, compute-fine, read-fine, write-fine}
 use Rattle.run.specs.State as state
-use Rattle.run.specs.State.{converted, computed, indexOf, lies, arrive, accessed, carry}
+use Rattle.run.specs.State.{converted, computed, indexOf, lies, arrive, accessed, executed}
 use Rattle.run.specs.Run.{came, eventsAt}
 use Rattle.run.specs.declared.Lies.{Lies}
 use Rattle.run.specs.declared.Outcome.{Outcome}
@@ -44,8 +44,8 @@ use Rattle.arithmetic.proofs.Adder.{sum-word, difference-word}
 use Rattle.arithmetic.proofs.Product.{product-word}
 use Rattle.arithmetic.proofs.Extend.{const-word, cut-word, zero-extend-word, sign-extend-word}
 use Rattle.arithmetic.proofs.Input.{input-word}
-use Rattle.translation_state.specs.Wires.{Wires, bitsOf, put, arriving, claiming}
-use Rattle.translation_command.specs.Command.{Stretch, still, access, readInto, simple}
+use Rattle.translation_state.specs.Wires.{Wires, bitsOf, withBits, arriving, claiming}
+use Rattle.translation_command.specs.Command.{Encoding, still, access, readInto, simple}
 use Rattle.translation_command.specs.Operation.{conversion, computation}
 use Rattle.translation_access.specs.Index.{top, passing, claim}
 use Rattle.translation_meaning.specs.Faithful.{bitsOfList}
@@ -121,7 +121,7 @@ module _ (bs ins : List ℕ) (h : Header) (fine : Fine bs h) (t : Target) (ds : 
   alive-through w c r a e = through (a .unclaimed) (a .come) e (a .going) (a .worth)
 
   pub alive-put : (s : Wires) (r : State) → Alive s r → (d : ℕ) (f : Bits) (x : ℕ) → d < h .variables → value ρ f (width bs d) ≡ x
-      → Alive (put bs s d f) (state.put r d x)
+      → Alive (withBits bs s d f) (state.assigned r d x)
   alive-put s r a d f x l e =
       record { unclaimed = a .unclaimed; come = a .come; going = a .going; worth = put-worth bs h fine ρ (s .lits) (r .values) (a .worth) d f x l e }
 
@@ -138,7 +138,7 @@ module _ (bs ins : List ℕ) (h : Header) (fine : Fine bs h) (t : Target) (ds : 
   unfolding courseTo
   came-past number array index e = rw e
 
-  module _ (side : t .side ≤ 1) (g array i : ℕ) (k : Counts) (s : Wires) (r next : State) (go : ℕ → Wires → Stretch) (l : i < h .variables) (a : Alive s r) where
+  module _ (side : t .side ≤ 1) (g array i : ℕ) (k : Counts) (s : Wires) (r next : State) (go : ℕ → Wires → Encoding) (l : i < h .variables) (a : Alive s r) where
     abbrev bits : Bits
     bits = bitsOf bs s i
 
@@ -169,7 +169,7 @@ module _ (bs ins : List ℕ) (h : Header) (fine : Fine bs h) (t : Target) (ds : 
     abbrev u : Wires
     u = arriving s (passing g bits size w (s .arrival) .lit)
 
-    abbrev x : Stretch
+    abbrev x : Encoding
     x = go (g + length ns) u
 
     module _ (m : Models (bitsOfList ins) ρ g ns) (past : eqb (accesses k) (t .access) ≡ false) (keeps : x .wires .arrival ≡ u .arrival)
@@ -198,7 +198,7 @@ module _ (bs ins : List ℕ) (h : Header) (fine : Fine bs h) (t : Target) (ds : 
         (record { events = came (accesses k) array (indexOf bs r i) ∷ []; state = accessed bs h array i k r next })
     access-alive on keeps =
         access-by
-        (λ (z : Stretch). Models (bitsOfList ins) ρ g (z .nodes)
+        (λ (z : Encoding). Models (bitsOfList ins) ρ g (z .nodes)
         → Tally bs h fine t ds before ρ (z .wires) (course ds (t .access) before (came (accesses k) array (indexOf bs r i) ∷ [])) (accessed bs h array i k r next))
         bs h t g array i k s go
         (λ e m. at-claim e m)
@@ -206,17 +206,17 @@ module _ (bs ins : List ℕ) (h : Header) (fine : Fine bs h) (t : Target) (ds : 
 
   pub simple-alive : t .side ≤ 1 → (g : ℕ) (c : Simple) (k : Counts) (s : Wires) (r : State) → Sound bs h c → FitSimple bs ins h c k
       → Models (bitsOfList ins) ρ g (simple bs h t g c k s .nodes) → Alive s r
-      → Tallies bs h fine t ds before ρ (simple bs h t g c k s) (record { events = eventsAt bs c k r; state = carry bs ins h c k r })
-  unfolding simple carry courseTo widthsFit
+      → Tallies bs h fine t ds before ρ (simple bs h t g c k s) (record { events = eventsAt bs c k r; state = executed bs ins h c k r })
+  unfolding simple executed courseTo widthsFit
   simple-alive sd g (Simple.Set d c) k s r q f m a =
       let p = set-fine bs h d c q in
-      alive-through (put bs s d (constBit c)) Course.Passing (state.put r d c) (alive-put s r a d (constBit c) c (p .0) (const-word ρ c (width bs d) o (p .1))) refl
+      alive-through (withBits bs s d (constBit c)) Course.Passing (state.assigned r d c) (alive-put s r a d (constBit c) c (p .0) (const-word ρ c (width bs d) o (p .1))) refl
   simple-alive sd g (Simple.Convert op d b) k s r q f m a =
       let p = convert-fine bs h op d b q in
       let e : Bits = conversion op (bitsOf bs s b) (width bs b) in
       let x : ℕ = converted op (width bs d) (width bs b) (entry (r .values) b) in
       let z : 0 < width bs b = omega (arith, fine .widths b (p .1)) in
-      alive-through (put bs s d e) Course.Passing (state.put r d x)
+      alive-through (withBits bs s d e) Course.Passing (state.assigned r d x)
       (alive-put s r a d e x (p .0) (convert-word ρ o op (width bs d) (width bs b) (bitsOf bs s b) z (q .widths)
       ∙ ap (converted op (width bs d) (width bs b)) (a .worth .worth b (p .1)))) refl
   simple-alive sd g (Simple.Compute op d b c) k s r q f m a =
@@ -226,13 +226,13 @@ module _ (bs ins : List ℕ) (h : Header) (fine : Fine bs h) (t : Target) (ds : 
       let vb : value ρ (bitsOf bs s b) w ≡ entry (r .values) b = ap (value ρ (bitsOf bs s b)) (p .3) ∙ a .worth .worth b (p .1) in
       let vc : value ρ (bitsOf bs s c) w ≡ entry (r .values) c = ap (value ρ (bitsOf bs s c)) (p .4) ∙ a .worth .worth c (p .2) in
       let e : Bits = computation op g (bitsOf bs s b) (bitsOf bs s c) w .bits in
-      alive-through (put bs s d e) Course.Passing (state.put r d x)
+      alive-through (withBits bs s d e) Course.Passing (state.assigned r d x)
       (alive-put s r a d e x (p .0)
       (compute-word (bitsOfList ins) ρ o op g (bitsOf bs s b) (bitsOf bs s c) w m ∙ ap₂ (computed op w) vb vc)) refl
   simple-alive sd g (Simple.Read d array i) k s r q f m a =
       let p = read-fine bs h d array i q in
       let n : ℕ = inputNumber h k in
-      access-alive sd g array i k s r (state.put r d (entry ins n)) (readInto bs h d k) (p .2) a
+      access-alive sd g array i k s r (state.assigned r d (entry ins n)) (readInto bs h d k) (p .2) a
       (λ m₁ b. alive-put _ r b d (inBit _) (entry ins n) (p .0) (input-word (bitsOfList ins) ρ _ n (width bs d) (entry ins n) (λ j. refl) f m₁)) refl m
   simple-alive sd g (Simple.Write array i b) k s r q f m a =
       access-alive sd g array i k s r r (λ g₁. still) (write-fine bs h array i b q .1) a (λ m₁ z. z) refl m

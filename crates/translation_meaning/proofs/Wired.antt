@@ -18,9 +18,9 @@ use Rattle.arithmetic.specs.Bits.{Bits}
 use Rattle.arithmetic.specs.Join.{joiner, joinBit}
 use Rattle.arithmetic.proofs.Values.{AllBefore}
 use Rattle.arithmetic.proofs.Join.{join-formed, join-before}
-use Rattle.translation_state.specs.Wires.{Wires, bitsIn, bitsPut, bitsOf, put, arriving}
-use Rattle.translation_command.specs.Command.{Stretch, after}
-use Rattle.translation_if.specs.Branch.{joinGroups, joined}
+use Rattle.translation_state.specs.Wires.{Wires, bitsIn, bitsSet, bitsOf, withBits, arriving}
+use Rattle.translation_command.specs.Command.{Encoding, nodesThen}
+use Rattle.translation_if.specs.If.{joinGroups, joinArms}
 use Rattle.translation_state.specs.declared.Claim.{Claim}
 use Rattle.translation_meaning.proofs.Places.{bits-place, put-length, put-keeps}
 
@@ -59,13 +59,13 @@ wired-later {s = s} k l b = record {
 pub wired-arriving : {g : ℕ} {s : Wires} (l : ℕ) → Wired g s → Before g l → Wired g (arriving s l)
 wired-arriving l w b = record { some = w .some; held = w .held; arrival = b; claim = w .claim }
 
--- a stretch whose first variable is g
-pub record Made (g : ℕ) (x : Stretch) : Type 0 where
+-- an encoding whose first variable is g
+pub record Made (g : ℕ) (x : Encoding) : Type 0 where
   pub formed : WellFormed g (x .nodes)
   pub wired : Wired (g + length (x .nodes)) (x .wires)
 
 -- these nodes first
-pub made-after : (g : ℕ) (ns : List Node) (x : Stretch) → WellFormed g ns → Made (g + length ns) x → Made g (after ns x)
+pub made-after : (g : ℕ) (ns : List Node) (x : Encoding) → WellFormed g ns → Made (g + length ns) x → Made g (nodesThen ns x)
 made-after g ns x f m =
     let e : g + length ns + length (x .nodes) ≡ g + length (ns ++ x .nodes) =
     add-assoc g (length ns) (length (x .nodes)) ∙ ap (λ (n : ℕ). g + n) (sym (length-append ns (x .nodes))) in
@@ -75,11 +75,11 @@ module _ (bs : List ℕ) where
   held-bits : (g : ℕ) (lits : List ℕ) → Held g lits → (v : ℕ) → v < 32 → width bs v ≤ 32 → AllBefore g (bitsIn bs lits v) (width bs v)
   held-bits g lits b v l w j m = subst (Before g) (sym (bits-place bs lits v j m)) (b .places (32 * v + j) (omega arith))
 
-  pub held-put : (g : ℕ) (lits : List ℕ) → Held g lits → (d : ℕ) (f : Bits) → AllBefore g f (width bs d) → Held g (bitsPut bs lits d f)
+  pub held-put : (g : ℕ) (lits : List ℕ) → Held g lits → (d : ℕ) (f : Bits) → AllBefore g f (width bs d) → Held g (bitsSet bs lits d f)
   held-put g lits b d f k =
       record { count = put-length bs lits d f ∙ b .count; places = λ i m. put-keeps bs lits d f (Before g) i (b .places i m) k (omega (arith, b .count)) }
 
-  pub wired-put : (g : ℕ) (s : Wires) → Wired g s → (d : ℕ) (f : Bits) → AllBefore g f (width bs d) → Wired g (put bs s d f)
+  pub wired-put : (g : ℕ) (s : Wires) → Wired g s → (d : ℕ) (f : Bits) → AllBefore g f (width bs d) → Wired g (withBits bs s d f)
   wired-put g s w d f k = record { some = w .some; held = held-put g (s .lits) (w .held) d f k; arrival = w .arrival; claim = w .claim }
 
 -- ---- joining
@@ -105,7 +105,7 @@ module _ (bs : List ℕ) (g c : ℕ) (x y : List ℕ) (z : 1 < g) (hc : Before g
       add-assoc g (length (joinGroups bs g c x y v .nodes)) (length ns) ∙ ap (λ (n : ℕ). g + n) (sym (length-append (joinGroups bs g c x y v .nodes) ns)) in
       record {
         gates = formed-append g (joinGroups bs g c x y v .nodes) ns (p .gates) (join-formed k c (bitsIn bs x v) (bitsIn bs y v) w (before-later k (omega arith) hc) a b);
-        lits = subst (λ (n : ℕ). Held n (bitsPut bs (joinGroups bs g c x y v .lits) v (joinBit k c (bitsIn bs x v) (bitsIn bs y v)))) e
+        lits = subst (λ (n : ℕ). Held n (bitsSet bs (joinGroups bs g c x y v .lits) v (joinBit k c (bitsIn bs x v) (bitsIn bs y v)))) e
             (held-put bs (k + length ns) (joinGroups bs g c x y v .lits) (held-later (k + length ns) (omega arith) (p .lits)) v
             (joinBit k c (bitsIn bs x v) (bitsIn bs y v))
             (join-before k c (bitsIn bs x v) (bitsIn bs y v) w (before-later k (omega arith) hc) a b (omega arith)));
@@ -121,8 +121,8 @@ module _ (bs : List ℕ) (h : Header) (fine : Fine bs h) where
   pub var-bits : (g : ℕ) (s : Wires) → Wired g s → (v : ℕ) → v < h .variables → AllBefore g (bitsOf bs s v) (width bs v)
   var-bits g s w v l = let p = few v l in held-bits bs g (s .lits) (w .held) v (p .0) (p .1)
 
-  pub joined-made : (g c : ℕ) (x y : Wires) → Wired g x → Wired g y → Before g c → Made g (joined bs h g c x y)
-  unfolding joined
+  pub joined-made : (g c : ℕ) (x y : Wires) → Wired g x → Wired g y → Before g c → Made g (joinArms bs h g c x y)
+  unfolding joinArms
   joined-made g c x y wx wy hc =
       let p = joins bs g c (x .lits) (y .lits) (wx .some) hc (wx .held) (wy .held) (h .variables) few in
       let ns : List Node = joinGroups bs g c (x .lits) (y .lits) (h .variables) .nodes in

@@ -25,8 +25,8 @@ use Rattle.arithmetic.specs.Join.{joiner, joinBit}
 use Rattle.arithmetic.proofs.Values.{value, value-cong, value-zero}
 use Rattle.arithmetic.proofs.Input.{input-word}
 use Rattle.arithmetic.proofs.Join.{join-word}
-use Rattle.translation_state.specs.Wires.{bitsIn, bitsPut}
-use Rattle.translation_if.specs.Branch.{joinGroups}
+use Rattle.translation_state.specs.Wires.{bitsIn, bitsSet}
+use Rattle.translation_if.specs.If.{joinGroups}
 use Rattle.translation_meaning.specs.Translation.{parameterNodes, parameterLits}
 use Rattle.translation_meaning.specs.Faithful.{bitsOfList}
 use Rattle.translation_meaning.proofs.Places.{bits-place, put-length, put-same, put-other}
@@ -40,24 +40,24 @@ module _ (bs : List ℕ) (h : Header) (fine : Fine bs h) (ρ : Assign) where
 
   -- a variable with other bits and another value
   pub put-worth : (lits values : List ℕ) → Worth lits values → (d : ℕ) (f : Bits) (x : ℕ) → d < h .variables → value ρ f (width bs d) ≡ x
-      → Worth (bitsPut bs lits d f) (set values d x)
+      → Worth (bitsSet bs lits d f) (set values d x)
   put-worth lits values w d f x l e = record {
     places = put-length bs lits d f ∙ w .places;
     count = length-set values d x ∙ w .count;
     worth = λ v m. pick v m (eqb v d) refl;
   }
     where
-      here : value ρ (bitsIn bs (bitsPut bs lits d f) d) (width bs d) ≡ entry (set values d x) d
+      here : value ρ (bitsIn bs (bitsSet bs lits d f) d) (width bs d) ≡ entry (set values d x) d
       here =
-          value-cong ρ (bitsIn bs (bitsPut bs lits d f) d) f (width bs d)
+          value-cong ρ (bitsIn bs (bitsSet bs lits d f) d) f (width bs d)
           (λ j m. put-same bs lits d f j m (omega (arith, fine .few)) (fine .widths d l .1) (w .places))
           ∙ e ∙ sym (getD-set-same values d x 0 (omega (arith, fine .few, w .count)))
 
-      pick : (v : ℕ) → v < h .variables → (b : Bool) → eqb v d ≡ b → value ρ (bitsIn bs (bitsPut bs lits d f) v) (width bs v) ≡ entry (set values d x) v
-      pick v m true q = subst (λ (u : ℕ). value ρ (bitsIn bs (bitsPut bs lits d f) u) (width bs u) ≡ entry (set values d x) u) (sym (eqb-true v d q)) here
+      pick : (v : ℕ) → v < h .variables → (b : Bool) → eqb v d ≡ b → value ρ (bitsIn bs (bitsSet bs lits d f) v) (width bs v) ≡ entry (set values d x) v
+      pick v m true q = subst (λ (u : ℕ). value ρ (bitsIn bs (bitsSet bs lits d f) u) (width bs u) ≡ entry (set values d x) u) (sym (eqb-true v d q)) here
       pick v m false q =
           let ne : v ≢ d = eqb-false v d q in
-          value-cong ρ (bitsIn bs (bitsPut bs lits d f) v) (bitsIn bs lits v) (width bs v)
+          value-cong ρ (bitsIn bs (bitsSet bs lits d f) v) (bitsIn bs lits v) (width bs v)
           (λ j k. put-other bs lits d f v j ne k (fine .widths v m .1) (fine .widths d l .1))
           ∙ w .worth v m ∙ sym (getD-set-other values d v x 0 ne)
 
@@ -111,16 +111,16 @@ module _ (bs : List ℕ) (h : Header) (fine : Fine bs h) (ρ : Assign) where
             → ((v : ℕ) → v < u → value ρ (bitsIn bs ls v) (width bs v) ≡ cond (lit ρ c) (value ρ (bitsIn bs x v) (width bs v)) (value ρ (bitsIn bs y v) (width bs v)))
             → value ρ f (width bs u) ≡ cond (lit ρ c) (value ρ (bitsIn bs x u) (width bs u)) (value ρ (bitsIn bs y u) (width bs u))
             → (v : ℕ) → v < suc u → (b : Bool) → eqb v u ≡ b
-            → value ρ (bitsIn bs (bitsPut bs ls u f) v) (width bs v) ≡ cond (lit ρ c) (value ρ (bitsIn bs x v) (width bs v)) (value ρ (bitsIn bs y v) (width bs v))
+            → value ρ (bitsIn bs (bitsSet bs ls u f) v) (width bs v) ≡ cond (lit ρ c) (value ρ (bitsIn bs x v) (width bs v)) (value ρ (bitsIn bs y v) (width bs v))
         pick u l ls f s p e v q true z =
-            subst (λ (i : ℕ). value ρ (bitsIn bs (bitsPut bs ls u f) i) (width bs i) ≡ cond (lit ρ c) (value ρ (bitsIn bs x i) (width bs i)) (value ρ (bitsIn bs y i) (width bs i)))
+            subst (λ (i : ℕ). value ρ (bitsIn bs (bitsSet bs ls u f) i) (width bs i) ≡ cond (lit ρ c) (value ρ (bitsIn bs x i) (width bs i)) (value ρ (bitsIn bs y i) (width bs i)))
             (sym (eqb-true v u z))
-            (value-cong ρ (bitsIn bs (bitsPut bs ls u f) u) f (width bs u)
+            (value-cong ρ (bitsIn bs (bitsSet bs ls u f) u) f (width bs u)
             (λ j m. put-same bs ls u f j m (omega (arith, fine .few)) (fine .widths u (omega arith) .1) s)
             ∙ e)
         pick u l ls f s p e v q false z =
             let ne : v ≢ u = eqb-false v u z in
-            value-cong ρ (bitsIn bs (bitsPut bs ls u f) v) (bitsIn bs ls v) (width bs v)
+            value-cong ρ (bitsIn bs (bitsSet bs ls u f) v) (bitsIn bs ls v) (width bs v)
             (λ j m. put-other bs ls u f v j ne m (fine .widths v (omega arith) .1) (fine .widths u (omega arith) .1))
             ∙ p v (omega arith)
 

@@ -11,7 +11,7 @@ use Rattle.arithmetic.proofs.Laws.{sized-length, sized-table}
 use Rattle.routine_header.specs.Header.{width}
 use Rattle.routine_faults.specs.Inner.Sound.{Fine}
 use Rattle.routine_header.specs.declared.Header.{Header}
-use Rattle.translation_state.specs.Wires.{allPlaces, placeOf, bitsIn, bitsPut}
+use Rattle.translation_state.specs.Wires.{allPlaces, placeOf, bitsIn, bitsSet}
 
 -- a variable of the routine, and its width
 pub record Ranged (bs : List ℕ) (v : ℕ) : Type 0 where
@@ -43,7 +43,7 @@ module _ (bs : List ℕ) (h : Header) (v x w : ℕ) (f : Fine bs h) (l : v < h .
       pub storable : x + length (take w r) ≤ length lits
       storable = omega (arith, sized-length g t w (omega (arith, ranged-as .1)), part-end)
 
-      pub stored : (lits₁ : List ℕ) → lits₁ ≡ sets lits x (take w r) → lits₁ ≡ bitsPut bs lits v g
+      pub stored : (lits₁ : List ℕ) → lits₁ ≡ sets lits x (take w r) → lits₁ ≡ bitsSet bs lits v g
       stored lits₁ s =
           s ∙ ap (sets lits x) (sized-table g t w (omega (arith, ranged-as .1)))
           ∙ (λ i. sets lits (e i) (tabulate g (q i)))

@@ -31,16 +31,16 @@ abbrev pub bitsIn : (bs lits : List ℕ) → (v : ℕ) → Bits
 bitsIn bs lits v = bitsAt lits (placeOf v) (width bs v)
 
 -- other bits for variable v
-abbrev pub bitsPut : (bs lits : List ℕ) → (v : ℕ) → Bits → List ℕ
-bitsPut bs lits v f = sets lits (placeOf v) (tabulate f (width bs v))
+abbrev pub bitsSet : (bs lits : List ℕ) → (v : ℕ) → Bits → List ℕ
+bitsSet bs lits v f = sets lits (placeOf v) (tabulate f (width bs v))
 
 -- the bits of variable v
 abbrev pub bitsOf : List ℕ → Wires → ℕ → Bits
 bitsOf bs s v = bitsIn bs (s .lits) v
 
 -- other bits for variable v
-abbrev pub put : List ℕ → Wires → ℕ → Bits → Wires
-put bs s v f = record { lits = bitsPut bs (s .lits) v f; arrival = s .arrival; claim = s .claim }
+abbrev pub withBits : List ℕ → Wires → ℕ → Bits → Wires
+withBits bs s v f = record { lits = bitsSet bs (s .lits) v f; arrival = s .arrival; claim = s .claim }
 
 -- another arrival
 abbrev pub arriving : Wires → (arrival : ℕ) → Wires

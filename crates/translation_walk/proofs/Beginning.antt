@@ -19,7 +19,7 @@ use Rattle.arithmetic.specs.Input.{inputs, inBit}
 use Rattle.arithmetic.specs.Inner.Taken.{TakesInputs}
 use Rattle.arithmetic.proofs.Input.{length-inputs}
 use Rattle.translation_meaning.specs.Translation.{parameterNodes, parameterLits}
-use Rattle.translation_state.specs.Wires.{allPlaces, bitsPut}
+use Rattle.translation_state.specs.Wires.{allPlaces, bitsSet}
 use Rattle.translation_state.proofs.Ranges.{ranged}
 
 pub some-few : (bs : List ℕ) (h : Header) → Fine bs h → (p : ℕ) → p ≤ given h → length (parameterNodes bs p) ≤ 32 * p
@@ -36,11 +36,11 @@ module _ (bs : List ℕ) (n n₁ n₂ : Net) (p w : ℕ) (e : w ≡ width bs p) 
       rw (add-one p)
       (subst (λ (ns : List Node). Emitted W U n (parameterNodes bs p ++ ns) W U n₂) (λ i. inputs p (e i)) (emitted-then (q W U) (r .tells W U p)))
 
-  pub parameter-wired : n .next ≡ 2 → (l l₁ : List ℕ) → l ≡ parameterLits bs p → l₁ ≡ bitsPut bs l p (inBit (n₁ .next)) → l₁ ≡ parameterLits bs (p + 1)
+  pub parameter-wired : n .next ≡ 2 → (l l₁ : List ℕ) → l ≡ parameterLits bs p → l₁ ≡ bitsSet bs l p (inBit (n₁ .next)) → l₁ ≡ parameterLits bs (p + 1)
   unfolding parameterLits
   parameter-wired two l l₁ a b =
       let g : n₁ .next ≡ 2 + length (parameterNodes bs p) = q [] [] .next ∙ ap (λ (i : ℕ). i + length (parameterNodes bs p)) two in
-      rw (add-one p) (b ∙ (λ i. bitsPut bs (a i) p (inBit (g i))))
+      rw (add-one p) (b ∙ (λ i. bitsSet bs (a i) p (inBit (g i))))
 
 -- the literals keep their places
 pub parameters-length : (bs : List ℕ) (p : ℕ) → length (parameterLits bs p) ≡ allPlaces

@@ -7,7 +7,7 @@ use native.Mathlib.Nat.{add-assoc}
 use native.Mathlib.Omega.{arith}
 use lib.ListN.{length, length-append}
 use Rattle.slices.specs.Bytes.{entry}
-use Rattle.routine_faults.specs.Step.{oneIf}
+use Rattle.routine_faults.specs.Step.{countsAfterIf}
 use Rattle.routine.specs.Inner.Stands.{Stands, SomeIf}
 use Rattle.routine_header.specs.declared.Header.{Header}
 use Rattle.routine_command.specs.declared.Condition.{Condition}
@@ -16,22 +16,22 @@ use Rattle.netlist.specs.declared.Node.{Node}
 use Rattle.netlist.specs.Inner.Emit.{Emitted, Ready}
 use Rattle.netlist.proofs.Emitting.{emitted-then, ready-after}
 use Rattle.translation_state.specs.Wires.{Wires, arriving, isMade, allPlaces}
-use Rattle.translation_command.specs.Command.{Stretch, after}
-use Rattle.translation_meaning.specs.Walk.{forked, armOf}
-use Rattle.translation_if.specs.Branch.{conditionOf, joined}
-use Rattle.translation_walk.specs.Inner.Walker.{wiresAt, inFirst, inElse, Arrives, Roomy, ArmMade, ArmRoom, ifOf, IfMade}
-use Rattle.translation_if.specs.Inner.Branched.{Branched, arrivalsAt}
+use Rattle.translation_command.specs.Command.{Encoding, nodesThen}
+use Rattle.translation_meaning.specs.Walk.{encodeIf, encodeArm}
+use Rattle.translation_if.specs.If.{conditionOf, joinArms}
+use Rattle.translation_walk.specs.Inner.Walker.{wiresAt, inFirst, inElse, WalksTo, Roomy, ArmEncoded, ArmReady, ifOf, IfEncoded}
+use Rattle.translation_if.specs.Inner.BeginsIf.{BeginsIf, arrivalsAt}
 use Rattle.lead.specs.declared.Target.{Target}
 use Rattle.translation_walk.specs.declared.Walk.{Walk}
-use Rattle.translation_if.specs.declared.Branches.{Branches}
+use Rattle.translation_if.specs.declared.IfBegun.{IfBegun}
 use Rattle.routine_faults.proofs.Tests.{not-both}
 use Rattle.translation_walk.proofs.Translating.{same-arm, over}
 use Rattle.translation_meaning.proofs.Stretches.{fork-by, frontOf, firstFrom, firstOf, secondFrom, secondOf, joinFrom, joinOf}
 
 -- what was told of the arms of i is told of whatever arms stand there
 pub if-told : {bs : List ℕ} {h : Header} {t : Target} {ds : List ℕ} {depth : ℕ} {c : Condition} {w u l w₁ u₁ l₁ : List ℕ} {p r : Walk}
-    (i : SomeIf bs h depth (p .next) (oneIf (p .counts))) → Arrives w u (p .net) (ifOf bs h t ds c l p (i .first) (i .second)) (i .end) (i .after) w₁ u₁ l₁ r
-    → IfMade bs h t ds depth c w u l p w₁ u₁ l₁ r
+    (i : SomeIf bs h depth (p .next) (countsAfterIf (p .counts))) → WalksTo w u (p .net) (ifOf bs h t ds c l p (i .first) (i .second)) (i .end) (i .after) w₁ u₁ l₁ r
+    → IfEncoded bs h t ds depth c w u l p w₁ u₁ l₁ r
 if-told {bs} {h} {depth = depth} i x = record {
   tells = λ first else k₁ second end k₂ y z.
       let e = same-arm (i .stands-first) y in
@@ -41,76 +41,76 @@ if-told {bs} {h} {depth = depth} i x = record {
 }
 
 -- the if where the walk p is, with the literals l, whose arms are those of i
-module _ (bs : List ℕ) (h : Header) (t : Target) (ds : List ℕ) (depth : ℕ) (c : Condition) (l : List ℕ) (p : Walk) (i : SomeIf bs h depth (p .next) (oneIf (p .counts))) where
+module _ (bs : List ℕ) (h : Header) (t : Target) (ds : List ℕ) (depth : ℕ) (c : Condition) (l : List ℕ) (p : Walk) (i : SomeIf bs h depth (p .next) (countsAfterIf (p .counts))) where
   abbrev d : ℕ
   d = entry ds (p .counts .ifs)
 
   abbrev s : Wires
   s = wiresAt l p
 
-  abbrev first : ℕ → Wires → Stretch
-  first = armOf bs h t ds (i .first)
+  abbrev first : ℕ → Wires → Encoding
+  first = encodeArm bs h t ds (i .first)
 
-  abbrev second : ℕ → Wires → Stretch
-  second = armOf bs h t ds (i .second)
+  abbrev second : ℕ → Wires → Encoding
+  second = encodeArm bs h t ds (i .second)
 
-  abbrev First : Stretch
+  abbrev First : Encoding
   First = firstOf bs h d (p .net .next) c s first second
 
-  abbrev Second : Stretch
+  abbrev Second : Encoding
   Second = secondOf bs h d (p .net .next) c s first second
 
   abbrev Front : List Node
   Front = frontOf bs h d (p .net .next) c s first second
 
-  abbrev Fork : Stretch
-  Fork = forked bs h d (p .net .next) c s first second
+  abbrev Fork : Encoding
+  Fork = encodeIf bs h d (p .net .next) c s first second
 
   -- by where the claim was made
-  by-claim : (Q : Stretch → Type 0) → (isMade (First .wires .claim) ≡ true → Q (after Front First))
-      → (isMade (First .wires .claim) ≡ false → isMade (Second .wires .claim) ≡ true → Q (after Front (after (First .nodes) Second)))
+  by-claim : (Q : Encoding → Type 0) → (isMade (First .wires .claim) ≡ true → Q (nodesThen Front First))
+      → (isMade (First .wires .claim) ≡ false → isMade (Second .wires .claim) ≡ true → Q (nodesThen Front (nodesThen (First .nodes) Second)))
       → (isMade (First .wires .claim) ≡ false → isMade (Second .wires .claim) ≡ false
-      → Q (after Front (after (First .nodes) (after (Second .nodes) (joinOf bs h d (p .net .next) c s first second))))) → Q Fork
+      → Q (nodesThen Front (nodesThen (First .nodes) (nodesThen (Second .nodes) (joinOf bs h d (p .net .next) c s first second))))) → Q Fork
   by-claim = fork-by bs h d (p .net .next) c s first second
 
   first-longer : length Front + length (First .nodes) ≤ length (Fork .nodes)
   first-longer =
-      by-claim (λ (z : Stretch). length Front + length (First .nodes) ≤ length (z .nodes)) (λ e. rw (length-append Front (First .nodes)) (omega arith))
+      by-claim (λ (z : Encoding). length Front + length (First .nodes) ≤ length (z .nodes)) (λ e. rw (length-append Front (First .nodes)) (omega arith))
       (λ e f. rw (length-append Front (First .nodes ++ Second .nodes), length-append (First .nodes) (Second .nodes)) (omega arith))
       (λ e f. rw (length-append Front, length-append (First .nodes)) (omega arith))
 
   second-longer : isMade (First .wires .claim) ≡ false → length Front + (length (First .nodes) + length (Second .nodes)) ≤ length (Fork .nodes)
   second-longer o =
-      by-claim (λ (z : Stretch). length Front + (length (First .nodes) + length (Second .nodes)) ≤ length (z .nodes))
+      by-claim (λ (z : Encoding). length Front + (length (First .nodes) + length (Second .nodes)) ≤ length (z .nodes))
       (λ e. not-both (isMade (First .wires .claim)) e o)
       (λ e f. rw (length-append Front (First .nodes ++ Second .nodes), length-append (First .nodes) (Second .nodes)) (omega arith))
       (λ e f. rw (length-append Front, length-append (First .nodes), length-append (Second .nodes)) (omega arith))
 
-  module _ {w u w₁ u₁ : List ℕ} {br : Branches} (b : Branched bs w u (p .net) c (entry ds (p .counts .ifs)) (wiresAt l p) w₁ u₁ br) where
+  module _ {w u w₁ u₁ : List ℕ} {br : IfBegun} (b : BeginsIf bs w u (p .net) c (entry ds (p .counts .ifs)) (wiresAt l p) w₁ u₁ br) where
     from-first : br .net .next ≡ firstFrom bs h d (p .net .next) c s first second
     from-first = b .emitted .next ∙ ap (λ (m : ℕ). p .net .next + m) (length-append (conditionOf bs (p .net .next) c s .nodes) (arrivalsAt bs (p .net .next) c d s .nodes)) ∙ sym (add-assoc (p .net .next) _ _)
 
     first-is : first (br .net .next) (arriving s (br .first)) ≡ First
     first-is = λ j. first (from-first j) (arriving s (b .first j))
 
-    pub first-room : Roomy (p .net) Fork → length l ≡ allPlaces → ArmRoom bs h t ds (depth + 1) 12 l (inFirst (p .next + 4) p br)
+    pub first-room : Roomy (p .net) Fork → length l ≡ allPlaces → ArmReady bs h t ds (depth + 1) 12 l (inFirst (p .next + 4) p br)
     first-room r long = record {
       some = record { arm = i .first; end = i .else; after = i .between; stands = i .stands-first };
       room = rw first-is (ready-after (2 ^ 25 + length (First .nodes)) (b .emitted) r (omega (arith, first-longer)));
       places = long;
     }
 
-    module _ {w₂ u₂ l₂ : List ℕ} {x : Walk} (a : ArmMade bs h t ds (depth + 1) 12 w₁ u₁ l (inFirst (p .next + 4) p br) w₂ u₂ l₂ x) where
-      first-arrives : Arrives w₁ u₁ (br .net) First (i .else) (i .between) w₂ u₂ l₂ x
+    module _ {w₂ u₂ l₂ : List ℕ} {x : Walk} (a : ArmEncoded bs h t ds (depth + 1) 12 w₁ u₁ l (inFirst (p .next + 4) p br) w₂ u₂ l₂ x) where
+      first-arrives : WalksTo w₁ u₁ (br .net) First (i .else) (i .between) w₂ u₂ l₂ x
       first-arrives =
-          subst (λ (z : Stretch). Arrives w₁ u₁ (br .net) z (i .else) (i .between) w₂ u₂ l₂ x) first-is (a .tells (i .first) (i .else) (i .between) (i .stands-first))
+          subst (λ (z : Encoding). WalksTo w₁ u₁ (br .net) z (i .else) (i .between) w₂ u₂ l₂ x) first-is (a .tells (i .first) (i .else) (i .between) (i .stands-first))
 
       first-claim : isMade (x .reach .claim) ≡ isMade (First .wires .claim)
       first-claim = ap isMade (first-arrives .claim)
 
-      pub first-stops : isMade (x .reach .claim) ≡ true → Arrives w u (p .net) Fork (i .end) (i .after) w₂ u₂ l₂ x
+      pub first-stops : isMade (x .reach .claim) ≡ true → WalksTo w u (p .net) Fork (i .end) (i .after) w₂ u₂ l₂ x
       first-stops m =
-          by-claim (λ (z : Stretch). Arrives w u (p .net) z (i .end) (i .after) w₂ u₂ l₂ x)
+          by-claim (λ (z : Encoding). WalksTo w u (p .net) z (i .end) (i .after) w₂ u₂ l₂ x)
           (λ e. over (record { nodes = Front ++ First .nodes; wires = First .wires }) (emitted-then (b .emitted) (first-arrives .emitted)) (first-arrives .claim) m)
           (λ e f. not-both (isMade (First .wires .claim)) (sym first-claim ∙ m) e)
           (λ e f. not-both (isMade (First .wires .claim)) (sym first-claim ∙ m) e)
@@ -131,7 +131,7 @@ module _ (bs : List ℕ) (h : Header) (t : Target) (ds : List ℕ) (depth : ℕ)
         else-stands : Stands bs h (depth + 1) 13 (x .next) (x .counts) (i .second) (i .end) (i .after)
         else-stands = rw (first-arrives .next o, first-arrives .counts o) (i .stands-second)
 
-        pub second-room : Roomy (p .net) Fork → length l ≡ allPlaces → ArmRoom bs h t ds (depth + 1) 13 l (inElse p br x)
+        pub second-room : Roomy (p .net) Fork → length l ≡ allPlaces → ArmReady bs h t ds (depth + 1) 13 l (inElse p br x)
         second-room r long = record {
           some = record { arm = i .second; end = i .end; after = i .after; stands = else-stands };
           room =
@@ -141,10 +141,10 @@ module _ (bs : List ℕ) (h : Header) (t : Target) (ds : List ℕ) (depth : ℕ)
           places = long;
         }
 
-        module _ {w₃ u₃ l₃ : List ℕ} {y : Walk} (a₁ : ArmMade bs h t ds (depth + 1) 13 w₂ u₂ l (inElse p br x) w₃ u₃ l₃ y) where
-          second-arrives : Arrives w₂ u₂ (x .net) Second (i .end) (i .after) w₃ u₃ l₃ y
+        module _ {w₃ u₃ l₃ : List ℕ} {y : Walk} (a₁ : ArmEncoded bs h t ds (depth + 1) 13 w₂ u₂ l (inElse p br x) w₃ u₃ l₃ y) where
+          second-arrives : WalksTo w₂ u₂ (x .net) Second (i .end) (i .after) w₃ u₃ l₃ y
           second-arrives =
-              subst (λ (z : Stretch). Arrives w₂ u₂ (x .net) z (i .end) (i .after) w₃ u₃ l₃ y) second-is (a₁ .tells (i .second) (i .end) (i .after) else-stands)
+              subst (λ (z : Encoding). WalksTo w₂ u₂ (x .net) z (i .end) (i .after) w₃ u₃ l₃ y) second-is (a₁ .tells (i .second) (i .end) (i .after) else-stands)
 
           second-claim : isMade (y .reach .claim) ≡ isMade (Second .wires .claim)
           second-claim = ap isMade (second-arrives .claim)
@@ -153,9 +153,9 @@ module _ (bs : List ℕ) (h : Header) (t : Target) (ds : List ℕ) (depth : ℕ)
           three-made = emitted-then (b .emitted) (emitted-then (first-arrives .emitted) (second-arrives .emitted))
 
           -- whatever stands in the literals then
-          pub second-stops : isMade (y .reach .claim) ≡ true → (l₄ : List ℕ) → Arrives w u (p .net) Fork (i .end) (i .after) w₃ u₃ l₄ y
+          pub second-stops : isMade (y .reach .claim) ≡ true → (l₄ : List ℕ) → WalksTo w u (p .net) Fork (i .end) (i .after) w₃ u₃ l₄ y
           second-stops m l₄ =
-              by-claim (λ (z : Stretch). Arrives w u (p .net) z (i .end) (i .after) w₃ u₃ l₄ y) (λ e. not-both (isMade (First .wires .claim)) e (sym first-claim ∙ o))
+              by-claim (λ (z : Encoding). WalksTo w u (p .net) z (i .end) (i .after) w₃ u₃ l₄ y) (λ e. not-both (isMade (First .wires .claim)) e (sym first-claim ∙ o))
               (λ e f. over (record { nodes = Front ++ (First .nodes ++ Second .nodes); wires = Second .wires }) three-made (second-arrives .claim) m)
               (λ e f. not-both (isMade (Second .wires .claim)) (sym second-claim ∙ m) f)
 
@@ -169,15 +169,15 @@ module _ (bs : List ℕ) (h : Header) (t : Target) (ds : List ℕ) (depth : ℕ)
             from-join = second-arrives .emitted .next ∙ ap (λ (m : ℕ). m + length (Second .nodes)) from-second
 
             pub arms-join : {w₄ u₄ l₄ : List ℕ} {r : Walk}
-                → Arrives w₃ u₃ (y .net) (joined bs h (y .net .next) (br .condition) (wiresAt l₂ x) (wiresAt l₃ y)) (y .next) (y .counts) w₄ u₄ l₄ r
-                → Arrives w u (p .net) Fork (i .end) (i .after) w₄ u₄ l₄ r
+                → WalksTo w₃ u₃ (y .net) (joinArms bs h (y .net .next) (br .condition) (wiresAt l₂ x) (wiresAt l₃ y)) (y .next) (y .counts) w₄ u₄ l₄ r
+                → WalksTo w u (p .net) Fork (i .end) (i .after) w₄ u₄ l₄ r
             arms-join {w₄} {u₄} {l₄} {r} z =
-                let q : Arrives w₃ u₃ (y .net) (joinOf bs h d (p .net .next) c s first second) (i .end) (i .after) w₄ u₄ l₄ r =
-                subst (λ (k : Counts). Arrives w₃ u₃ (y .net) (joinOf bs h d (p .net .next) c s first second) (i .end) k w₄ u₄ l₄ r) (second-arrives .counts o₁)
-                (subst (λ (n : ℕ). Arrives w₃ u₃ (y .net) (joinOf bs h d (p .net .next) c s first second) n (y .counts) w₄ u₄ l₄ r) (second-arrives .next o₁)
-                (subst (λ (m : Stretch). Arrives w₃ u₃ (y .net) m (y .next) (y .counts) w₄ u₄ l₄ r)
-                (λ j. joined bs h (from-join j) (b .condition j) (first-arrives .wires o j) (second-arrives .wires o₁ j)) z)) in
-                by-claim (λ (m : Stretch). Arrives w u (p .net) m (i .end) (i .after) w₄ u₄ l₄ r)
+                let q : WalksTo w₃ u₃ (y .net) (joinOf bs h d (p .net .next) c s first second) (i .end) (i .after) w₄ u₄ l₄ r =
+                subst (λ (k : Counts). WalksTo w₃ u₃ (y .net) (joinOf bs h d (p .net .next) c s first second) (i .end) k w₄ u₄ l₄ r) (second-arrives .counts o₁)
+                (subst (λ (n : ℕ). WalksTo w₃ u₃ (y .net) (joinOf bs h d (p .net .next) c s first second) n (y .counts) w₄ u₄ l₄ r) (second-arrives .next o₁)
+                (subst (λ (m : Encoding). WalksTo w₃ u₃ (y .net) m (y .next) (y .counts) w₄ u₄ l₄ r)
+                (λ j. joinArms bs h (from-join j) (b .condition j) (first-arrives .wires o j) (second-arrives .wires o₁ j)) z)) in
+                by-claim (λ (m : Encoding). WalksTo w u (p .net) m (i .end) (i .after) w₄ u₄ l₄ r)
                 (λ e. not-both (isMade (First .wires .claim)) e (sym first-claim ∙ o))
                 (λ e f. not-both (isMade (Second .wires .claim)) f (sym second-claim ∙ o₁))
                 (λ e f. record {

@@ -20,7 +20,7 @@ ghost use Rattle.translation_state.specs.Wires.{allPlaces};
 ghost use Rattle.translation_walk.specs.Inner.Walker.{Begun, beginning};
 
 // The parameters' bits take the next variables; other bits begin as literal 3.
-pub fn begin(lits: &mut [u32], n: Net, bytes: &[u8], h: Header) -> Net
+pub fn begin_parameters(lits: &mut [u32], n: Net, bytes: &[u8], h: Header) -> Net
     requires { ⌜ now lits ≡ replicate allPlaces 3 ⌝ }
     requires { ⌜ Ready n 2048 × (n .next ≡ 2) ⌝ }
     requires { ⌜ Fine (now bytes) h ⌝ }

@@ -6,8 +6,8 @@ use routine_command::commands::simple_size;
 use routine_faults::steps::counts_after;
 use routine_faults::steps::counts_after_if;
 use routine_header::Header;
-use translation_command::commands::simple_made;
-use translation_if::Branches;
+use translation_command::commands::encode_simple;
+use translation_if::IfBegun;
 use translation_if::joins::join_arms;
 use translation_state::literals::is_made;
 use translation_state::literals::with_arrival;
@@ -15,14 +15,14 @@ ghost use mathlib.Core.Path.{_≡_};
 ghost use mathlib.Core.Bool.{false};
 ghost use Prim.Native.Nat.{_+_, _<_, _≤_};
 ghost use lib.ListN.{length};
-ghost use Rattle.routine_command.specs.Command.{sizeOfSimple};
-ghost use Rattle.routine_faults.specs.Step.{tooMany, after};
+ghost use Rattle.routine_command.specs.Command.{simpleSize};
+ghost use Rattle.routine_faults.specs.Step.{tooMany, countsAfter};
 ghost use Rattle.routine_faults.specs.Inner.Sound.{Sound, Fine};
 ghost use Rattle.netlist.specs.Inner.Emit.{Ready};
 ghost use Rattle.translation_state.specs.Wires.{allPlaces, isMade};
 ghost use Rattle.translation_command.specs.Command.{simple};
-ghost use Rattle.translation_if.specs.Branch.{joined};
-ghost use Rattle.translation_walk.specs.Inner.Walker.{Arrives, wiresAt, inFirst, inElse};
+ghost use Rattle.translation_if.specs.If.{joinArms};
+ghost use Rattle.translation_walk.specs.Inner.Walker.{WalksTo, wiresAt, inFirst, inElse};
 
 // Whether the claim was made, so that the translation is over.
 pub fn is_over(p: Walk) -> bool
@@ -33,7 +33,7 @@ pub fn is_over(p: Walk) -> bool
 }
 
 // Translates the command c, which is no if, where the walk is.
-pub fn simple_walked(
+pub fn walk_simple(
     words: &mut [u32],
     starts: &mut [u32],
     lits: &mut [u32],
@@ -44,16 +44,16 @@ pub fn simple_walked(
     start: Walk,
 ) -> Walk
     requires { ⌜ Ready (start .net) 8192 × (length (now lits) ≡ allPlaces) ⌝ }
-    requires { ⌜ Sound (now bytes) h c × (tooMany c (start .counts) ≡ false) × (start .next + sizeOfSimple c ≤ length (now bytes)) ⌝ }
+    requires { ⌜ Sound (now bytes) h c × (tooMany c (start .counts) ≡ false) × (start .next + simpleSize c ≤ length (now bytes)) ⌝ }
     requires { ⌜ Fine (now bytes) h × (isMade (start .reach .claim) ≡ false) ⌝ }
-    ensures { λ r. ⌜ Arrives (now (words .entry)) (now (starts .entry)) (start .net) (simple (now (bytes .entry)) h t (start .net .next) c (start .counts) (wiresAt (now (lits .entry)) start)) (start .next + sizeOfSimple c) (after c (start .counts)) (now (words .exit)) (now (starts .exit)) (now (lits .exit)) r ⌝ }
+    ensures { λ r. ⌜ WalksTo (now (words .entry)) (now (starts .entry)) (start .net) (simple (now (bytes .entry)) h t (start .net .next) c (start .counts) (wiresAt (now (lits .entry)) start)) (start .next + simpleSize c) (countsAfter c (start .counts)) (now (words .exit)) (now (starts .exit)) (now (lits .exit)) r ⌝ }
 {
     let n = start.net;
     let k = start.counts;
     let s = start.reach;
     let next = start.next + simple_size(c);
     let counts = counts_after(c, k);
-    let m = simple_made(words, starts, lits, n, bytes, h, t, c, k, s);
+    let m = encode_simple(words, starts, lits, n, bytes, h, t, c, k, s);
     let net = m.net;
     let reach = m.reach;
     Walk {
@@ -65,7 +65,7 @@ pub fn simple_walked(
 }
 
 // The walk at the first arm of the if where it was, whose commands begin at `next`.
-pub fn in_first(next: usize, start: Walk, b: Branches) -> Walk
+pub fn in_first(next: usize, start: Walk, b: IfBegun) -> Walk
     requires { ⌜ start .counts .ifs < 32 ⌝ }
     ensures { λ r. ⌜ r ≡ inFirst next start b ⌝ }
 {
@@ -82,7 +82,7 @@ pub fn in_first(next: usize, start: Walk, b: Branches) -> Walk
 }
 
 // The walk at the else, after the first arm x.
-pub fn in_else(start: Walk, b: Branches, x: Walk) -> Walk
+pub fn in_else(start: Walk, b: IfBegun, x: Walk) -> Walk
     ensures { λ r. ⌜ r ≡ inElse start b x ⌝ }
 {
     let s = start.reach;
@@ -98,7 +98,7 @@ pub fn in_else(start: Walk, b: Branches, x: Walk) -> Walk
 }
 
 // The walk after an if whose condition is c: the first arm ended at x with lits, the else at y with other.
-pub fn arms_walked(
+pub fn walk_join(
     words: &mut [u32],
     starts: &mut [u32],
     lits: &mut [u32],
@@ -110,7 +110,7 @@ pub fn arms_walked(
     y: Walk,
 ) -> Walk
     requires { ⌜ Ready (y .net) 8192 × (length (now lits) ≡ allPlaces) × (length (now other) ≡ allPlaces) × Fine (now bytes) h ⌝ }
-    ensures { λ r. ⌜ Arrives (now (words .entry)) (now (starts .entry)) (y .net) (joined (now (bytes .entry)) h (y .net .next) c (wiresAt (now (lits .entry)) x) (wiresAt (now (other .entry)) y)) (y .next) (y .counts) (now (words .exit)) (now (starts .exit)) (now (lits .exit)) r ⌝ }
+    ensures { λ r. ⌜ WalksTo (now (words .entry)) (now (starts .entry)) (y .net) (joinArms (now (bytes .entry)) h (y .net .next) c (wiresAt (now (lits .entry)) x) (wiresAt (now (other .entry)) y)) (y .next) (y .counts) (now (words .exit)) (now (starts .exit)) (now (lits .exit)) r ⌝ }
 {
     let n = y.net;
     let xs = x.reach;

@@ -1,27 +1,27 @@
 // Translating an arm and translating an if: the two call each other, the bytes left falling.
 use crate::Walk;
-use crate::steps::arms_walked;
 use crate::steps::in_else;
 use crate::steps::in_first;
 use crate::steps::is_over;
-use crate::steps::simple_walked;
+use crate::steps::walk_join;
+use crate::steps::walk_simple;
 use lead::Target;
 use routine_command::Command;
 use routine_command::Condition;
 use routine_command::commands::command_at;
 use routine_header::Header;
 use slices::byte_at;
-use translation_if::branch;
+use translation_if::begin_if;
 use translation_state::literals::copied;
 ghost use mathlib.Core.Path.{_≡_};
 ghost use mathlib.Core.Bool.{false};
 ghost use Prim.Native.Nat.{_<_};
 ghost use Rattle.routine_faults.specs.Inner.Sound.{SoundIf, Fine};
 ghost use Rattle.translation_state.specs.Wires.{isMade};
-ghost use Rattle.translation_walk.specs.Inner.Walker.{ArmMade, ArmRoom, IfMade, IfRoom};
+ghost use Rattle.translation_walk.specs.Inner.Walker.{ArmEncoded, ArmReady, IfEncoded, IfReady};
 
 // Translates the arm that stands where the walk is, inside `depth` ifs and ended by the command byte `close`; ds are the decisions.
-pub fn arm_made(
+pub fn encode_arm(
     words: &mut [u32],
     starts: &mut [u32],
     lits: &mut [u32],
@@ -33,8 +33,8 @@ pub fn arm_made(
     close: u8,
     start: Walk,
 ) -> Walk
-    requires { ⌜ ArmRoom (now bytes) h t (now ds) depth close (now lits) start × Fine (now bytes) h × (isMade (start .reach .claim) ≡ false) ⌝ }
-    ensures { λ r. ⌜ ArmMade (now (bytes .entry)) h t (now (ds .entry)) depth close (now (words .entry)) (now (starts .entry)) (now (lits .entry)) start (now (words .exit)) (now (starts .exit)) (now (lits .exit)) r ⌝ }
+    requires { ⌜ ArmReady (now bytes) h t (now ds) depth close (now lits) start × Fine (now bytes) h × (isMade (start .reach .claim) ≡ false) ⌝ }
+    ensures { λ r. ⌜ ArmEncoded (now (bytes .entry)) h t (now (ds .entry)) depth close (now (words .entry)) (now (starts .entry)) (now (lits .entry)) start (now (words .exit)) (now (starts .exit)) (now (lits .exit)) r ⌝ }
 {
     let mut p = start;
     loop {
@@ -45,13 +45,13 @@ pub fn arm_made(
                 return p;
             }
             Command::If(c) => {
-                p = if_made(words, starts, lits, bytes, h, t, ds, depth, c, p);
+                p = encode_if(words, starts, lits, bytes, h, t, ds, depth, c, p);
                 if is_over(p) {
                     return p;
                 }
             }
             Command::Simple(c) => {
-                p = simple_walked(words, starts, lits, bytes, h, t, c, p);
+                p = walk_simple(words, starts, lits, bytes, h, t, c, p);
                 if is_over(p) {
                     return p;
                 }
@@ -61,7 +61,7 @@ pub fn arm_made(
 }
 
 // Translates the if where the walk is. Its number is the count of the ifs before it. The else starts from the bits at the if.
-fn if_made(
+fn encode_if(
     words: &mut [u32],
     starts: &mut [u32],
     lits: &mut [u32],
@@ -73,8 +73,8 @@ fn if_made(
     c: Condition,
     start: Walk,
 ) -> Walk
-    requires { ⌜ IfRoom (now bytes) h t (now ds) depth c (now lits) start × (start .counts .ifs < 32) × SoundIf (now bytes) h c × Fine (now bytes) h × (isMade (start .reach .claim) ≡ false) ⌝ }
-    ensures { λ r. ⌜ IfMade (now (bytes .entry)) h t (now (ds .entry)) depth c (now (words .entry)) (now (starts .entry)) (now (lits .entry)) start (now (words .exit)) (now (starts .exit)) (now (lits .exit)) r ⌝ }
+    requires { ⌜ IfReady (now bytes) h t (now ds) depth c (now lits) start × (start .counts .ifs < 32) × SoundIf (now bytes) h c × Fine (now bytes) h × (isMade (start .reach .claim) ≡ false) ⌝ }
+    ensures { λ r. ⌜ IfEncoded (now (bytes .entry)) h t (now (ds .entry)) depth c (now (words .entry)) (now (starts .entry)) (now (lits .entry)) start (now (words .exit)) (now (starts .exit)) (now (lits .exit)) r ⌝ }
 {
     let n = start.net;
     let s = start.reach;
@@ -82,16 +82,16 @@ fn if_made(
     let deep = depth + 1;
     let mut other = copied(lits);
     let d = byte_at(ds, k.ifs as usize);
-    let b = branch(words, starts, lits, n, bytes, h, c, d, s);
+    let b = begin_if(words, starts, lits, n, bytes, h, c, d, s);
     let p = in_first(start.next + 4, start, b);
-    let x = arm_made(words, starts, lits, bytes, h, t, ds, deep, 0x0C, p);
+    let x = encode_arm(words, starts, lits, bytes, h, t, ds, deep, 0x0C, p);
     if is_over(x) {
         return x;
     }
     let q = in_else(start, b, x);
-    let y = arm_made(words, starts, &mut other, bytes, h, t, ds, deep, 0x0D, q);
+    let y = encode_arm(words, starts, &mut other, bytes, h, t, ds, deep, 0x0D, q);
     if is_over(y) {
         return y;
     }
-    arms_walked(words, starts, lits, bytes, h, b.condition, x, &other, y)
+    walk_join(words, starts, lits, bytes, h, b.condition, x, &other, y)
 }

@@ -10,12 +10,12 @@ use borrow.Author.Tests.{le-leb, leb-true}
 use Rattle.routine_header.specs.declared.Header.{Header}
 use Rattle.routine_faults.specs.declared.Counts.{Counts}
 use Rattle.lead.specs.Lead.{translates, byLead, admittedLead}
-use Rattle.lead.specs.declared.Admitted.{Admitted}
+use Rattle.lead.specs.declared.AdmittedClaim.{AdmittedClaim}
 use Rattle.lead.specs.declared.Target.{Target}
 use Rattle.lead.proofs.Leads.{lead-admits}
 use Rattle.routine.specs.Routine.{Arm}
 use Rattle.routine.specs.Decode.{IsRoutine}
-use Rattle.routine.specs.Inner.Known.{Counted}
+use Rattle.routine.specs.Inner.Known.{IsRoutineWith}
 use Rattle.routine.proofs.Accepted.{decoded}
 use Rattle.routine.proofs.Counting.{few-accesses}
 use Rattle.routine_faults.proofs.Fine.{fine}
@@ -30,7 +30,7 @@ decisions-part r n = let e : 2 + n - 2 ≡ n = omega arith in ap (λ (m : ℕ). 
 
 module _ (r : List ℕ) (h : Header) (k : Counts) (short : length r ≤ 16777216) (long : proofAt h k ≤ length r) where
   -- what 12 says, once 11 is past
-  pub opened-by : (ds : List ℕ) → ds ≡ decisionsIn r k → (x : Admitted) → x ≡ admittedLead (targetIn r) ds h k → (y : Admitted) → x ≡ y
+  pub opened-by : (ds : List ℕ) → ds ≡ decisionsIn r k → (x : AdmittedClaim) → x ≡ admittedLead (targetIn r) ds h k → (y : AdmittedClaim) → x ≡ y
       → byAdmitted (targetIn r) y ≡ leadOf r h k
   unfolding leadOf
   opened-by ds same x is y e =
@@ -47,10 +47,10 @@ pub record Lets (r : List ℕ) (h : Header) (k : Counts) (t : Target) : Type 0 w
   pub admits : (a : Arm) → byLead t (decisionsIn r k) h a k ≡ translates h a k
 
 module _ (r : List ℕ) (h : Header) (k : Counts) (t : Target) where
-  admitted-by : (x : Admitted) → x ≡ admittedLead (targetIn r) (decisionsIn r k) h k → byAdmitted (targetIn r) x ≡ Opened.Opens t
+  admitted-by : (x : AdmittedClaim) → x ≡ admittedLead (targetIn r) (decisionsIn r k) h k → byAdmitted (targetIn r) x ≡ Opened.Opens t
       → (t ≡ targetIn r) × ((a : Arm) → byLead (targetIn r) (decisionsIn r k) h a k ≡ translates h a k)
-  admitted-by (Admitted.Refused refusal) is e = let z : _≡_ {A = ℕ} 0 1 = cc in absurd (omega arith)
-  admitted-by (Admitted.Translates h₁) is e = (cc, lead-admits (targetIn r) (decisionsIn r k) h k (Admitted.Translates h₁) is h₁ refl)
+  admitted-by (AdmittedClaim.Refused refusal) is e = let z : _≡_ {A = ℕ} 0 1 = cc in absurd (omega arith)
+  admitted-by (AdmittedClaim.Translates h₁) is e = (cc, lead-admits (targetIn r) (decisionsIn r k) h k (AdmittedClaim.Translates h₁) is h₁ refl)
 
   let-by : (b c : Bool) → leb (length r) 16777216 ≡ b → leb (proofAt h k) (length r) ≡ c
       → cond b (cond c (byAdmitted (targetIn r) (admittedLead (targetIn r) (decisionsIn r k) h k)) (Opened.Refused (Refusal.Cut (length r)))) (Opened.Refused (Refusal.Cut (length r))) ≡ Opened.Opens t
@@ -66,10 +66,10 @@ module _ (r : List ℕ) (h : Header) (k : Counts) (t : Target) where
   lets x is e = let-by (leb (length r) 16777216) (leb (proofAt h k) (length r)) refl refl (sym is ∙ e)
 
 -- so many inputs, of a routine with these counts, fit the array
-pub inputs-few : (bs : List ℕ) (h : Header) (k : Counts) → Counted bs h k → inputCount h k ≤ 96
+pub inputs-few : (bs : List ℕ) (h : Header) (k : Counts) → IsRoutineWith bs h k → inputCount h k ≤ 96
 inputs-few bs h k i =
     let f = fine bs h (decoded bs h (i .commands) k (i .decodes) .header) in
     omega (arith, f .parameters, f .variables, few-accesses bs h (i .commands) k (i .decodes))
 
-pub counted-routine : (bs : List ℕ) (h : Header) (k : Counts) → Counted bs h k → IsRoutine bs h
+pub counted-routine : (bs : List ℕ) (h : Header) (k : Counts) → IsRoutineWith bs h k → IsRoutine bs h
 counted-routine bs h k i = record { commands = i .commands; counts = k; decodes = i .decodes }

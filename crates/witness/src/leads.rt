@@ -1,7 +1,7 @@
 // The lead of a report: 11, then 12.
 use crate::Opened;
 use crate::Refusal;
-use lead::Admitted;
+use lead::AdmittedClaim;
 use lead::Target;
 use lead::admit_lead;
 use routine_faults::Counts;
@@ -34,7 +34,7 @@ pub fn open(report: &[u8], h: Header, k: Counts) -> Opened
     };
     let end = 2 + k.ifs as usize;
     match admit_lead(h, k, t, &report[2..end]) {
-        Admitted::Refused(refusal) => Opened::Refused(Refusal::Lead(refusal)),
-        Admitted::Translates(_) => Opened::Opens(t),
+        AdmittedClaim::Refused(refusal) => Opened::Refused(Refusal::Lead(refusal)),
+        AdmittedClaim::Translates(_) => Opened::Opens(t),
     }
 }

@@ -9,7 +9,7 @@ use routine_faults::Counts;
 use routine_header::Header;
 ghost use mathlib.Core.Path.{_≡_};
 ghost use Rattle.routine.specs.Decode.{commandsIn};
-ghost use Rattle.routine.specs.Inner.Known.{Counted};
+ghost use Rattle.routine.specs.Inner.Known.{IsRoutineWith};
 ghost use Rattle.witness.specs.Witness.{witnessOf};
 
 // Why a report is turned down before its proof is looked at.
@@ -45,7 +45,7 @@ pub enum Witness {
 
 // Looks at the lead of a report on a routine with these counts, and runs its witness as far as the named access.
 pub fn run_witness(routine: &[u8], report: &[u8], h: Header, k: Counts) -> Witness
-    requires { ⌜ Counted (now routine) h k ⌝ }
+    requires { ⌜ IsRoutineWith (now routine) h k ⌝ }
     ensures { λ r. ⌜ r ≡ witnessOf (now (routine .entry)) (now (report .entry)) h (commandsIn (now (routine .entry))) k ⌝ }
 {
     match leads::open(report, h, k) {

@@ -18,7 +18,7 @@ ghost use mathlib.Core.Path.{_≡_};
 ghost use Prim.Native.Nat.{_≤_};
 ghost use lib.ListN.{length};
 ghost use Rattle.routine.specs.Decode.{commandsIn};
-ghost use Rattle.routine.specs.Inner.Known.{Counted};
+ghost use Rattle.routine.specs.Inner.Known.{IsRoutineWith};
 ghost use Rattle.routine_faults.specs.Inputs.{inputCount};
 ghost use Rattle.run.specs.Side.{isOn};
 ghost use Rattle.witness.specs.Lead.{proofAt};
@@ -61,7 +61,7 @@ fn by_course(routine: &[u8], h: Header, t: Target, course: Course) -> Witness
 
 // The witness of a report whose lead is whole and names t.
 pub fn settle(routine: &[u8], report: &[u8], h: Header, k: Counts, t: Target) -> Witness
-    requires { ⌜ Counted (now routine) h k × (proofAt h k ≤ length (now report)) × (inputCount h k ≤ 96) ⌝ }
+    requires { ⌜ IsRoutineWith (now routine) h k × (proofAt h k ≤ length (now report)) × (inputCount h k ≤ 96) ⌝ }
     ensures { λ r. ⌜ r ≡ byOpened (now (routine .entry)) (now (report .entry)) h (commandsIn (now (routine .entry))) k (Opened.Opens t) ⌝ }
 {
     let n = input_count(h, k);

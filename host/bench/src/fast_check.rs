@@ -133,11 +133,7 @@ impl Walk<'_> {
     }
 
     #[inline(always)]
-    fn convert<'b>(
-        &mut self,
-        rest: &'b [u8],
-        fits: impl Fn(u8, u8) -> bool,
-    ) -> Next<'b> {
+    fn convert<'b>(&mut self, rest: &'b [u8], fits: impl Fn(u8, u8) -> bool) -> Next<'b> {
         let ([_, d, s], rest) = split(rest)?;
         let (to, from) = (self.header.width(d), self.header.width(s));
         if to == 0 || from == 0 || !fits(to, from) {

@@ -2,9 +2,9 @@
 use Prim.Native.Nat.{ℕ}
 use mathlib.Core.List.{List}
 use Rattle.lead.specs.declared.Target.{Target}
-use Rattle.lead.specs.declared.Admitted.{Admitted}
-use Rattle.lead.specs.Lead.{admission, withoutTree}
+use Rattle.lead.specs.declared.AdmittedClaim.{AdmittedClaim}
+use Rattle.lead.specs.Lead.{claimAdmission, claimWithoutTree}
 
 -- what `admit` answers
-unfoldable pub admitted : (bs : List ℕ) → Target → (ds : List ℕ) → Admitted
-admitted bs t ds = withoutTree (admission bs t ds)
+unfoldable pub claimAdmitted : (bs : List ℕ) → Target → (ds : List ℕ) → AdmittedClaim
+claimAdmitted bs t ds = claimWithoutTree (claimAdmission bs t ds)

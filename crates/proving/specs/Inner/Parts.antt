@@ -8,7 +8,7 @@ use Rattle.routine_faults.specs.declared.Counts.{Counts}
 use Rattle.routine.specs.Routine.{Arm}
 use Rattle.routine.specs.Decode.{routine, decode}
 use Rattle.lead.specs.declared.Target.{Target}
-use Rattle.translation_meaning.specs.Translation.{whole}
+use Rattle.translation_meaning.specs.Translation.{translationOf}
 use Rattle.translation.specs.declared.Refusal as translating
 use Rattle.witness.specs.Lead.{decisionsIn, proofAt}
 use Rattle.witness.specs.declared.Refusal as witness
@@ -28,4 +28,4 @@ byTranslation (translating.Refusal.TooSmall buffer) = Refusal.TooSmall buffer
 
 -- 16 and the proof of a report on whatever was decoded
 pub record Proves (bs r : List ℕ) (h : Header) (k : Counts) (t : Target) (m : Room) (p : Proved) : Type 0 where
-  pub tells : (a : Arm) → decode bs ≡ routine h a k → p ≡ provedBy r (proofAt h k) m h k (whole bs t (decisionsIn r k) h a)
+  pub tells : (a : Arm) → decode bs ≡ routine h a k → p ≡ provedBy r (proofAt h k) m h k (translationOf bs t (decisionsIn r k) h a)

@@ -7,13 +7,13 @@ use Rattle.routine_header.specs.declared.Header.{Header}
 use Rattle.routine_header.specs.declared.Head.{Head}
 use Rattle.routine_faults.specs.declared.Counts.{Counts}
 use Rattle.routine.specs.declared.Checked.{Checked}
-use Rattle.routine.specs.Decode.{decodeHead, decode, answer, routine}
+use Rattle.routine.specs.Decode.{decodeHead, decode, checkAnswer, routine}
 
 -- what `check_commands` answers: the header is known to be whole
 unfoldable pub checkedCommands : List ℕ → Header → Checked
-checkedCommands bs h = answer (decodeHead bs (Head.Whole h))
+checkedCommands bs h = checkAnswer (decodeHead bs (Head.Whole h))
 
 -- the bytes are a routine with this header and these counts
-pub record Counted (bs : List ℕ) (h : Header) (k : Counts) : Type 0 where
+pub record IsRoutineWith (bs : List ℕ) (h : Header) (k : Counts) : Type 0 where
   pub commands : Arm
   pub decodes : decode bs ≡ routine h commands k

@@ -6,17 +6,17 @@ use Rattle.run.proofs.run.Tie as tie
 run-to-end-requires : tie.Need-run-to-end-requires
 run-to-end-requires c κs = run-routine _ _ _ _ _ (c .before .before .before .admit .ensures) _ _ (c .before .h .given .1)
 
-put-values-requires : tie.Need-put-values-requires
-put-values-requires c κs = values-fit _ _ _ _ _ (c .before .before .before .before .before .admit .ensures) _ _ (c .before .before .before .h .given .1)
+hand-out-values-requires : tie.Need-hand-out-values-requires
+hand-out-values-requires c κs = values-fit _ _ _ _ _ (c .before .before .before .before .before .admit .ensures) _ _ (c .before .before .before .h .given .1)
 
-put-trail-requires : tie.Need-put-trail-requires
-put-trail-requires c κs = trail-fits _ _ _ _ _ (c .before .before .before .before .before .before .before .before .before .admit .ensures) _ _ (c .before .before .before .before .before .before .before .h .given .1)
+hand-out-trail-requires : tie.Need-hand-out-trail-requires
+hand-out-trail-requires c κs = trail-fits _ _ _ _ _ (c .before .before .before .before .before .before .before .before .before .admit .ensures) _ _ (c .before .before .before .before .before .before .before .h .given .1)
 
 returns : tie.Need-returns
 returns c = answers-refusal _ _ _ _ _ (c .before .before .before .admit .ensures) _ (c .before .refusal .given .1)
 
 returns-2 : tie.Need-returns-2
-returns-2 c = answers-run _ _ _ _ _ (c .before .before .before .before .before .before .before .before .before .before .before .before .before .admit .ensures) _ _ (c .before .before .before .before .before .before .before .before .before .before .before .h .given .1) _ (c .before .before .before .before .before .before .before .before .before .run-to-end .ensures) _ _ _ (c .answer-of .ensures) (c .before .before .before .before .before .before .before .put-values .ensures) (c .before .before .before .put-trail .ensures)
+returns-2 c = answers-run _ _ _ _ _ (c .before .before .before .before .before .before .before .before .before .before .before .before .before .admit .ensures) _ _ (c .before .before .before .before .before .before .before .before .before .before .before .h .given .1) _ (c .before .before .before .before .before .before .before .before .before .run-to-end .ensures) _ _ _ (c .answer-of .ensures) (c .before .before .before .before .before .before .before .hand-out-values .ensures) (c .before .before .before .hand-out-trail .ensures)
 
 pub run-spec : {M : Type 1} → statement M
 run-spec =
@@ -26,8 +26,8 @@ run-spec =
     (λ c. search needs)
     (λ c. search needs)
     run-to-end-requires
-    put-values-requires
-    put-trail-requires
+    hand-out-values-requires
+    hand-out-trail-requires
     (λ c κs. search needs)
     returns
     (λ c. search needs)

@@ -6,8 +6,8 @@ use mathlib.Core.Bool.{Bool, true, false, cond}
 use Rattle.bitvec.specs.Signed.{signed}
 use Rattle.bitvec.specs.declared.Whole.{Whole}
 use Rattle.routine_header.specs.Header.{width, arraySize}
-use Rattle.routine_command.specs.Command.{sizeOfSimple}
-use Rattle.routine_faults.specs.Step.{oneIf, accesses, after}
+use Rattle.routine_command.specs.Command.{simpleSize}
+use Rattle.routine_faults.specs.Step.{countsAfterIf, accesses, countsAfter}
 use Rattle.routine.specs.Routine.{Arm}
 use Rattle.routine.specs.Inner.Stands.{Stands}
 use Rattle.routine_header.specs.declared.Header.{Header}
@@ -15,11 +15,11 @@ use Rattle.routine_command.specs.declared.Condition.{Condition}
 use Rattle.routine_faults.specs.declared.Counts.{Counts}
 use Rattle.routine_command.specs.declared.Simple.{Simple}
 use Rattle.routine_command.specs.declared.Touch.{Touch}
-use Rattle.run.specs.State.{holds, lies, carry}
+use Rattle.run.specs.State.{holds, lies, executed}
 use Rattle.run.specs.declared.Lies.{Lies}
 use Rattle.run.specs.declared.Outcome.{Outcome}
 use Rattle.run.specs.declared.State.{State}
-use Rattle.run.specs.Run.{Stretch, eventsAt, runArm, runIf}
+use Rattle.run.specs.Run.{Execution, eventsAt, runArm, runIf}
 use Rattle.run.specs.Course.{isGoal, courseTo}
 use Rattle.run.specs.declared.Course.{Course}
 use Rattle.run.specs.declared.Goal.{Goal}
@@ -67,11 +67,11 @@ armAt bs c s = cond (holds bs c s) 0 1
 -- the walk after a command that is no if
 unfoldable pub stepOn : (bs ins : List ℕ) → Goal → Header → Simple → Way → Way
 stepOn bs ins goal h c w =
-    wayAt (w .next + sizeOfSimple c) (after c (w .counts)) (carry bs ins h c (w .counts) (w .state))
+    wayAt (w .next + simpleSize c) (countsAfter c (w .counts)) (executed bs ins h c (w .counts) (w .state))
     (courseTo [] goal (eventsAt bs c (w .counts) (w .state)))
 
--- the walk has the course of the stretch x, and where that is not settled, its state; where it goes on, it is at `end` with the counts k
-pub record Arrives (ds : List ℕ) (goal : Goal) (x : Stretch) (end : ℕ) (k : Counts) (r : Way) : Type 0 where
+-- the walk has the course of the execution x, and where that is not settled, its state; where it goes on, it is at `end` with the counts k
+pub record Follows (ds : List ℕ) (goal : Goal) (x : Execution) (end : ℕ) (k : Counts) (r : Way) : Type 0 where
   pub course : r .course ≡ courseTo ds goal (x .events)
   pub state : settled (r .course) ≡ false → r .state ≡ x .state
   pub next : isDone r ≡ false → r .next ≡ end
@@ -80,10 +80,10 @@ pub record Arrives (ds : List ℕ) (goal : Goal) (x : Stretch) (end : ℕ) (k : 
 -- an arm, followed from where the walk w is
 pub record FollowsArm (bs ins ds : List ℕ) (goal : Goal) (h : Header) (depth close : ℕ) (w r : Way) : Type 0 where
   pub tells : (a : Arm) (end : ℕ) (k₁ : Counts) → Stands bs h depth close (w .next) (w .counts) a end k₁
-      → Arrives ds goal (runArm bs ins h a (w .state)) end k₁ r
+      → Follows ds goal (runArm bs ins h a (w .state)) end k₁ r
 
 -- an if, followed from where the walk w is
 pub record FollowsIf (bs ins ds : List ℕ) (goal : Goal) (h : Header) (depth : ℕ) (c : Condition) (w r : Way) : Type 0 where
   pub tells : (first : Arm) (else : ℕ) (k₁ : Counts) (second : Arm) (end : ℕ) (k₂ : Counts)
-      → Stands bs h (depth + 1) 0x0C (w .next + 4) (oneIf (w .counts)) first else k₁ → Stands bs h (depth + 1) 0x0D else k₁ second end k₂
-      → Arrives ds goal (runIf bs c (w .counts) (runArm bs ins h first) (runArm bs ins h second) (w .state)) end k₂ r
+      → Stands bs h (depth + 1) 0x0C (w .next + 4) (countsAfterIf (w .counts)) first else k₁ → Stands bs h (depth + 1) 0x0D else k₁ second end k₂
+      → Follows ds goal (runIf bs c (w .counts) (runArm bs ins h first) (runArm bs ins h second) (w .state)) end k₂ r

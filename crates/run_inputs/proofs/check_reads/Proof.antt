@@ -46,15 +46,15 @@ loop-again c = scan-fits _ _ _ _ _ _ _ (c .before .before .before .before .befor
 add-at-2 : tie.Need-add-at-2 Inv-loop μ-loop
 add-at-2 c =
     let l = scan-room _ _ _ _ _ _ _ (c .before .before .before .before .loop .inv) (omega arith) _ (c .before .before .byte-at .ensures) in
-    omega (arith, l, c .size-by .ensures)
+    omega (arith, l, c .size-by-op .ensures)
 
 loop-less-2 : tie.Need-loop-less-2 Inv-loop μ-loop
 loop-less-2 c =
     let l = scan-room _ _ _ _ _ _ _ (c .before .before .before .before .loop .inv) (omega arith) _ (c .before .before .byte-at .ensures) in
-    omega (arith, l, c .size-by .ensures)
+    omega (arith, l, c .size-by-op .ensures)
 
 loop-again-2 : tie.Need-loop-again-2 Inv-loop μ-loop
-loop-again-2 c = rw (c .size-by .ensures) (scan-past _ _ _ _ _ _ _ (c .before .before .before .before .loop .inv) (omega arith) _ (c .before .before .byte-at .ensures) (c .before .if1 .left))
+loop-again-2 c = rw (c .size-by-op .ensures) (scan-past _ _ _ _ _ _ _ (c .before .before .before .before .loop .inv) (omega arith) _ (c .before .before .byte-at .ensures) (c .before .if1 .left))
 
 returns-2 : tie.Need-returns-2 Inv-loop μ-loop
 returns-2 c = rw (← c .before .before .given-of .ensures) (scan-over _ _ _ _ _ _ _ (c .before .loop .inv) (omega arith))

@@ -5,7 +5,7 @@ use mathlib.Core.List.{List}
 use mathlib.Core.Bool.{false}
 use lib.ListN.{length}
 use Rattle.slices.specs.Bytes.{entry}
-use Rattle.routine_faults.specs.Step.{oneIf}
+use Rattle.routine_faults.specs.Step.{countsAfterIf}
 use Rattle.routine.specs.Routine.{Arm}
 use Rattle.routine.specs.Decode.{routine, decode, noCounts}
 use Rattle.routine.specs.Inner.Stands.{Stands, SomeArm, SomeIf}
@@ -16,14 +16,14 @@ use Rattle.cnf.specs.Inner.Append.{Fits, Written}
 use Rattle.cnf.specs.declared.Store.{Store}
 use Rattle.netlist.specs.Inner.Emit.{Emitted, Ready}
 use Rattle.netlist.specs.declared.Net.{Net}
-use Rattle.translation_command.specs.Command.{Stretch}
+use Rattle.translation_command.specs.Command.{Encoding}
 use Rattle.translation_state.specs.Wires.{Wires, allPlaces, isMade}
 use Rattle.translation_state.specs.Inner.Reach.{wiresOf, reaching}
-use Rattle.translation_meaning.specs.Walk.{forked, armOf}
-use Rattle.translation_meaning.specs.Translation.{parameterNodes, parameterLits, whole, clausesOfAll, sizeOf}
+use Rattle.translation_meaning.specs.Walk.{encodeIf, encodeArm}
+use Rattle.translation_meaning.specs.Translation.{parameterNodes, parameterLits, translationOf, clausesOfAll, translationSize}
 use Rattle.lead.specs.declared.Target.{Target}
 use Rattle.translation_walk.specs.declared.Walk.{Walk}
-use Rattle.translation_if.specs.declared.Branches.{Branches}
+use Rattle.translation_if.specs.declared.IfBegun.{IfBegun}
 use Rattle.translation_state.specs.declared.Claim.{Claim}
 use Rattle.translation_meaning.specs.declared.Size.{Size}
 
@@ -36,50 +36,50 @@ abbrev pub beginning : (next : ℕ) → Net → Walk
 beginning next n = record { next = next; counts = noCounts; net = n; reach = record { arrival = 2; claim = Claim.Open } }
 
 -- the walk at the first arm of the if where p is
-abbrev pub inFirst : (next : ℕ) → (p : Walk) → Branches → Walk
-inFirst next p b = record { next = next; counts = oneIf (p .counts); net = b .net; reach = reaching (p .reach) (b .first) }
+abbrev pub inFirst : (next : ℕ) → (p : Walk) → IfBegun → Walk
+inFirst next p b = record { next = next; counts = countsAfterIf (p .counts); net = b .net; reach = reaching (p .reach) (b .first) }
 
 -- the walk at the else, after the first arm x
-abbrev pub inElse : (p : Walk) → Branches → (x : Walk) → Walk
+abbrev pub inElse : (p : Walk) → IfBegun → (x : Walk) → Walk
 inElse p b x = record { next = x .next; counts = x .counts; net = x .net; reach = reaching (p .reach) (b .second) }
 
--- the buffers w and u became w₁ and u₁ by the stretch x; where no claim was made the literals became l₁, and the walk is at `end` with the counts k
-pub record Arrives (w u : List ℕ) (n : Net) (x : Stretch) (end : ℕ) (k : Counts) (w₁ u₁ l₁ : List ℕ) (r : Walk) : Type 0 where
+-- the buffers w and u became w₁ and u₁ by the encoding x; where no claim was made the literals became l₁, and the walk is at `end` with the counts k
+pub record WalksTo (w u : List ℕ) (n : Net) (x : Encoding) (end : ℕ) (k : Counts) (w₁ u₁ l₁ : List ℕ) (r : Walk) : Type 0 where
   pub emitted : Emitted w u n (x .nodes) w₁ u₁ (r .net)
   pub claim : r .reach .claim ≡ x .wires .claim
   pub wires : isMade (r .reach .claim) ≡ false → wiresAt l₁ r ≡ x .wires
   pub next : isMade (r .reach .claim) ≡ false → r .next ≡ end
   pub counts : isMade (r .reach .claim) ≡ false → r .counts ≡ k
 
--- there is room for the stretch, and half of all variables to spare
-abbrev pub Roomy : Net → Stretch → Type 0
+-- there is room for the encoding, and half of all variables to spare
+abbrev pub Roomy : Net → Encoding → Type 0
 Roomy n x = Ready n (2 ^ 25 + length (x .nodes))
 
 -- an arm, translated from where the walk p is, with the literals l
-pub record ArmMade (bs : List ℕ) (h : Header) (t : Target) (ds : List ℕ) (depth close : ℕ) (w u l : List ℕ) (p : Walk) (w₁ u₁ l₁ : List ℕ) (r : Walk) : Type 0 where
+pub record ArmEncoded (bs : List ℕ) (h : Header) (t : Target) (ds : List ℕ) (depth close : ℕ) (w u l : List ℕ) (p : Walk) (w₁ u₁ l₁ : List ℕ) (r : Walk) : Type 0 where
   pub tells : (a : Arm) (end : ℕ) (k₁ : Counts) → Stands bs h depth close (p .next) (p .counts) a end k₁
-      → Arrives w u (p .net) (armOf bs h t ds a (p .net .next) (wiresAt l p)) end k₁ w₁ u₁ l₁ r
+      → WalksTo w u (p .net) (encodeArm bs h t ds a (p .net .next) (wiresAt l p)) end k₁ w₁ u₁ l₁ r
 
 -- some arm stands there, there is room for it, and the literals have their places
-pub record ArmRoom (bs : List ℕ) (h : Header) (t : Target) (ds : List ℕ) (depth close : ℕ) (l : List ℕ) (p : Walk) : Type 0 where
+pub record ArmReady (bs : List ℕ) (h : Header) (t : Target) (ds : List ℕ) (depth close : ℕ) (l : List ℕ) (p : Walk) : Type 0 where
   pub some : SomeArm bs h depth close (p .next) (p .counts)
-  pub room : Roomy (p .net) (armOf bs h t ds (some .arm) (p .net .next) (wiresAt l p))
+  pub room : Roomy (p .net) (encodeArm bs h t ds (some .arm) (p .net .next) (wiresAt l p))
   pub places : length l ≡ allPlaces
 
 -- an if with these arms, from where the walk p is
-abbrev pub ifOf : List ℕ → Header → Target → (ds : List ℕ) → Condition → (l : List ℕ) → Walk → (first second : Arm) → Stretch
+abbrev pub ifOf : List ℕ → Header → Target → (ds : List ℕ) → Condition → (l : List ℕ) → Walk → (first second : Arm) → Encoding
 ifOf bs h t ds c l p first second =
-    forked bs h (entry ds (p .counts .ifs)) (p .net .next) c (wiresAt l p) (armOf bs h t ds first) (armOf bs h t ds second)
+    encodeIf bs h (entry ds (p .counts .ifs)) (p .net .next) c (wiresAt l p) (encodeArm bs h t ds first) (encodeArm bs h t ds second)
 
 -- an if, translated from where the walk p is, with the literals l
-pub record IfMade (bs : List ℕ) (h : Header) (t : Target) (ds : List ℕ) (depth : ℕ) (c : Condition) (w u l : List ℕ) (p : Walk) (w₁ u₁ l₁ : List ℕ) (r : Walk) : Type 0 where
+pub record IfEncoded (bs : List ℕ) (h : Header) (t : Target) (ds : List ℕ) (depth : ℕ) (c : Condition) (w u l : List ℕ) (p : Walk) (w₁ u₁ l₁ : List ℕ) (r : Walk) : Type 0 where
   pub tells : (first : Arm) (else : ℕ) (k₁ : Counts) (second : Arm) (end : ℕ) (k₂ : Counts)
-      → Stands bs h (depth + 1) 0x0C (p .next + 4) (oneIf (p .counts)) first else k₁ → Stands bs h (depth + 1) 0x0D else k₁ second end k₂
-      → Arrives w u (p .net) (ifOf bs h t ds c l p first second) end k₂ w₁ u₁ l₁ r
+      → Stands bs h (depth + 1) 0x0C (p .next + 4) (countsAfterIf (p .counts)) first else k₁ → Stands bs h (depth + 1) 0x0D else k₁ second end k₂
+      → WalksTo w u (p .net) (ifOf bs h t ds c l p first second) end k₂ w₁ u₁ l₁ r
 
 -- two arms stand there, there is room for their if, and the literals have their places
-pub record IfRoom (bs : List ℕ) (h : Header) (t : Target) (ds : List ℕ) (depth : ℕ) (c : Condition) (l : List ℕ) (p : Walk) : Type 0 where
-  pub some : SomeIf bs h depth (p .next) (oneIf (p .counts))
+pub record IfReady (bs : List ℕ) (h : Header) (t : Target) (ds : List ℕ) (depth : ℕ) (c : Condition) (l : List ℕ) (p : Walk) : Type 0 where
+  pub some : SomeIf bs h depth (p .next) (countsAfterIf (p .counts))
   pub room : Roomy (p .net) (ifOf bs h t ds c l p (some .first) (some .second))
   pub places : length l ≡ allPlaces
 
@@ -93,9 +93,9 @@ abbrev pub noStore : Store
 noStore = record { words = 0; clauses = 0 }
 
 -- the whole translation of whatever was decoded: its size, and what it leaves in the buffers where they hold it
-pub record WholeMade (bs : List ℕ) (h : Header) (t : Target) (ds : List ℕ) (w u w₁ u₁ : List ℕ) (r : Size) : Type 0 where
-  pub size : (a : Arm) (k : Counts) → decode bs ≡ routine h a k → r ≡ sizeOf (whole bs t ds h a)
-  pub written : (a : Arm) (k : Counts) → decode bs ≡ routine h a k → Fits (length w) (length u) noStore (clausesOfAll (whole bs t ds h a))
-      → Written w u 0 0 (clausesOfAll (whole bs t ds h a)) w₁ u₁
+pub record ClaimEncoded (bs : List ℕ) (h : Header) (t : Target) (ds : List ℕ) (w u w₁ u₁ : List ℕ) (r : Size) : Type 0 where
+  pub size : (a : Arm) (k : Counts) → decode bs ≡ routine h a k → r ≡ translationSize (translationOf bs t ds h a)
+  pub written : (a : Arm) (k : Counts) → decode bs ≡ routine h a k → Fits (length w) (length u) noStore (clausesOfAll (translationOf bs t ds h a))
+      → Written w u 0 0 (clausesOfAll (translationOf bs t ds h a)) w₁ u₁
   pub words-long : length w₁ ≡ length w
   pub starts-long : length u₁ ≡ length u

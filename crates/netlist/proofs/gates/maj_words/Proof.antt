@@ -2,7 +2,7 @@ use native.Mathlib.Omega.{arith}
 use borrow.Author.Needs.{needs}
 use Rattle.cnf.proofs.Appending.{worded-then}
 use Rattle.netlist.proofs.gates.maj_words.Statement.{statement}
-use Rattle.netlist.specs.Node.{clausesOf, nodeClauses}
+use Rattle.netlist.specs.Node.{netlistClauses, nodeClauses}
 use Rattle.netlist.proofs.gates.maj_words.Tie as tie
 
 add-words3-5 : tie.Need-add-words3-5
@@ -18,7 +18,7 @@ words3-requires-6 c κs =
     omega (arith, c5 .words35 .kept .0, c4 .words34 .kept .0, c3 .words33 .kept .0, c2 .words32 .kept .0, c1 .words3 .kept .0, c1 .before .before .before .before .before .before .pre .0)
 
 returns : tie.Need-returns
-unfolding clausesOf nodeClauses
+unfolding netlistClauses nodeClauses
 returns c =
     let c6 = c .before .before in
     let c5 = c6 .before .before .before .before in

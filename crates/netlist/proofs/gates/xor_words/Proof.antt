@@ -2,11 +2,11 @@ use native.Mathlib.Omega.{arith}
 use borrow.Author.Needs.{needs}
 use Rattle.cnf.proofs.Appending.{worded-then}
 use Rattle.netlist.proofs.gates.xor_words.Statement.{statement}
-use Rattle.netlist.specs.Node.{clausesOf, nodeClauses}
+use Rattle.netlist.specs.Node.{netlistClauses, nodeClauses}
 use Rattle.netlist.proofs.gates.xor_words.Tie as tie
 
 returns : tie.Need-returns
-unfolding clausesOf nodeClauses
+unfolding netlistClauses nodeClauses
 returns c =
     let c4 = c .before .before in
     let c3 = c4 .before .before .before .before in

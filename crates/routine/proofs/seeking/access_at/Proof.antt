@@ -3,7 +3,7 @@ use mathlib.Core.Path.{ap}
 use native.Mathlib.Omega.{arith}
 use lib.ListN.{length}
 use borrow.Author.Needs.{needs}
-use Rattle.routine_command.specs.Command.{sizeOf}
+use Rattle.routine_command.specs.Command.{commandSize}
 use Rattle.routine.proofs.Flat.{Seeking, seek-start, room, few-if, few-simple, past-close, past-if, past-simple, found, never-missing, none-left, seeks}
 use Rattle.routine.proofs.seeking.access_at.Statement.{statement}
 use Rattle.routine.proofs.seeking.access_at.Tie as tie
@@ -19,7 +19,7 @@ loop-holds c = seek-start _ _ _ _
 
 -- the command at hand is whole
 whole : (m : tie.After-command-at Inv-loop μ-loop)
-    → (m .before .before .loop .at + sizeOf (m .command-at .result) ≤ length (m .before .before .before .before .before .before .args .bytes .now)) × (0 < sizeOf (m .command-at .result))
+    → (m .before .before .loop .at + commandSize (m .command-at .result) ≤ length (m .before .before .before .before .before .before .args .bytes .now)) × (0 < commandSize (m .command-at .result))
 whole m =
     let l = m .before .before in
     let b = l .before .before in
@@ -32,16 +32,16 @@ returns c =
     (never-missing _ _ _ _ _ _ (l .loop .inv) _ (c .before .before .command-at .ensures) (omega arith) (c .enum-told .given .1))
 
 add-at : tie.Need-add-at Inv-loop μ-loop
-add-at c = omega (arith, whole (c .before .before), ap sizeOf (c .enum-told2 .given .1))
+add-at c = omega (arith, whole (c .before .before), ap commandSize (c .enum-told2 .given .1))
 
 loop-less : tie.Need-loop-less Inv-loop μ-loop
-loop-less c = omega (arith, whole (c .before .before), ap sizeOf (c .enum-told2 .given .1))
+loop-less c = omega (arith, whole (c .before .before), ap commandSize (c .enum-told2 .given .1))
 
 loop-again : tie.Need-loop-again Inv-loop μ-loop
 loop-again c = past-close _ _ _ _ _ _ (c .before .before .before .before .loop .inv) _ (c .before .before .command-at .ensures) (omega arith) _ (c .enum-told2 .given .1)
 
 add-at-2 : tie.Need-add-at-2 Inv-loop μ-loop
-add-at-2 c = omega (arith, whole (c .before .before), ap sizeOf (c .enum-told3 .given .1))
+add-at-2 c = omega (arith, whole (c .before .before), ap commandSize (c .enum-told3 .given .1))
 
 counts-after-if-requires : tie.Need-counts-after-if-requires Inv-loop μ-loop
 counts-after-if-requires c κs =
@@ -51,7 +51,7 @@ counts-after-if-requires c κs =
     few-if _ _ _ _ _ _ (l .loop .inv) _ (m .command-at .ensures) (omega arith) _ (b .before .before .pre) (b .first-command .ensures) (l .before .no-counts .ensures) _ (c .enum-told3 .given .1)
 
 loop-less-2 : tie.Need-loop-less-2 Inv-loop μ-loop
-loop-less-2 c = omega (arith, whole (c .before .before .before), ap sizeOf (c .before .enum-told3 .given .1))
+loop-less-2 c = omega (arith, whole (c .before .before .before), ap commandSize (c .before .enum-told3 .given .1))
 
 loop-again-2 : tie.Need-loop-again-2 Inv-loop μ-loop
 loop-again-2 c = rw (c .counts-after-if .ensures) (past-if _ _ _ _ _ _ (c .before .before .before .before .before .loop .inv) _ (c .before .before .before .command-at .ensures) (omega arith) _ (c .before .enum-told3 .given .1))
@@ -64,7 +64,7 @@ returns-2 c =
     (c .before .before .before .before .before .c .given .1) _ (c .before .before .before .access-here .ensures) _ _ _ (c .before .counts .given .1))
 
 add-at-3 : tie.Need-add-at-3 Inv-loop μ-loop
-add-at-3 c = omega (arith, whole (c .before .before .before .before .before .before .before), ap sizeOf (c .before .before .before .before .before .c .given .1))
+add-at-3 c = omega (arith, whole (c .before .before .before .before .before .before .before), ap commandSize (c .before .before .before .before .before .c .given .1))
 
 counts-after-requires : tie.Need-counts-after-requires Inv-loop μ-loop
 counts-after-requires c κs =
@@ -74,7 +74,7 @@ counts-after-requires c κs =
     few-simple _ _ _ _ _ _ (l .loop .inv) _ (m .command-at .ensures) (omega arith) _ (b .before .before .pre) (b .first-command .ensures) (l .before .no-counts .ensures) _ (c .before .before .before .before .before .c .given .1)
 
 loop-less-3 : tie.Need-loop-less-3 Inv-loop μ-loop
-loop-less-3 c = omega (arith, whole (c .before .before .before .before .before .before .before .before), ap sizeOf (c .before .before .before .before .before .before .c .given .1))
+loop-less-3 c = omega (arith, whole (c .before .before .before .before .before .before .before .before), ap commandSize (c .before .before .before .before .before .before .c .given .1))
 
 loop-again-3 : tie.Need-loop-again-3 Inv-loop μ-loop
 loop-again-3 c =

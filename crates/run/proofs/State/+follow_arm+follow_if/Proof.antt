@@ -29,7 +29,7 @@ use Rattle.routine_faults.proofs.steps.accesses_of.Reads as accesses-of-reads
 use Rattle.routine_faults.proofs.steps.counts_after.Reads as counts-after-reads
 use Rattle.routine_faults.proofs.steps.counts_after_if.Reads as counts-after-if-reads
 use Rattle.run.proofs.State.stopped.Reads as stopped-reads
-use Rattle.run.proofs.State.took.Reads as took-reads
+use Rattle.run.proofs.State.with_arm.Reads as with-arm-reads
 use Rattle.run.proofs.moves.operands_of.Reads as operands-of-reads
 use Rattle.run.proofs.moves.value_after.Reads as value-after-reads
 use Rattle.run.proofs.ways.arm_at.Reads as arm-at-reads
@@ -99,8 +99,8 @@ follow-if-calls t = (
   keeps-to-reads.Learnt,
   way-reads.Asked,
   way-reads.Learnt,
-  took-reads.Asked,
-  took-reads.Learnt,
+  with-arm-reads.Asked,
+  with-arm-reads.Learnt,
   follow-arm-below t,
   follow-arm.Post,
   is-done-reads.Asked,
@@ -247,8 +247,8 @@ follow-if-returns t c =
     rw (c .way .ensures)
     (astray _ _ _ _ _ _ _ _ _ (arm-is _ _ _ _ (c .before .before .before .arm-at .ensures)) _ (c .before .before .keeps-to .ensures) (not-true _ (c .before .if1 .taken)))
 
-follow-if-took-requires : (t : ℕ) → follow-if-lts.Need-took-requires (follow-if-calls t) (follow-if-at t) follow-if.Post
-follow-if-took-requires t c κs = c .before .before .before .before .before .before .before .before .before .before .before .before .pre .1 .1
+follow-if-with-arm-requires : (t : ℕ) → follow-if-lts.Need-with-arm-requires (follow-if-calls t) (follow-if-at t) follow-if.Post
+follow-if-with-arm-requires t c κs = c .before .before .before .before .before .before .before .before .before .before .before .before .pre .1 .1
 
 follow-if-add-follow-arm : (t : ℕ) → follow-if-lts.Need-add-follow-arm (follow-if-calls t) (follow-if-at t) follow-if.Post
 follow-if-add-follow-arm t c = omega (arith, c .before .before .before .before .before .before .before .before .before .before .before .before .before .pre .1 .0 .shallow)
@@ -260,12 +260,12 @@ follow-if-follow-arm-requires : (t : ℕ) → follow-if-lts.Need-follow-arm-requ
 follow-if-follow-arm-requires t c κs =
     let i = c .before .before .before .before .before .before .before .before .before .before .before .before .before .pre .1 .0 in
     let l = else-room _ _ _ _ _ i in
-    (first-falls _ _ _ _ _ (c .before .before .before .before .before .before .before .before .before .before .before .before .before .pre .0) (l .0) (l .1) refl, (first-arm _ _ _ _ _ i _ (c .before .before .before .before .before .before .before .before .before .counts-after-if .ensures), c .before .before .before .before .before .before .before .before .before .before .before .before .before .pre .1 .3, rw (c .took .ensures) (c .before .before .before .before .before .before .before .before .before .before .before .before .before .pre .1 .4)))
+    (first-falls _ _ _ _ _ (c .before .before .before .before .before .before .before .before .before .before .before .before .before .pre .0) (l .0) (l .1) refl, (first-arm _ _ _ _ _ i _ (c .before .before .before .before .before .before .before .before .before .counts-after-if .ensures), c .before .before .before .before .before .before .before .before .before .before .before .before .before .pre .1 .3, rw (c .with-arm .ensures) (c .before .before .before .before .before .before .before .before .before .before .before .before .before .pre .1 .4)))
 
 follow-if-returns-2 : (t : ℕ) → follow-if-lts.Need-returns-2 (follow-if-calls t) (follow-if-at t) follow-if.Post
 follow-if-returns-2 t c =
     first-done _ _ _ _ _ _ _ _ _ (arm-is _ _ _ _ (c .before .before .before .before .before .before .before .arm-at .ensures)) _ (c .before .before .before .before .before .before .keeps-to .ensures) (not-false _ (c .before .before .before .before .before .if1 .left)) _ (c .before .before .before .before .before .before .before .before .before .before .before .before .counts-after-if .ensures) _
-    (c .before .before .before .before .if2 .taken) (c .before .before .before .took .ensures) _ (c .before .before .follow-arm .ensures)
+    (c .before .before .before .before .if2 .taken) (c .before .before .before .with-arm .ensures) _ (c .before .before .follow-arm .ensures)
     (sym (c .before .is-done .ensures) ∙ c .if3 .taken)
 
 follow-if-add-pass-arm : (t : ℕ) → follow-if-lts.Need-add-pass-arm (follow-if-calls t) (follow-if-at t) follow-if.Post
@@ -285,8 +285,8 @@ follow-if-add-pass-arm-3 t c = omega (arith, else-room _ _ _ _ _ (c .before .bef
 follow-if-pass-arm-requires-2 : (t : ℕ) → follow-if-lts.Need-pass-arm-requires-2 (follow-if-calls t) (follow-if-at t) follow-if.Post
 follow-if-pass-arm-requires-2 t c κs = first-arm _ _ _ _ _ (c .before .before .before .before .before .before .before .before .before .before .before .before .pre .1 .0) _ (c .before .before .before .before .before .before .before .before .counts-after-if .ensures)
 
-follow-if-took-requires-2 : (t : ℕ) → follow-if-lts.Need-took-requires-2 (follow-if-calls t) (follow-if-at t) follow-if.Post
-follow-if-took-requires-2 t c κs = c .before .before .before .before .before .before .before .before .before .before .before .before .before .before .pre .1 .1
+follow-if-with-arm-requires-2 : (t : ℕ) → follow-if-lts.Need-with-arm-requires-2 (follow-if-calls t) (follow-if-at t) follow-if.Post
+follow-if-with-arm-requires-2 t c κs = c .before .before .before .before .before .before .before .before .before .before .before .before .before .before .pre .1 .1
 
 follow-if-add-follow-arm-3 : (t : ℕ) → follow-if-lts.Need-add-follow-arm-3 (follow-if-calls t) (follow-if-at t) follow-if.Post
 follow-if-add-follow-arm-3 t c = omega (arith, c .before .before .before .before .before .before .before .before .before .before .before .before .before .before .before .pre .1 .0 .shallow)
@@ -296,19 +296,19 @@ follow-if-follow-arm-requires-2 t c κs =
     let i = c .before .before .before .before .before .before .before .before .before .before .before .before .before .before .before .pre .1 .0 in
     let k = c .before .before .before .before .before .before .before .before .before .before .before .counts-after-if .ensures in
     let l = else-room _ _ _ _ _ i in
-    (second-falls _ _ _ _ _ (c .before .before .before .before .before .before .before .before .before .before .before .before .before .before .before .pre .0) (l .0) (l .1) (passed-to _ _ _ _ _ i _ k _ (c .before .before .pass-arm2 .ensures) .0), (second-passed _ _ _ _ _ i _ k _ (c .before .before .pass-arm2 .ensures), c .before .before .before .before .before .before .before .before .before .before .before .before .before .before .before .pre .1 .3, rw (c .took2 .ensures) (c .before .before .before .before .before .before .before .before .before .before .before .before .before .before .before .pre .1 .4)))
+    (second-falls _ _ _ _ _ (c .before .before .before .before .before .before .before .before .before .before .before .before .before .before .before .pre .0) (l .0) (l .1) (passed-to _ _ _ _ _ i _ k _ (c .before .before .pass-arm2 .ensures) .0), (second-passed _ _ _ _ _ i _ k _ (c .before .before .pass-arm2 .ensures), c .before .before .before .before .before .before .before .before .before .before .before .before .before .before .before .pre .1 .3, rw (c .with-arm2 .ensures) (c .before .before .before .before .before .before .before .before .before .before .before .before .before .before .before .pre .1 .4)))
 
 follow-if-returns-3 : (t : ℕ) → follow-if-lts.Need-returns-3 (follow-if-calls t) (follow-if-at t) follow-if.Post
 follow-if-returns-3 t c =
     rw (c .way2 .ensures)
     (first-passed _ _ _ _ _ _ _ _ _ (arm-is _ _ _ _ (c .before .before .before .before .before .before .before .before .before .before .before .before .arm-at .ensures)) _ (c .before .before .before .before .before .before .before .before .before .before .before .keeps-to .ensures) (not-false _ (c .before .before .before .before .before .before .before .before .before .before .if1 .left)) _ (c .before .before .before .before .before .before .before .before .before .before .before .before .before .before .before .before .before .counts-after-if .ensures) _
-    (c .before .before .before .before .before .before .before .before .before .if2 .taken) (c .before .before .before .before .before .before .before .before .took .ensures) _ (c .before .before .before .before .before .before .before .follow-arm .ensures)
+    (c .before .before .before .before .before .before .before .before .before .if2 .taken) (c .before .before .before .before .before .before .before .before .with-arm .ensures) _ (c .before .before .before .before .before .before .before .follow-arm .ensures)
     (sym (c .before .before .before .before .before .before .is-done .ensures) ∙ c .before .before .before .before .before .if3 .left) _ (c .before .before .pass-arm .ensures))
 
 follow-if-returns-4 : (t : ℕ) → follow-if-lts.Need-returns-4 (follow-if-calls t) (follow-if-at t) follow-if.Post
 follow-if-returns-4 t c =
     second-followed _ _ _ _ _ _ _ _ _ (arm-is _ _ _ _ (c .before .before .before .before .before .before .before .arm-at .ensures)) _ (c .before .before .before .before .before .before .keeps-to .ensures) (not-false _ (c .before .before .before .before .before .if1 .left)) _ (c .before .before .before .before .before .before .before .before .before .before .before .before .counts-after-if .ensures) _
-    (c .before .before .before .before .if2 .left) (c .before .took2 .ensures) _ (c .before .before .before .pass-arm2 .ensures) _ (c .follow-arm2 .ensures)
+    (c .before .before .before .before .if2 .left) (c .before .with-arm2 .ensures) _ (c .before .before .before .pass-arm2 .ensures) _ (c .follow-arm2 .ensures)
 
 pub +follow-arm+follow-if-spec : {M : Type 1} → statement M
 +follow-arm+follow-if-spec = close μ-follow-arm μ-follow-if (λ t. follow-arm-lts.spec (follow-arm-calls t)
@@ -375,7 +375,7 @@ pub +follow-arm+follow-if-spec : {M : Type 1} → statement M
     (λ c κs. search needs)
     (λ c κs. search needs)
     (follow-if-returns t)
-    (follow-if-took-requires t)
+    (follow-if-with-arm-requires t)
     (follow-if-add-follow-arm t)
     (follow-if-add-follow-arm-2 t)
     (follow-if-follow-arm-requires t)
@@ -387,7 +387,7 @@ pub +follow-arm+follow-if-spec : {M : Type 1} → statement M
     (follow-if-add-pass-arm-2 t)
     (follow-if-add-pass-arm-3 t)
     (follow-if-pass-arm-requires-2 t)
-    (follow-if-took-requires-2 t)
+    (follow-if-with-arm-requires-2 t)
     (follow-if-add-follow-arm-3 t)
     (follow-if-follow-arm-requires-2 t)
     (follow-if-returns-3 t)

@@ -6,15 +6,15 @@ use Rattle.run.proofs.moves.computed_by.Tie as tie
 
 returns : tie.Need-returns
 unfolding computed
-returns c = rw (c .before .match .keys1) (c .sum .ensures)
+returns c = rw (c .before .match .keys1) (c .add .ensures)
 
 returns-2 : tie.Need-returns-2
 unfolding computed
-returns-2 c = rw (c .before .match .keys2) (c .difference .ensures)
+returns-2 c = rw (c .before .match .keys2) (c .subtract .ensures)
 
 returns-3 : tie.Need-returns-3
 unfolding computed
-returns-3 c = rw (c .before .match .keys3) (c .product .ensures)
+returns-3 c = rw (c .before .match .keys3) (c .multiply .ensures)
 
 returns-4 : tie.Need-returns-4
 unfolding computed

@@ -5,17 +5,17 @@ use borrow.Author.Needs.{needs}
 use Rattle.run.proofs.ways.follow.Statement.{statement}
 use Rattle.run.proofs.ways.follow.Tie as tie
 
-begin-requires : tie.Need-begin-requires
-begin-requires c κs = let f = header-fine _ _ (c .before .before .before .before .before .pre) in omega (arith, c .given-of .ensures, f .few, f .parameters)
+initial-requires : tie.Need-initial-requires
+initial-requires c κs = let f = header-fine _ _ (c .before .before .before .before .before .pre) in omega (arith, c .given-of .ensures, f .few, f .parameters)
 
 follow-arm-requires : tie.Need-follow-arm-requires
 follow-arm-requires c κs =
     let i = c .before .before .before .before .before .before .before .pre in
-    rw (c .before .before .before .no-counts .ensures) (commands-stand _ _ i _ (c .first-command .ensures), header-fine _ _ i, begun-going _ _ _ (c .before .begin .ensures))
+    rw (c .before .before .before .no-counts .ensures) (commands-stand _ _ i _ (c .first-command .ensures), header-fine _ _ i, begun-going _ _ _ (c .before .initial .ensures))
 
 returns : tie.Need-returns
 returns c =
-    followed-whole _ _ (c .before .before .before .before .before .before .before .before .pre) _ _ _ _ _ _ (c .before .first-command .ensures) (rw (c .before .before .before .given-of .ensures) at (c .before .before .begin .ensures))
+    followed-whole _ _ (c .before .before .before .before .before .before .before .before .pre) _ _ _ _ _ _ (c .before .first-command .ensures) (rw (c .before .before .before .given-of .ensures) at (c .before .before .initial .ensures))
     (rw (c .before .before .before .before .no-counts .ensures) at (c .follow-arm .ensures))
 
 pub follow-spec : {M : Type 1} → statement M
@@ -24,7 +24,7 @@ follow-spec =
     (tie.spec
     (λ c κs. search needs)
     (λ c κs. search needs)
-    begin-requires
+    initial-requires
     (λ c κs. search needs)
     follow-arm-requires
     returns)

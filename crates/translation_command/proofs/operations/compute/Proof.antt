@@ -12,23 +12,23 @@ use borrow.Author.Needs.{needs}
 use Rattle.translation_command.proofs.operations.compute.Statement.{statement}
 use Rattle.translation_command.proofs.operations.compute.Tie as tie
 
-multiply-requires : tie.Need-multiply-requires
-multiply-requires c κs =
+emit-product-requires : tie.Need-emit-product-requires
+emit-product-requires c κs =
     let w = length (now (c .before .before .before .before .before .before .before .args .a)) in
     let l : w ≤ 32 = omega (arith, c .before .before .before .before .before .before .before .pre .1 .1) in
     (ready-weaken (square-few w l) (c .before .before .before .before .before .before .before .pre .0), (c .before .before .before .before .before .before .before .pre .1 .0, omega (arith, l)))
 
 returns : tie.Need-returns
 unfolding computation
-returns c = rw (c .before .before .before .before .before .before .before .before .match .keys1) (record { emitted = c .before .before .before .before .add .ensures; bits = c .before .before .before .before .before .before .before .sum-bits .ensures })
+returns c = rw (c .before .before .before .before .before .before .before .before .match .keys1) (record { emitted = c .before .before .before .before .emit-sum .ensures; bits = c .before .before .before .before .before .before .before .sum-bits .ensures })
 
 returns-2 : tie.Need-returns-2
 unfolding computation
-returns-2 c = rw (c .before .before .before .before .before .before .before .before .match .keys2) (record { emitted = c .before .before .before .before .subtract .ensures; bits = c .before .before .before .before .before .before .before .sum-bits2 .ensures })
+returns-2 c = rw (c .before .before .before .before .before .before .before .before .match .keys2) (record { emitted = c .before .before .before .before .emit-difference .ensures; bits = c .before .before .before .before .before .before .before .sum-bits2 .ensures })
 
 returns-3 : tie.Need-returns-3
 unfolding computation
-returns-3 c = rw (c .before .before .before .before .before .before .before .match .keys3) (c .before .before .before .before .multiply .ensures)
+returns-3 c = rw (c .before .before .before .before .before .before .before .match .keys3) (c .before .before .before .before .emit-product .ensures)
 
 returns-4 : tie.Need-returns-4
 unfolding computation tabulate
@@ -44,7 +44,7 @@ compute-spec =
     (λ c κs. search needs)
     (λ c κs. search needs)
     (λ c κs. search needs)
-    multiply-requires
+    emit-product-requires
     (λ c. search needs)
     (λ c. search needs)
     returns

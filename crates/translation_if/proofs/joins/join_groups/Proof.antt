@@ -8,7 +8,7 @@ use Rattle.netlist.specs.Inner.Emit.{Emitted}
 use Rattle.netlist.proofs.Emitting.{emitted-none, emitted-starts-length, emitted-words-length, ready-after}
 use Rattle.translation_state.specs.Wires.{allPlaces}
 use Rattle.translation_state.proofs.Ranges.{part-end, ranged}
-use Rattle.translation_if.specs.Branch.{joinGroups}
+use Rattle.translation_if.specs.If.{joinGroups}
 use Rattle.translation_if.proofs.Branching.{group-joined, group-literals, join-few}
 use Rattle.translation_if.proofs.joins.join_groups.Statement.{statement}
 use Rattle.translation_if.proofs.joins.join_groups.Tie as tie
