@@ -3,8 +3,8 @@ use mathlib.Core.Path.{_≡_, refl, ap}
 use mathlib.Core.Bool.{Bool, true, false, cond, _||_, _&&_}
 use Prim.Native.Nat.{ℕ, _≤_, _<_}
 use native.Mathlib.Omega.{arith}
-use lib.Dec.{eqb, leb}
-use borrow.Author.Tests.{eqb-false, ne-eqb, le-leb, lt-leb}
+use lib.Dec.{eqb, leb, ltb}
+use borrow.Author.Tests.{eqb-true, eqb-false, ne-eqb, le-leb, lt-leb, leb-true, leb-false, ltb-true, ltb-false}
 use Rattle.routine_command.specs.Command.{commandBy, commandSize, sizeByOp}
 use Rattle.routine_command.specs.declared.Condition.{Condition}
 use Rattle.routine_command.specs.declared.Simple.{Simple}
@@ -113,3 +113,74 @@ module _ (op : ℕ) where
           let y = eqb-false op 10 f in
           let z = eqb-false op 11 g in
           absurd (omega arith)
+
+-- ---- the command by the size of its byte
+
+module _ (op : ℕ) where
+  three-bytes : 6 ≤ op → op ≤ 8 → 3 ≡ sizeByOp op
+  three-bytes l h = ap commandSize (converts op 0 0 0 0 l h)
+
+  end-one : op ≡ 0 → 1 ≡ sizeByOp op
+  unfolding commandBy
+  end-one e = rw e
+
+  copy-three : op ≡ 2 → 3 ≡ sizeByOp op
+  unfolding commandBy
+  copy-three e = rw e
+
+  pub set-six : op ≡ 1 → 6 ≡ sizeByOp op
+  unfolding commandBy
+  set-six e = rw e
+
+  -- a set or a computation
+  low-long : op < 6 → (op ≡ 0 → ⊥) → (op ≡ 2 → ⊥) → 4 ≤ sizeByOp op
+  low-long l m n = go (eqb op 1) refl
+    where
+      go : (t : Bool) → eqb op 1 ≡ t → 4 ≤ sizeByOp op
+      go true e = omega (arith, set-six (eqb-true op 1 e))
+      go false e = let f = eqb-false op 1 e in omega (arith, ap commandSize (computes op 0 0 0 0 (omega arith) (omega arith)))
+
+  -- one byte below 12: only the end
+  pub one-low : op < 12 → (op ≡ 0 → ⊥) → sizeByOp op ≡ 1 → ⊥
+  one-low l z s = go (eqb op 2) (ltb op 6) (leb op 8) refl refl refl
+    where
+      go : (t u v : Bool) → eqb op 2 ≡ t → ltb op 6 ≡ u → leb op 8 ≡ v → ⊥
+      go true u v e f g = omega (arith, copy-three (eqb-true op 2 e))
+      go false true v e f g = omega (arith, low-long (ltb-true op 6 f) z (eqb-false op 2 e))
+      go false false true e f g = omega (arith, three-bytes (ltb-false op 6 f) (leb-true op 8 g))
+      go false false false e f g = let h = leb-false op 8 g in omega (arith, four-bytes op (omega arith) (omega arith))
+
+  -- three bytes: a copy, a cut or an extension
+  pub three-is : sizeByOp op ≡ 3 → (a b c k : ℕ) → Command.Simple (Simple.Convert op a b) ≡ commandBy op a b c k
+  unfolding commandBy
+  three-is s a b c k = go (eqb op 2) (eqb op 0) (ltb op 6) (leb op 8) (leb op 11) refl refl refl refl refl
+    where
+      copy : op ≡ 2 → Command.Simple (Simple.Convert op a b) ≡ commandBy op a b c k
+      copy e = rw e
+
+      go : (t u v w x : Bool) → eqb op 2 ≡ t → eqb op 0 ≡ u → ltb op 6 ≡ v → leb op 8 ≡ w → leb op 11 ≡ x
+          → Command.Simple (Simple.Convert op a b) ≡ commandBy op a b c k
+      go true u v w x e f g h i = copy (eqb-true op 2 e)
+      go false true v w x e f g h i = absurd (omega (arith, end-one (eqb-true op 0 f)))
+      go false false true w x e f g h i = absurd (omega (arith, low-long (ltb-true op 6 g) (eqb-false op 0 f) (eqb-false op 2 e)))
+      go false false false true x e f g h i = converts op a b c k (ltb-false op 6 g) (leb-true op 8 h)
+      go false false false false true e f g h i =
+          let j = leb-false op 8 h in absurd (omega (arith, four-bytes op (omega arith) (leb-true op 11 i)))
+      go false false false false false e f g h i = let j = leb-false op 11 i in absurd (omega (arith, alone-high op (omega arith)))
+
+  -- four bytes or more, above the computations: a read, a write or an if
+  pub long-high : 6 ≤ op → (op ≡ 9 → ⊥) → (op ≡ 10 → ⊥) → 4 ≤ sizeByOp op → op ≡ 11
+  long-high l m n s = go (leb op 8) (leb op 11) refl refl
+    where
+      go : (t u : Bool) → leb op 8 ≡ t → leb op 11 ≡ u → op ≡ 11
+      go true u e f = absurd (omega (arith, three-bytes l (leb-true op 8 e)))
+      go false true e f = let g = leb-false op 8 e in let i = leb-true op 11 f in omega arith
+      go false false e f = let g = leb-false op 11 f in absurd (omega (arith, alone-high op (omega arith)))
+
+  -- four bytes or more, below the computations: a set
+  pub long-low : op < 3 → (op ≡ 1 → ⊥) → 4 ≤ sizeByOp op → ⊥
+  long-low l m s = go (eqb op 2) refl
+    where
+      go : (t : Bool) → eqb op 2 ≡ t → ⊥
+      go true e = omega (arith, copy-three (eqb-true op 2 e))
+      go false e = omega (arith, alone-low op l m (eqb-false op 2 e))

@@ -2,10 +2,12 @@
 use mathlib.Core.Path.{_≡_, refl, sym}
 use mathlib.Core.List.{List}
 use mathlib.Core.Bool.{Bool, true, false, cond, _||_}
-use Prim.Native.Nat.{ℕ, _≤_, _<_, _-_}
+use Prim.Native.Nat.{ℕ, _+_, _≤_, _<_, _-_}
+use native.Mathlib.Omega.{arith}
 use lib.ListN.{length}
 use lib.Dec.{lit<, leb, eqb}
 use borrow.Author.Tests.{le-leb, lt-leb}
+use Rattle.slices.specs.Bytes.{entry, word}
 use Rattle.routine_header.specs.Header.{between}
 use Rattle.routine_command.specs.Command.{commandSize, simpleSize, sizeByOp, commandBy, commandOf, commandAt}
 use Rattle.routine_command.specs.declared.Simple.{Simple}
@@ -24,6 +26,17 @@ size-pos Command.Missing = lit< tt
 size-pos (Command.Close m) = lit< tt
 size-pos (Command.If c) = lit< tt
 size-pos (Command.Simple c) = simple-size c
+
+-- one, three, or at least four
+pub four-or-more : (c : Command) → (commandSize c ≡ 1 → ⊥) → (commandSize c ≡ 3 → ⊥) → 4 ≤ commandSize c
+four-or-more Command.Missing f g = absurd (f refl)
+four-or-more (Command.Close m) f g = absurd (f refl)
+four-or-more (Command.If c) f g = omega arith
+four-or-more (Command.Simple (Simple.Set d k)) f g = omega arith
+four-or-more (Command.Simple (Simple.Convert op d s)) f g = absurd (g refl)
+four-or-more (Command.Simple (Simple.Compute op d s t)) f g = omega arith
+four-or-more (Command.Simple (Simple.Read d a i)) f g = omega arith
+four-or-more (Command.Simple (Simple.Write a i s)) f g = omega arith
 
 -- it is whole
 pub whole : (bs : List ℕ) (at : ℕ) (r : Command) → r ≡ commandOf bs at → commandSize r ≤ length bs - at → r ≡ commandAt bs at
@@ -58,6 +71,10 @@ pub size-by : (op a b c k : ℕ) → commandSize (commandBy op a b c k) ≡ size
 unfolding commandBy
 size-by op a b c k =
     size-same (eqb op 1) (eqb op 2 || between 6 8 op) (between 3 5 op) (eqb op 9) (eqb op 10) (eqb op 11) (eqb op 0 || between 12 13 op) op a b c k
+
+-- so a command's size is that of its byte
+pub size-at : (bs : List ℕ) (at : ℕ) → commandSize (commandOf bs at) ≡ sizeByOp (entry bs at)
+size-at bs at = size-by (entry bs at) (entry bs (at + 1)) (entry bs (at + 2)) (entry bs (at + 3)) (word bs (at + 2))
 
 -- a command that is there is the one whose byte stands there
 pub not-cut : (bs : List ℕ) (at : ℕ) (r : Command) → commandAt bs at ≡ r → (r ≡ Command.Missing → ⊥) → commandOf bs at ≡ r

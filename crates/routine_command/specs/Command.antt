@@ -56,9 +56,13 @@ commandBy op a b c const =
 abbrev pub sizeByOp : (op : ℕ) → ℕ
 sizeByOp op = commandSize (commandBy op 0 0 0 0)
 
--- the command whose byte stands at `at`; operands past the end count as 0
+-- the command of the byte `op`, its operands standing after `at`; those past the end count as 0
+abbrev pub commandOver : List ℕ → (at op : ℕ) → Command
+commandOver bs at op = commandBy op (entry bs (at + 1)) (entry bs (at + 2)) (entry bs (at + 3)) (word bs (at + 2))
+
+-- the command whose byte stands at `at`
 abbrev pub commandOf : List ℕ → ℕ → Command
-commandOf bs at = commandBy (entry bs at) (entry bs (at + 1)) (entry bs (at + 2)) (entry bs (at + 3)) (word bs (at + 2))
+commandOf bs at = commandOver bs at (entry bs at)
 
 -- the whole command at `at`: Missing where it is unknown or cut short, or where there is none
 unfoldable pub commandAt : List ℕ → ℕ → Command

@@ -3,13 +3,11 @@ use crate::Command;
 use crate::Condition;
 use crate::Simple;
 use crate::Touch;
-use slices::byte_at;
-use slices::word_at;
+use slices::whole_word_at;
 ghost use mathlib.Core.Path.{_≡_};
-ghost use Prim.Native.Nat.{_+_, _<_};
+ghost use Prim.Native.Nat.{ℕ, _+_, _≤_};
 ghost use lib.ListN.{length};
-ghost use Rattle.slices.specs.Bytes.{entry};
-ghost use Rattle.routine_command.specs.Command.{commandOf, commandAt, sizeByOp, commandSize, simpleSize, touches, touchesOf};
+ghost use Rattle.routine_command.specs.Command.{commandBy, commandOver, commandAt, sizeByOp, simpleSize, touches, touchesOf};
 
 pub fn simple_size(c: Simple) -> usize
     ensures { λ r. ⌜ r ≡ simpleSize c ⌝ }
@@ -46,17 +44,6 @@ pub fn touch_of(command: Command) -> Touch
     }
 }
 
-pub fn command_size(command: Command) -> usize
-    ensures { λ r. ⌜ r ≡ commandSize command ⌝ }
-{
-    match command {
-        Command::Missing => 1,
-        Command::Close(_) => 1,
-        Command::If(_) => 4,
-        Command::Simple(c) => simple_size(c),
-    }
-}
-
 // How many bytes a command takes, by its own byte alone.
 pub fn size_by_op(op: u8) -> usize
     ensures { λ r. ⌜ r ≡ sizeByOp op ⌝ }
@@ -71,85 +58,82 @@ pub fn size_by_op(op: u8) -> usize
     }
 }
 
-// A command's byte and the three bytes after it, 0 for those past the end.
-struct Front {
-    op: u8,
-    a: u8,
-    b: u8,
-    c: u8,
-}
-
-// The front at `at`. Only near the end of the bytes can some of it be missing, so there is one test for all of it.
-fn front_at(bytes: &[u8], at: usize) -> Front
-    requires { ⌜ at < length (now bytes) ⌝ }
-    ensures { λ r. ⌜ (r .op ≡ entry (now (bytes .entry)) at) × (r .a ≡ entry (now (bytes .entry)) (at + 1)) × (r .b ≡ entry (now (bytes .entry)) (at + 2)) × (r .c ≡ entry (now (bytes .entry)) (at + 3)) ⌝ }
+// A command of one byte.
+fn lone_command(op: u8) -> Command
+    requires { ⌜ sizeByOp op ≡ 1 ⌝ }
+    ensures { λ r. ⌜ ((a b c k : ℕ) → r ≡ commandBy op a b c k) ⌝ }
 {
-    if bytes.len() - at < 4 {
-        return Front {
-            op: byte_at(bytes, at),
-            a: byte_at(bytes, at + 1),
-            b: byte_at(bytes, at + 2),
-            c: byte_at(bytes, at + 3),
-        };
-    }
-    Front {
-        op: bytes[at],
-        a: bytes[at + 1],
-        b: bytes[at + 2],
-        c: bytes[at + 3],
-    }
-}
-
-// The command that begins at `at`, with 0 for the bytes past the end. Only a set has a constant, of four bytes, so for no other are they read.
-fn command_of(bytes: &[u8], at: usize) -> Command
-    requires { ⌜ at < length (now bytes) ⌝ }
-    ensures { λ r. ⌜ r ≡ commandOf (now (bytes .entry)) at ⌝ }
-{
-    let f = front_at(bytes, at);
-    let op = f.op;
     match op {
-        0x01 => Command::Simple(Simple::Set {
-            d: f.a,
-            c: word_at(bytes, at + 2),
-        }),
-        0x02 | 0x06..=0x08 => Command::Simple(Simple::Convert { op, d: f.a, s: f.b }),
-        0x03..=0x05 => Command::Simple(Simple::Compute {
-            op,
-            d: f.a,
-            s: f.b,
-            t: f.c,
-        }),
-        0x09 => Command::Simple(Simple::Read {
-            d: f.a,
-            array: f.b,
-            i: f.c,
-        }),
-        0x0A => Command::Simple(Simple::Write {
-            array: f.a,
-            i: f.b,
-            s: f.c,
-        }),
-        0x0B => Command::If(Condition {
-            relation: f.a,
-            s: f.b,
-            t: f.c,
-        }),
         0x00 | 0x0C..=0x0D => Command::Close(op),
         _ => Command::Missing,
     }
 }
 
-// The whole command at `at`.
+// A conversion: no other command has three bytes.
+fn convert_at(bytes: &[u8], at: usize, op: u8) -> Command
+    requires { ⌜ (sizeByOp op ≡ 3) × (at + 3 ≤ length (now bytes)) ⌝ }
+    ensures { λ r. ⌜ r ≡ commandOver (now (bytes .entry)) at op ⌝ }
+{
+    Command::Simple(Simple::Convert {
+        op,
+        d: bytes[at + 1],
+        s: bytes[at + 2],
+    })
+}
+
+// A command of four bytes or more: a set, a computation, a read, a write or an if.
+fn long_command(bytes: &[u8], at: usize, op: u8) -> Command
+    requires { ⌜ (4 ≤ sizeByOp op) × (at + sizeByOp op ≤ length (now bytes)) ⌝ }
+    ensures { λ r. ⌜ r ≡ commandOver (now (bytes .entry)) at op ⌝ }
+{
+    let a = bytes[at + 1];
+    let b = bytes[at + 2];
+    let c = bytes[at + 3];
+    match op {
+        0x01 => Command::Simple(Simple::Set {
+            d: a,
+            c: whole_word_at(bytes, at + 2),
+        }),
+        0x03..=0x05 => Command::Simple(Simple::Compute {
+            op,
+            d: a,
+            s: b,
+            t: c,
+        }),
+        0x09 => Command::Simple(Simple::Read {
+            d: a,
+            array: b,
+            i: c,
+        }),
+        0x0A => Command::Simple(Simple::Write {
+            array: a,
+            i: b,
+            s: c,
+        }),
+        _ => Command::If(Condition {
+            relation: a,
+            s: b,
+            t: c,
+        }),
+    }
+}
+
+// The whole command at `at`. The operands are read once the size has told that they are there. So it is small enough that a compiler puts it into each walk,
+// where its match and the walk's become one.
 pub fn command_at(bytes: &[u8], at: usize) -> Command
     ensures { λ r. ⌜ r ≡ commandAt (now (bytes .entry)) at ⌝ }
 {
     if bytes.len() <= at {
         return Command::Missing;
     }
-    let command = command_of(bytes, at);
-    if command_size(command) <= bytes.len() - at {
-        command
-    } else {
-        Command::Missing
+    let op = bytes[at];
+    let size = size_by_op(op);
+    if bytes.len() - at < size {
+        return Command::Missing;
+    }
+    match size {
+        1 => lone_command(op),
+        3 => convert_at(bytes, at, op),
+        _ => long_command(bytes, at, op),
     }
 }
