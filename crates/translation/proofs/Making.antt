@@ -30,6 +30,7 @@ use Rattle.translation_walk.specs.Inner.Walker.{wiresAt, beginning, WalksTo, Ro
 use Rattle.translation_meaning.specs.declared.Size.{Size}
 use Rattle.lead.specs.declared.Target.{Target}
 use Rattle.translation_walk.specs.declared.Walk.{Walk}
+use Rattle.translation_state.specs.Wires.{allPlaces}
 use Rattle.translation_state.specs.declared.Claim.{Claim}
 use Rattle.translation_walk.proofs.Beginning.{parameters-length}
 use Rattle.translation_meaning.proofs.Bound.{parameters-few, roomy}
@@ -45,7 +46,7 @@ module _ {bs : List ℕ} {h : Header} (i : IsRoutine bs h) {w u w₁ u₁ : List
   pub begin-ready : Ready n₁ 2048
   begin-ready = let r : Ready empty 2049 = record { words = omega arith; clauses = omega arith; next = omega arith } in ready-after 2048 p r (omega arith)
 
-  module _ {n : Net} {l : List ℕ} (b : Begun bs n₁ (given h) l n) where
+  module _ {n : Net} {l : List ℕ} (b : Begun bs h n₁ l n) where
     -- where the commands begin
     from : n .next ≡ 2 + length (parameterNodes bs (given h))
     from = b .emitted w₁ u₁ .next ∙ ap (λ (g : ℕ). g + length (parameterNodes bs (given h))) (p .next)
@@ -64,7 +65,7 @@ module _ {bs : List ℕ} {h : Header} (i : IsRoutine bs h) {w u w₁ u₁ : List
       whole-roomy {at} e = record {
         some = record { arm = i .commands; end = length bs; after = i .counts; stands = rw e (decoded bs h (i .commands) (i .counts) (i .decodes) .stands) };
         room = room-for t ds at (i .commands) (i .counts) (i .decodes);
-        places = ap length (b .lits) ∙ parameters-length bs (given h);
+        places = ap length (b .lits) ∙ parameters-length bs (allPlaces h) (given h);
       }
 
       module _ {w₂ u₂ l₂ : List ℕ} {at : ℕ} (e : at ≡ firstCommand h) {r : Walk} (x : ArmEncoded bs h t ds 0 0 w₁ u₁ l (beginning at n) w₂ u₂ l₂ r) where
@@ -85,7 +86,7 @@ module _ {bs : List ℕ} {h : Header} (i : IsRoutine bs h) {w u w₁ u₁ : List
             X = translationOf bs t ds h a
 
             Y : Encoding
-            Y = encodeArm bs h t ds a (2 + length (parameterNodes bs (given h))) (initialWires bs (given h))
+            Y = encodeArm bs h t ds a (2 + length (parameterNodes bs (given h))) (initialWires bs h)
 
             arm-is : encodeArm bs h t ds a (n .next) (wiresAt l (beginning at n)) ≡ Y
             unfolding Y initialWires

@@ -13,13 +13,18 @@ use routine_header::first_command;
 use slices::Buffer;
 use slices::usable;
 use translation_meaning::Size;
-use translation_state::ALL_PLACES;
 use translation_state::Claim;
+use translation_state::MOST_PLACES;
+use translation_state::literals::clear_bits;
+use translation_state::literals::places_in;
 use translation_walk::parameters::begin_parameters;
 use translation_walk::parameters::first_walk;
 use translation_walk::walks::encode_arm;
+ghost use mathlib.Core.Path.{_≡_};
+ghost use lib.ListN.{length};
 ghost use Rattle.routine.specs.Decode.{IsRoutine};
 ghost use Rattle.cnf.specs.Inner.Append.{Appended, CountRoom};
+ghost use Rattle.translation_state.specs.Wires.{allPlaces};
 ghost use Rattle.translation_meaning.specs.Translation.{lastClauses};
 ghost use Rattle.translation_walk.specs.Inner.Walker.{ClaimEncoded};
 ghost use Rattle.translation.specs.Inner.Fitted.{Fitted};
@@ -39,19 +44,20 @@ fn append_claim(words: &mut [u32], starts: &mut [u32], s: Store, claim: Claim) -
     }
 }
 
-// Variable 1, the parameters, the commands as far as the named access, and the last two clauses.
+// Variable 1, the parameters, the commands as far as the named access, and the last two clauses. The literals of the bits go into lits.
 fn make(
     words: &mut [u32],
     starts: &mut [u32],
+    lits: &mut [u32],
     bytes: &[u8],
     h: Header,
     t: Target,
     decisions: &[u8],
 ) -> Size
     requires { ⌜ IsRoutine (now bytes) h ⌝ }
+    requires { ⌜ length (now lits) ≡ allPlaces h ⌝ }
     ensures { λ r. ⌜ ClaimEncoded (now (bytes .entry)) h t (now (decisions .entry)) (now (words .entry)) (now (starts .entry)) (now (words .exit)) (now (starts .exit)) r ⌝ }
 {
-    let mut lits = [3u32; ALL_PLACES];
     let nothing_yet = Store {
         words: 0,
         clauses: 0,
@@ -61,9 +67,10 @@ fn make(
         next: 1,
     };
     let n = emit(words, starts, empty, Node::One);
-    let net = begin_parameters(&mut lits, n, bytes, h);
+    clear_bits(lits);
+    let net = begin_parameters(lits, n, bytes, h);
     let p = first_walk(first_command(h), net);
-    let r = encode_arm(words, starts, &mut lits, bytes, h, t, decisions, 0, 0x00, p);
+    let r = encode_arm(words, starts, lits, bytes, h, t, decisions, 0, 0x00, p);
     let last = r.net;
     let store = last.store;
     let reach = r.reach;
@@ -90,15 +97,33 @@ pub fn fit(
 {
     let mut no_words = [0u32; 0];
     let mut no_starts = [0u32; 0];
+    let mut lits = [0u32; MOST_PLACES];
+    let p = places_in(h);
     let w = usable(words.len());
     let c = usable(starts.len());
-    let need = make(&mut no_words, &mut no_starts, routine, h, t, decisions);
+    let need = make(
+        &mut no_words,
+        &mut no_starts,
+        &mut lits[..p],
+        routine,
+        h,
+        t,
+        decisions,
+    );
     if w < need.words as usize {
         return Translated::Refused(Refusal::TooSmall(Buffer::Words));
     }
     if c < need.clauses as usize {
         return Translated::Refused(Refusal::TooSmall(Buffer::Starts));
     }
-    let made = make(&mut words[..w], &mut starts[..c], routine, h, t, decisions);
+    let made = make(
+        &mut words[..w],
+        &mut starts[..c],
+        &mut lits[..p],
+        routine,
+        h,
+        t,
+        decisions,
+    );
     Translated::Made(made)
 }

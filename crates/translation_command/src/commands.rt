@@ -39,7 +39,7 @@ ghost use Rattle.routine_command.specs.declared.Simple.{Simple};
 
 // d := c.
 fn encode_set(lits: &mut [u32], bytes: &[u8], h: Header, d: u8, c: u32)
-    requires { ⌜ length (now lits) ≡ allPlaces ⌝ }
+    requires { ⌜ length (now lits) ≡ allPlaces h ⌝ }
     requires { ⌜ Sound (now bytes) h (Simple.Set d c) × Fine (now bytes) h ⌝ }
     ensures { λ _. ⌜ now (lits .exit) ≡ bitsSet (now (bytes .entry)) (now (lits .entry)) d (constBit c) ⌝ }
 {
@@ -50,7 +50,7 @@ fn encode_set(lits: &mut [u32], bytes: &[u8], h: Header, d: u8, c: u32)
 
 // Copy, cut, and the extensions.
 fn encode_convert(lits: &mut [u32], bytes: &[u8], h: Header, op: u8, d: u8, a: u8)
-    requires { ⌜ length (now lits) ≡ allPlaces ⌝ }
+    requires { ⌜ length (now lits) ≡ allPlaces h ⌝ }
     requires { ⌜ Sound (now bytes) h (Simple.Convert op d a) × Fine (now bytes) h ⌝ }
     ensures { λ _. ⌜ now (lits .exit) ≡ bitsSet (now (bytes .entry)) (now (lits .entry)) d (conversion op (bitsIn (now (bytes .entry)) (now (lits .entry)) a) (width (now (bytes .entry)) a)) ⌝ }
 {
@@ -75,7 +75,7 @@ fn encode_compute(
     b: u8,
 ) -> Net
     requires { ⌜ Ready n 8192 ⌝ }
-    requires { ⌜ length (now lits) ≡ allPlaces ⌝ }
+    requires { ⌜ length (now lits) ≡ allPlaces h ⌝ }
     requires { ⌜ Sound (now bytes) h (Simple.Compute op d a b) × Fine (now bytes) h ⌝ }
     ensures { λ r. ⌜ Emitted (now (words .entry)) (now (starts .entry)) n (computation op (n .next) (bitsIn (now (bytes .entry)) (now (lits .entry)) a) (bitsIn (now (bytes .entry)) (now (lits .entry)) b) (width (now (bytes .entry)) d) .nodes) (now (words .exit)) (now (starts .exit)) r ⌝ }
     ensures { λ _. ⌜ now (lits .exit) ≡ bitsSet (now (bytes .entry)) (now (lits .entry)) d (computation op (n .next) (bitsIn (now (bytes .entry)) (now (lits .entry)) a) (bitsIn (now (bytes .entry)) (now (lits .entry)) b) (width (now (bytes .entry)) d) .bits) ⌝ }
@@ -104,7 +104,7 @@ fn encode_access(
     s: Reach,
 ) -> Encoded
     requires { ⌜ Ready n 8192 ⌝ }
-    requires { ⌜ length (now lits) ≡ allPlaces ⌝ }
+    requires { ⌜ length (now lits) ≡ allPlaces h ⌝ }
     requires { ⌜ (i < h .variables) × Fine (now bytes) h ⌝ }
     ensures { λ r. ⌜ Encodes (now (words .entry)) (now (starts .entry)) n (accessOf (now (bytes .entry)) h t (n .next) array i k (wiresOf (now (lits .entry)) s)) (now (words .exit)) (now (starts .exit)) (now (lits .entry)) r ⌝ }
 {
@@ -144,7 +144,7 @@ fn encode_read(
     s: Reach,
 ) -> Encoded
     requires { ⌜ Ready n 8192 ⌝ }
-    requires { ⌜ length (now lits) ≡ allPlaces ⌝ }
+    requires { ⌜ length (now lits) ≡ allPlaces h ⌝ }
     requires { ⌜ Sound (now bytes) h (Simple.Read d array i) × Fine (now bytes) h × (isMade (s .claim) ≡ false) ⌝ }
     ensures { λ r. ⌜ Encodes (now (words .entry)) (now (starts .entry)) n (simple (now (bytes .entry)) h t (n .next) (Simple.Read d array i) k (wiresOf (now (lits .entry)) s)) (now (words .exit)) (now (starts .exit)) (now (lits .exit)) r ⌝ }
 {
@@ -175,7 +175,7 @@ pub fn encode_simple(
     s: Reach,
 ) -> Encoded
     requires { ⌜ Ready n 8192 ⌝ }
-    requires { ⌜ length (now lits) ≡ allPlaces ⌝ }
+    requires { ⌜ length (now lits) ≡ allPlaces h ⌝ }
     requires { ⌜ Sound (now bytes) h c × Fine (now bytes) h × (isMade (s .claim) ≡ false) ⌝ }
     ensures { λ r. ⌜ Encodes (now (words .entry)) (now (starts .entry)) n (simple (now (bytes .entry)) h t (n .next) c k (wiresOf (now (lits .entry)) s)) (now (words .exit)) (now (starts .exit)) (now (lits .exit)) r ⌝ }
 {

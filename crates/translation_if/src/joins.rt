@@ -67,7 +67,7 @@ fn join_groups(
     other: &[u32],
 ) -> Net
     requires { ⌜ Ready n 2048 ⌝ }
-    requires { ⌜ (length (now lits) ≡ allPlaces) × (length (now other) ≡ allPlaces) ⌝ }
+    requires { ⌜ (length (now lits) ≡ allPlaces h) × (length (now other) ≡ allPlaces h) ⌝ }
     requires { ⌜ Fine (now bytes) h ⌝ }
     ensures { λ r. ⌜ Emitted (now (words .entry)) (now (starts .entry)) n (joinGroups (now (bytes .entry)) (n .next) c (now (lits .entry)) (now (other .entry)) (h .variables) .nodes) (now (words .exit)) (now (starts .exit)) r ⌝ }
     ensures { λ _. ⌜ now (lits .exit) ≡ joinGroups (now (bytes .entry)) (n .next) c (now (lits .entry)) (now (other .entry)) (h .variables) .lits ⌝ }
@@ -96,7 +96,7 @@ pub fn join_arms(
     y: Reach,
 ) -> Encoded
     requires { ⌜ Ready n 8192 ⌝ }
-    requires { ⌜ (length (now lits) ≡ allPlaces) × (length (now other) ≡ allPlaces) ⌝ }
+    requires { ⌜ (length (now lits) ≡ allPlaces h) × (length (now other) ≡ allPlaces h) ⌝ }
     requires { ⌜ Fine (now bytes) h ⌝ }
     ensures { λ r. ⌜ Encodes (now (words .entry)) (now (starts .entry)) n (joinArms (now (bytes .entry)) h (n .next) c (wiresOf (now (lits .entry)) x) (wiresOf (now (other .entry)) y)) (now (words .exit)) (now (starts .exit)) (now (lits .exit)) r ⌝ }
 {

@@ -63,7 +63,7 @@ pub fn begin_if(
     s: Reach,
 ) -> IfBegun
     requires { ⌜ Ready n 8192 ⌝ }
-    requires { ⌜ length (now lits) ≡ allPlaces ⌝ }
+    requires { ⌜ length (now lits) ≡ allPlaces h ⌝ }
     requires { ⌜ SoundIf (now bytes) h c × Fine (now bytes) h ⌝ }
     ensures { λ r. ⌜ BeginsIf (now (bytes .entry)) (now (words .entry)) (now (starts .entry)) n c d (wiresOf (now (lits .entry)) s) (now (words .exit)) (now (starts .exit)) r ⌝ }
 {

@@ -257,7 +257,7 @@ whole-bound bs t ds h a k e w l narrow =
     let d = decoded bs h a k e in
     let f = fine bs h (d .header) in
     let ns : List Node = parameterNodes bs (given h) in
-    let s : Wires = initialWires bs (given h) in
+    let s : Wires = initialWires bs h in
     let x : Encoding = encodeArm bs h t ds a (2 + length ns) s in
     let p = parameters-short bs h w narrow (given h) (f .parameters) in
     let n : given h ≤ 32 = omega (arith, f .parameters, f .few) in
@@ -286,7 +286,7 @@ module _ (bs : List ℕ) (t : Target) (ds : List ℕ) (h : Header) (a : Arm) whe
   pub clauses-bound : length (clausesOfAll (translationOf bs t ds h a)) ≤ 6 * length (translationOf bs t ds h a .nodes)
   unfolding clausesOfAll netlistClauses nodeClauses translationOf
   clauses-bound =
-      let x = encodeArm bs h t ds a (2 + length (parameterNodes bs (given h))) (initialWires bs (given h)) in
+      let x = encodeArm bs h t ds a (2 + length (parameterNodes bs (given h))) (initialWires bs h) in
       let ns = parameterNodes bs (given h) ++ x .nodes in
       simp length-append (omega (arith, clausesOf-few 2 ns, last-few (x .wires .claim) .0, length-append (parameterNodes bs (given h)) (x .nodes)))
 
@@ -294,7 +294,7 @@ module _ (bs : List ℕ) (t : Target) (ds : List ℕ) (h : Header) (a : Arm) whe
   pub words-bound : length (flatten (clausesOfAll (translationOf bs t ds h a))) ≤ 24 * length (translationOf bs t ds h a .nodes)
   unfolding clausesOfAll netlistClauses nodeClauses translationOf
   words-bound =
-      let x = encodeArm bs h t ds a (2 + length (parameterNodes bs (given h))) (initialWires bs (given h)) in
+      let x = encodeArm bs h t ds a (2 + length (parameterNodes bs (given h))) (initialWires bs h) in
       let ns = parameterNodes bs (given h) ++ x .nodes in
       let cs = netlistClauses 2 ns in
       let ls = lastClauses (x .wires .claim) in

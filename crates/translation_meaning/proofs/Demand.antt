@@ -118,9 +118,9 @@ module _ (bs : List ℕ) (t : Target) (ds : List ℕ) (h : Header) (a : Arm) (k 
   g = 2 + length ps
 
   abbrev x : Encoding
-  x = encodeArm bs h t ds a g (initialWires bs (given h))
+  x = encodeArm bs h t ds a g (initialWires bs h)
 
-  start-open : initialWires bs (given h) .claim ≡ Claim.Open
+  start-open : initialWires bs h .claim ≡ Claim.Open
   unfolding initialWires
   start-open = refl
 
@@ -131,7 +131,7 @@ module _ (bs : List ℕ) (t : Target) (ds : List ℕ) (h : Header) (a : Arm) (k 
       pick : (b : Bool) → isMade (x .wires .claim) ≡ b → isMade (x .wires .claim) ≡ true
       pick true e = e
       pick false e =
-          let p = arm-claims t bs h ds a 0 0 (firstCommand h) noCounts (length bs) k stands g (initialWires bs (given h)) start-open .unnamed e (omega arith) in
+          let p = arm-claims t bs h ds a 0 0 (firstCommand h) noCounts (length bs) k stands g (initialWires bs h) start-open .unnamed e (omega arith) in
           absurd (omega arith)
 
   made : MadeBy (x .wires .claim)
@@ -140,7 +140,7 @@ module _ (bs : List ℕ) (t : Target) (ds : List ℕ) (h : Header) (a : Arm) (k 
   claims : x .wires .claim ≡ Claim.Made (x .wires .arrival) (made .side)
   claims =
       made .is
-      ∙ ap (λ (z : ℕ). Claim.Made z (made .side)) (arm-settled t bs h ds a g (initialWires bs (given h)) start-open (made .arrival) (made .side) (made .is))
+      ∙ ap (λ (z : ℕ). Claim.Made z (made .side)) (arm-settled t bs h ds a g (initialWires bs h) start-open (made .arrival) (made .side) (made .is))
 
   formed : WellFormed 1 (translationOf bs t ds h a .nodes)
   formed = whole-formed bs h ok t ds a (firstCommand h) noCounts (length bs) k stands
@@ -165,7 +165,7 @@ module _ (bs : List ℕ) (t : Target) (ds : List ℕ) (h : Header) (a : Arm) (k 
       parts = models-append I ρ 2 ps (x .nodes) (models .1)
 
       -- at the start the parameters have their words
-      alive : Alive bs ins h ok t ds before ρ truth (initialWires bs (given h)) (state.initial ins (given h))
+      alive : Alive bs ins h ok t ds before ρ truth (initialWires bs h) (state.initial ins (given h))
       unfolding initialWires state.initial
       alive = record {
         unclaimed = refl;
@@ -178,7 +178,7 @@ module _ (bs : List ℕ) (t : Target) (ds : List ℕ) (h : Header) (a : Arm) (k 
       unfolding runOf
       tally =
           arm-alive bs ins h ok t ds before ρ truth side few a 0 0 (firstCommand h) noCounts (length bs) k stands (fits .reads)
-          (ifs-before bs h a k is (t .access) named) (omega arith) g (initialWires bs (given h)) (state.initial ins (given h)) (parts .1) alive
+          (ifs-before bs h a k is (t .access) named) (omega arith) g (initialWires bs h) (state.initial ins (given h)) (parts .1) alive
 
   -- its course arrived just where it goes the way and comes to the access
   same : (ins : List ℕ) (array : ℕ) (index : Whole) → (course ds (t .access) before (runOf bs ins h a .events) ≡ Course.Arrived array index)

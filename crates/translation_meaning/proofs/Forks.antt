@@ -25,7 +25,7 @@ use Rattle.netlist.specs.Meaning.{Inputs}
 use Rattle.netlist.proofs.Truth.{Models, models-append}
 use Rattle.arithmetic.proofs.Values.{value}
 use Rattle.comparison.proofs.Relating.{relation-value}
-use Rattle.translation_state.specs.Wires.{Wires, bitsOf, arriving, isMade}
+use Rattle.translation_state.specs.Wires.{Wires, allPlaces, bitsOf, arriving, isMade}
 use Rattle.translation_command.specs.Command.{Encoding}
 use Rattle.translation_if.specs.If.{conditionOf, arrivals, joinArms}
 use Rattle.translation_meaning.specs.Walk.{encodeIf}
@@ -93,24 +93,24 @@ module _ (bs ins : List ℕ) (h : Header) (fine : Fine bs h) (t : Target) (ds : 
     left-else : lit ρ (x .arrival) ≡ false → lit ρ (joinArms bs h g l x y .wires .arrival) ≡ lit ρ (y .arrival)
     left-else e = joined-lit I ρ bs h g l x y m ∙ ap (λ (b : Bool). b || lit ρ (y .arrival)) e
 
-    first-worth : lit ρ l ≡ true → length (x .lits) ≡ 1024 → Worth bs h fine ρ (x .lits) (r .values) → Worth bs h fine ρ (joinArms bs h g l x y .wires .lits) (r .values)
+    first-worth : lit ρ l ≡ true → length (x .lits) ≡ allPlaces h → Worth bs h fine ρ (x .lits) (r .values) → Worth bs h fine ρ (joinArms bs h g l x y .wires .lits) (r .values)
     unfolding joinArms
     first-worth e n w = join-first bs h fine ρ I g l (x .lits) (y .lits) n (r .values) e (joined-gates I ρ bs h g l x y m) w
 
     -- the first arm was taken
-    joined-first : lit ρ l ≡ true → lit ρ (y .arrival) ≡ false → length (x .lits) ≡ 1024 → isMade (x .claim) ≡ false → Tally bs h fine t ds before ρ x c r
+    joined-first : lit ρ l ≡ true → lit ρ (y .arrival) ≡ false → length (x .lits) ≡ allPlaces h → isMade (x .claim) ≡ false → Tally bs h fine t ds before ρ x c r
         → Tally bs h fine t ds before ρ (joinArms bs h g l x y .wires) c r
     joined-first e f n q (through a b p u w) = through joined-open (left-first f ∙ b) p u (first-worth e n w)
     joined-first e f n q (lost a b p) = lost joined-open (left-first f ∙ b) p
     joined-first e f n q (missed a b p) = not-both (isMade (x .claim)) a q
     joined-first e f n q (here side array index a b p v) = not-both (isMade (x .claim)) (ap isMade a) q
 
-    else-worth : lit ρ l ≡ false → length (x .lits) ≡ 1024 → Worth bs h fine ρ (y .lits) (r .values) → Worth bs h fine ρ (joinArms bs h g l x y .wires .lits) (r .values)
+    else-worth : lit ρ l ≡ false → length (x .lits) ≡ allPlaces h → Worth bs h fine ρ (y .lits) (r .values) → Worth bs h fine ρ (joinArms bs h g l x y .wires .lits) (r .values)
     unfolding joinArms
     else-worth e n w = join-second bs h fine ρ I g l (x .lits) (y .lits) n (r .values) e (joined-gates I ρ bs h g l x y m) w
 
     -- the else was taken
-    joined-else : lit ρ l ≡ false → lit ρ (x .arrival) ≡ false → length (x .lits) ≡ 1024 → isMade (y .claim) ≡ false → Tally bs h fine t ds before ρ y c r
+    joined-else : lit ρ l ≡ false → lit ρ (x .arrival) ≡ false → length (x .lits) ≡ allPlaces h → isMade (y .claim) ≡ false → Tally bs h fine t ds before ρ y c r
         → Tally bs h fine t ds before ρ (joinArms bs h g l x y .wires) c r
     joined-else e f n q (through a b p u w) = through joined-open (left-else f ∙ b) p u (else-worth e n w)
     joined-else e f n q (lost a b p) = lost joined-open (left-else f ∙ b) p
@@ -219,7 +219,7 @@ module _ (bs ins : List ℕ) (h : Header) (fine : Fine bs h) (t : Target) (ds : 
     else-come cm bm =
         else-lit I ρ o d g₁ (s .arrival) l bm ∙ ap₂ (λ (p q : Bool). cond (eqb d 0) false (p && not q)) (a .come) (says cm)
 
-    first-places : length (x .wires .lits) ≡ 1024
+    first-places : length (x .wires .lits) ≡ allPlaces h
     first-places = arms .places g₂ s₁ ∙ a .worth .places
 
     never : (b : Bool) → cond b false false ≡ false

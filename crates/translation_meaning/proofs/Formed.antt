@@ -5,7 +5,7 @@ use mathlib.Core.Bool.{Bool, true, false, cond}
 use Prim.Native.Nat.{ℕ, zero, suc, _+_, _-_, _<_}
 use native.Mathlib.Nat.{add-assoc}
 use native.Mathlib.Omega.{arith}
-use lib.ListN.{length, length-append, getD-replicate}
+use lib.ListN.{length, length-replicate, length-append, getD-replicate}
 use lib.Dec.{eqb}
 use Rattle.slices.specs.Bytes.{entry}
 use Rattle.routine_header.specs.Header.{width, arraySize}
@@ -38,7 +38,7 @@ use Rattle.arithmetic.proofs.Extend.{const-before, extend-before}
 use Rattle.arithmetic.proofs.Input.{length-inputs, inputs-formed, input-before}
 use Rattle.comparison.proofs.Access.{above-formed, above-before}
 use Rattle.comparison.proofs.Relating.{relation-formed, relation-before}
-use Rattle.translation_state.specs.Wires.{Wires, bitsSet, bitsOf, withBits, arriving}
+use Rattle.translation_state.specs.Wires.{Wires, allPlaces, bitsSet, bitsOf, withBits, arriving}
 use Rattle.translation_command.specs.Command.{Encoding, nodesThen, still, access, readInto, simple}
 use Rattle.translation_command.specs.Operation.{conversion, computation}
 use Rattle.translation_access.specs.Index.{top, passing, claim}
@@ -53,7 +53,7 @@ use Rattle.translation_meaning.proofs.Wired.{Held, Named, Wired, Made, 
 module _ (bs : List ℕ) (h : Header) (fine : Fine bs h) where
   -- ---- commands
 
-  still-made : (g : ℕ) (s : Wires) → Wired g s → Made g (still s)
+  still-made : (g : ℕ) (s : Wires) → Wired (h .variables) g s → Made (h .variables) g (still s)
   still-made g s w = record { formed = tt; wired = wired-later (g + 0) (omega arith) w }
 
   convert-before : (op g : ℕ) (a : Bits) (w v : ℕ) → 0 < w → 1 < g → AllBefore g a w → AllBefore g (conversion op a w) v
@@ -123,8 +123,8 @@ module _ (bs : List ℕ) (h : Header) (fine : Fine bs h) where
 
   module _ (t : Target) where
     -- an access, and what goes on after it
-    at-access : (g array i : ℕ) (k : Counts) (s : Wires) (go : ℕ → Wires → Encoding) → i < h .variables → Wired g s
-        → ((g₁ : ℕ) (u : Wires) → Wired g₁ u → Made g₁ (go g₁ u)) → Made g (access bs h t g array i k s go)
+    at-access : (g array i : ℕ) (k : Counts) (s : Wires) (go : ℕ → Wires → Encoding) → i < h .variables → Wired (h .variables) g s
+        → ((g₁ : ℕ) (u : Wires) → Wired (h .variables) g₁ u → Made (h .variables) g₁ (go g₁ u)) → Made (h .variables) g (access bs h t g array i k s go)
     at-access g array i k s go l w f =
         let a : Bits = bitsOf bs s i in
         let size : ℕ = arraySize bs h array in
@@ -135,7 +135,7 @@ module _ (bs : List ℕ) (h : Header) (fine : Fine bs h) where
         let u : Wires = arriving s (x .lit) in
         let p = passing-made g a size v (s .arrival) (wide bs h fine i l) (w .some) b (w .arrival) in
         let c = claim-made (t .side) g a size v (wide bs h fine i l) (w .some) b in
-        access-by (Made g) bs h t g array i k s go
+        access-by (Made (h .variables) g) bs h t g array i k s go
         (λ e. record {
           formed = c .gates;
           wired = let q = wired-later {s = s} (g + length (claim (t .side) g a size v .nodes)) (omega arith) w in
@@ -143,7 +143,7 @@ module _ (bs : List ℕ) (h : Header) (fine : Fine bs h) where
         })
         (λ e. made-after g (x .nodes) (go n u) (p .gates) (f n u (wired-arriving {s = s} (x .lit) (wired-later {s = s} n (omega arith) w) (p .literal))))
 
-    read-made : (d : ℕ) (k : Counts) (g : ℕ) (s : Wires) → Wired g s → Made g (readInto bs h d k g s)
+    read-made : (d : ℕ) (k : Counts) (g : ℕ) (s : Wires) → Wired (h .variables) g s → Made (h .variables) g (readInto bs h d k g s)
     read-made d k g s w =
         let e = length-inputs (inputNumber h k) (width bs d) in
         let b : AllBefore (g + length (inputs (inputNumber h k) (width bs d))) (inBit g) (width bs d) =
@@ -153,7 +153,7 @@ module _ (bs : List ℕ) (h : Header) (fine : Fine bs h) where
           wired = wired-put bs _ s (wired-later _ (omega arith) w) d (inBit g) b;
         }
 
-    pub simple-made : (g : ℕ) (c : Simple) (k : Counts) (s : Wires) → Sound bs h c → Wired g s → Made g (simple bs h t g c k s)
+    pub simple-made : (g : ℕ) (c : Simple) (k : Counts) (s : Wires) → Sound bs h c → Wired (h .variables) g s → Made (h .variables) g (simple bs h t g c k s)
     unfolding simple
     simple-made g (Simple.Set d c) k s q w = still-made g (withBits bs s d (constBit c)) (wired-put bs g s w d (constBit c) (const-before g c (width bs d) (w .some)))
     simple-made g (Simple.Convert op d a) k s q w =
@@ -201,17 +201,17 @@ module _ (bs : List ℕ) (h : Header) (fine : Fine bs h) where
           second = before-pos _ _ (omega arith) (omega arith);
         }
 
-    made-front : (g : ℕ) (a b : List Node) (x : Encoding) → WellFormed g a → WellFormed (g + length a) b → Made (g + length a + length b) x
-        → Made g (nodesThen (a ++ b) x)
+    made-front : (g : ℕ) (a b : List Node) (x : Encoding) → WellFormed g a → WellFormed (g + length a) b → Made (h .variables) (g + length a + length b) x
+        → Made (h .variables) g (nodesThen (a ++ b) x)
     made-front g a b x p q m =
         let e : g + length a + length b ≡ g + length (a ++ b) = add-assoc g (length a) (length b) ∙ ap (λ (n : ℕ). g + n) (sym (length-append a b)) in
-        made-after g (a ++ b) x (formed-append g a b p q) (subst (λ (n : ℕ). Made n x) e m)
+        made-after g (a ++ b) x (formed-append g a b p q) (subst (λ (n : ℕ). Made (h .variables) n x) e m)
 
     abbrev Arms : (ℕ → Wires → Encoding) → Type 0
-    Arms go = (g : ℕ) (s : Wires) → Wired g s → Made g (go g s)
+    Arms go = (g : ℕ) (s : Wires) → Wired (h .variables) g s → Made (h .variables) g (go g s)
 
     module _ (first second : ℕ → Wires → Encoding) (one : Arms first) (two : Arms second) where
-      pub fork-made : (d g : ℕ) (c : Condition) (s : Wires) → SoundIf bs h c → Wired g s → Made g (encodeIf bs h d g c s first second)
+      pub fork-made : (d g : ℕ) (c : Condition) (s : Wires) → SoundIf bs h c → Wired (h .variables) g s → Made (h .variables) g (encodeIf bs h d g c s first second)
       fork-made d g c s q w =
           let f = condition-fine bs h c q in
           let v = width bs (c .s) in
@@ -232,9 +232,9 @@ module _ (bs : List ℕ) (h : Header) (fine : Fine bs h) where
           let g₄ = joinFrom bs h d g c s first second in
           let s₁ = firstWires bs h d g c s first second in
           let s₂ = secondWires bs h d g c s first second in
-          let m₁ : Made g₂ x = one g₂ s₁ (wired-arriving {s = s} _ (wired-later {s = s} g₂ (omega arith) w) (br .first)) in
-          let m₂ : Made g₃ y = two g₃ s₂ (wired-arriving {s = s} _ (wired-later {s = s} g₃ (omega arith) w) (before-later g₃ (omega arith) (br .second))) in
-          fork-by bs h d g c s first second (Made g)
+          let m₁ : Made (h .variables) g₂ x = one g₂ s₁ (wired-arriving {s = s} _ (wired-later {s = s} g₂ (omega arith) w) (br .first)) in
+          let m₂ : Made (h .variables) g₃ y = two g₃ s₂ (wired-arriving {s = s} _ (wired-later {s = s} g₃ (omega arith) w) (before-later g₃ (omega arith) (br .second))) in
+          fork-by bs h d g c s first second (Made (h .variables) g)
           (λ e. made-front g cn bn x cf (br .gates) m₁)
           (λ e e₁. made-front g cn bn (nodesThen (x .nodes) y) cf (br .gates) (made-after g₂ (x .nodes) y (m₁ .formed) m₂))
           (λ e e₁. made-front g cn bn (nodesThen (x .nodes) (nodesThen (y .nodes) j)) cf (br .gates)
@@ -243,9 +243,9 @@ module _ (bs : List ℕ) (h : Header) (fine : Fine bs h) where
           (joined-made bs h fine g₄ l (x .wires) (y .wires) (wired-later {s = x .wires} g₄ (omega arith) (m₁ .wired)) (m₂ .wired) (before-later g₄ (omega arith) lb)))))
 
     -- an encoding, and what goes on after it
-    goes-on : (g : ℕ) (x : Encoding) (go : ℕ → Wires → Encoding) → Made g x → Arms go → Made g (encodeOn g x go)
+    goes-on : (g : ℕ) (x : Encoding) (go : ℕ → Wires → Encoding) → Made (h .variables) g x → Arms go → Made (h .variables) g (encodeOn g x go)
     goes-on g x go m f =
-        then-by (Made g) g x go (λ e. m)
+        then-by (Made (h .variables) g) g x go (λ e. m)
         (λ e. made-after g (x .nodes) (go (g + length (x .nodes)) (x .wires)) (m .formed) (f (g + length (x .nodes)) (x .wires) (m .wired)))
 
     -- an arm that stands
@@ -265,11 +265,11 @@ module _ (bs : List ℕ) (h : Header) (fine : Fine bs h) where
 
     record Started (n : ℕ) : Type 0 where
       gates : WellFormed 2 (parameterNodes bs n)
-      lits : Held (2 + length (parameterNodes bs n)) (parameterLits bs n)
+      lits : Held (h .variables) (2 + length (parameterNodes bs n)) (parameterLits bs (allPlaces h) n)
 
     started : (n : ℕ) → Started n
     unfolding parameterNodes parameterLits
-    started zero = record { gates = tt; lits = record { count = refl; places = λ i l. subst (Before 2) (sym (getD-replicate 1024 i 3 0 l)) (before-neg 2 1 (omega arith) (omega arith)) } }
+    started zero = record { gates = tt; lits = record { count = length-replicate (allPlaces h) 3; places = λ i l. subst (Before 2) (sym (getD-replicate (allPlaces h) i 3 0 l)) (before-neg 2 1 (omega arith) (omega arith)) } }
     started (suc p) =
         let q = started p in
         let ns : List Node = parameterNodes bs p in
@@ -280,27 +280,27 @@ module _ (bs : List ℕ) (h : Header) (fine : Fine bs h) where
         let z : g + width bs p ≡ 2 + length (ns ++ ms) = omega arith in
         record {
           gates = formed-append 2 ns ms (q .gates) (inputs-formed g p (width bs p));
-          lits = subst (λ (n : ℕ). Held n (bitsSet bs (parameterLits bs p) p (inBit g))) z
-              (held-put bs (g + width bs p) (parameterLits bs p) (held-later (g + width bs p) (omega arith) (q .lits)) p (inBit g) (input-before g (width bs p) (omega arith)));
+          lits = subst (λ (n : ℕ). Held (h .variables) n (bitsSet bs (parameterLits bs (allPlaces h) p) p (inBit g))) z
+              (held-put bs (g + width bs p) (parameterLits bs (allPlaces h) p) (held-later (g + width bs p) (omega arith) (q .lits)) p (inBit g) (input-before g (width bs p) (omega arith)));
         }
 
     abbrev wholeFrom : ℕ
     wholeFrom = 2 + length (parameterNodes bs (given h))
 
-    start-wired : Wired wholeFrom (initialWires bs (given h))
+    start-wired : Wired (h .variables) wholeFrom (initialWires bs h)
     unfolding initialWires
     start-wired = record { some = omega arith; held = started (given h) .lits; arrival = before-pos wholeFrom 1 (omega arith) (omega arith); claim = tt }
 
     module _ (ds : List ℕ) (a : Arm) (at : ℕ) (k : Counts) (end : ℕ) (k₁ : Counts) (st : Stands bs h 0 0 at k a end k₁) where
-      commands-made : Made wholeFrom (encodeArm bs h t ds a wholeFrom (initialWires bs (given h)))
-      commands-made = arm-made ds a 0 0 at k end k₁ st wholeFrom (initialWires bs (given h)) start-wired
+      commands-made : Made (h .variables) wholeFrom (encodeArm bs h t ds a wholeFrom (initialWires bs h))
+      commands-made = arm-made ds a 0 0 at k end k₁ st wholeFrom (initialWires bs h) start-wired
 
       -- a whole translation is well formed
       pub whole-formed : WellFormed 1 (translationOf bs t ds h a .nodes)
       unfolding translationOf
       whole-formed = (
         tt,
-        formed-append 2 (parameterNodes bs (given h)) (encodeArm bs h t ds a wholeFrom (initialWires bs (given h)) .nodes)
+        formed-append 2 (parameterNodes bs (given h)) (encodeArm bs h t ds a wholeFrom (initialWires bs h) .nodes)
             (started (given h) .gates) (commands-made .formed),
       )
 
@@ -310,7 +310,7 @@ module _ (bs : List ℕ) (h : Header) (fine : Fine bs h) where
       unfolding translationOf
       whole-named arrival side e =
           let ns : List Node = parameterNodes bs (given h) in
-          let x : Encoding = encodeArm bs h t ds a wholeFrom (initialWires bs (given h)) in
+          let x : Encoding = encodeArm bs h t ds a wholeFrom (initialWires bs h) in
           let z = length-append ns (x .nodes) in
           subst (Named (1 + length (One ∷ (ns ++ x .nodes)))) e
           (named-later (1 + length (One ∷ (ns ++ x .nodes))) (x .wires .claim) (omega arith) (commands-made .wired .claim))

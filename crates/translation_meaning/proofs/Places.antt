@@ -24,8 +24,8 @@ module _ (bs lits : List ℕ) (d : ℕ) (f : Bits) where
   put-length = length-sets lits (32 * d) (tabulate f (width bs d))
 
   -- what was put is there
-  pub put-same : (j : ℕ) → j < width bs d → d < 32 → width bs d ≤ 32 → length lits ≡ 1024 → bitsIn bs (bitsSet bs lits d f) d j ≡ f j
-  put-same j h l w e =
+  pub put-same : (j : ℕ) → j < width bs d → 32 * d + width bs d ≤ length lits → bitsIn bs (bitsSet bs lits d f) d j ≡ f j
+  put-same j h e =
       bits-place bs (bitsSet bs lits d f) d j h
       ∙ sets-inside (tabulate f (width bs d)) lits (32 * d) j (omega (arith, length-tabulate f (width bs d))) (omega arith)
       ∙ getD-tabulate f (width bs d) j h

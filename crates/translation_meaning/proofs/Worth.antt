@@ -6,7 +6,7 @@ use mathlib.Core.List.{List}
 use mathlib.Core.Bool.{Bool, true, false, cond}
 use Prim.Native.Nat.{ℕ, zero, suc, _+_, _*_, _^_, _<_, _≤_}
 use native.Mathlib.Omega.{arith}
-use lib.ListN.{length, getD-replicate, set, length-set, replicate}
+use lib.ListN.{length, length-replicate, getD-replicate, set, length-set, replicate}
 use lib.Seq.{getD-set-same, getD-set-other}
 use lib.Dec.{eqb}
 use borrow.Author.Tests.{eqb-true, eqb-false}
@@ -25,7 +25,7 @@ use Rattle.arithmetic.specs.Join.{joiner, joinBit}
 use Rattle.arithmetic.proofs.Values.{value, value-cong, value-zero}
 use Rattle.arithmetic.proofs.Input.{input-word}
 use Rattle.arithmetic.proofs.Join.{join-word}
-use Rattle.translation_state.specs.Wires.{bitsIn, bitsSet}
+use Rattle.translation_state.specs.Wires.{allPlaces, bitsIn, bitsSet}
 use Rattle.translation_if.specs.If.{joinGroups}
 use Rattle.translation_meaning.specs.Translation.{parameterNodes, parameterLits}
 use Rattle.translation_meaning.specs.Faithful.{bitsOfList}
@@ -34,7 +34,7 @@ use Rattle.translation_meaning.proofs.Places.{bits-place, put-length, p
 module _ (bs : List ℕ) (h : Header) (fine : Fine bs h) (ρ : Assign) where
   -- the literals are worth the values
   pub record Worth (lits values : List ℕ) : Type 0 where
-    pub places : length lits ≡ 1024
+    pub places : length lits ≡ allPlaces h
     pub count : length values ≡ 32
     pub worth : (v : ℕ) → v < h .variables → value ρ (bitsIn bs lits v) (width bs v) ≡ entry values v
 
@@ -50,7 +50,7 @@ module _ (bs : List ℕ) (h : Header) (fine : Fine bs h) (ρ : Assign) where
       here : value ρ (bitsIn bs (bitsSet bs lits d f) d) (width bs d) ≡ entry (set values d x) d
       here =
           value-cong ρ (bitsIn bs (bitsSet bs lits d f) d) f (width bs d)
-          (λ j m. put-same bs lits d f j m (omega (arith, fine .few)) (fine .widths d l .1) (w .places))
+          (λ j m. put-same bs lits d f j m (omega (arith, fine .widths d l, w .places)))
           ∙ e ∙ sym (getD-set-same values d x 0 (omega (arith, fine .few, w .count)))
 
       pick : (v : ℕ) → v < h .variables → (b : Bool) → eqb v d ≡ b → value ρ (bitsIn bs (bitsSet bs lits d f) v) (width bs v) ≡ entry (set values d x) v
@@ -64,33 +64,33 @@ module _ (bs : List ℕ) (h : Header) (fine : Fine bs h) (ρ : Assign) where
   -- ---- the start
 
   module _ (ins : List ℕ) (o : ρ 1 ≡ true) where
-    none-worth : Worth (replicate 1024 3) (replicate 32 0)
+    none-worth : Worth (replicate (allPlaces h) 3) (replicate 32 0)
     none-worth = record {
-      places = refl;
+      places = length-replicate (allPlaces h) 3;
       count = refl;
       worth = λ v l.
-          value-zero ρ (bitsIn bs (replicate 1024 3) v) (width bs v)
-          (λ j m. ap (lit ρ) (bits-place bs (replicate 1024 3) v j m ∙ getD-replicate 1024 (32 * v + j) 3 0 (omega (arith, fine .few, fine .widths v l))) ∙ lit-false ρ o)
+          value-zero ρ (bitsIn bs (replicate (allPlaces h) 3) v) (width bs v)
+          (λ j m. ap (lit ρ) (bits-place bs (replicate (allPlaces h) 3) v j m ∙ getD-replicate (allPlaces h) (32 * v + j) 3 0 (omega (arith, fine .widths v l))) ∙ lit-false ρ o)
           ∙ sym (getD-replicate 32 v 0 0 (omega (arith, fine .few)));
     }
 
     -- the first n parameters have their words
     pub parameters-worth : (n : ℕ) → n ≤ h .variables → ((v : ℕ) → v < n → entry ins v < 2 ^ width bs v) → Models (bitsOfList ins) ρ 2 (parameterNodes bs n)
-        → Worth (parameterLits bs n) (over n ins (replicate 32 0))
+        → Worth (parameterLits bs (allPlaces h) n) (over n ins (replicate 32 0))
     unfolding parameterNodes parameterLits over
     parameters-worth zero l f m = none-worth
     parameters-worth (suc p) l f m =
         let r = models-append (bitsOfList ins) ρ 2 (parameterNodes bs p) (inputs p (width bs p)) m in
         let g : ℕ = 2 + length (parameterNodes bs p) in
-        put-worth (parameterLits bs p) (over p ins (replicate 32 0)) (parameters-worth p (omega arith) (λ v k. f v (omega arith)) (r .0)) p (inBit g) (entry ins p)
+        put-worth (parameterLits bs (allPlaces h) p) (over p ins (replicate 32 0)) (parameters-worth p (omega arith) (λ v k. f v (omega arith)) (r .0)) p (inBit g) (entry ins p)
         (omega arith) (input-word (bitsOfList ins) ρ g p (width bs p) (entry ins p) (λ j. refl) (f p (omega arith)) (r .1))
 
   -- ---- joining
 
-  module _ (ins : Inputs) (g c : ℕ) (x y : List ℕ) (lx : length x ≡ 1024) where
+  module _ (ins : Inputs) (g c : ℕ) (x y : List ℕ) (lx : length x ≡ allPlaces h) where
     -- what a joined variable is worth: as in the arm that the condition picks
     record Joins (n : ℕ) : Type 0 where
-      places : length (joinGroups bs g c x y n .lits) ≡ 1024
+      places : length (joinGroups bs g c x y n .lits) ≡ allPlaces h
       done : (v : ℕ) → v < n → value ρ (bitsIn bs (joinGroups bs g c x y n .lits) v) (width bs v) ≡ cond (lit ρ c) (value ρ (bitsIn bs x v) (width bs v)) (value ρ (bitsIn bs y v) (width bs v))
 
     joins : (n : ℕ) → n ≤ h .variables → Models ins ρ g (joinGroups bs g c x y n .nodes) → Joins n
@@ -107,7 +107,7 @@ module _ (bs : List ℕ) (h : Header) (fine : Fine bs h) (ρ : Assign) where
           done = λ v q. pick u l ls f (p .places) (p .done) (join-word ins ρ k c (bitsIn bs x u) (bitsIn bs y u) (width bs u) (r .1)) v q (eqb v u) refl;
         }
       where
-        pick : (u : ℕ) → suc u ≤ h .variables → (ls : List ℕ) (f : Bits) → length ls ≡ 1024
+        pick : (u : ℕ) → suc u ≤ h .variables → (ls : List ℕ) (f : Bits) → length ls ≡ allPlaces h
             → ((v : ℕ) → v < u → value ρ (bitsIn bs ls v) (width bs v) ≡ cond (lit ρ c) (value ρ (bitsIn bs x v) (width bs v)) (value ρ (bitsIn bs y v) (width bs v)))
             → value ρ f (width bs u) ≡ cond (lit ρ c) (value ρ (bitsIn bs x u) (width bs u)) (value ρ (bitsIn bs y u) (width bs u))
             → (v : ℕ) → v < suc u → (b : Bool) → eqb v u ≡ b
@@ -116,7 +116,7 @@ module _ (bs : List ℕ) (h : Header) (fine : Fine bs h) (ρ : Assign) where
             subst (λ (i : ℕ). value ρ (bitsIn bs (bitsSet bs ls u f) i) (width bs i) ≡ cond (lit ρ c) (value ρ (bitsIn bs x i) (width bs i)) (value ρ (bitsIn bs y i) (width bs i)))
             (sym (eqb-true v u z))
             (value-cong ρ (bitsIn bs (bitsSet bs ls u f) u) f (width bs u)
-            (λ j m. put-same bs ls u f j m (omega (arith, fine .few)) (fine .widths u (omega arith) .1) s)
+            (λ j m. put-same bs ls u f j m (omega (arith, fine .widths u (omega arith), s)))
             ∙ e)
         pick u l ls f s p e v q false z =
             let ne : v ≢ u = eqb-false v u z in

@@ -24,20 +24,20 @@ unfoldable pub parameterNodes : List ℕ → (n : ℕ) → List Node
 parameterNodes bs zero = []
 parameterNodes bs (suc p) = parameterNodes bs p ++ inputs p (width bs p)
 
--- their literals; the bits of other variables begin as 3
-unfoldable pub parameterLits : List ℕ → (n : ℕ) → List ℕ
-parameterLits bs zero = replicate allPlaces 3
-parameterLits bs (suc p) = bitsSet bs (parameterLits bs p) p (inBit (2 + length (parameterNodes bs p)))
+-- their literals, in so many places; the bits of other variables begin as 3
+unfoldable pub parameterLits : List ℕ → (places n : ℕ) → List ℕ
+parameterLits bs m zero = replicate m 3
+parameterLits bs m (suc p) = bitsSet bs (parameterLits bs m p) p (inBit (2 + length (parameterNodes bs p)))
 
 -- the beginning: arrival is 2, and there is no claim yet
-unfoldable pub initialWires : List ℕ → (n : ℕ) → Wires
-initialWires bs n = record { lits = parameterLits bs n; arrival = 2; claim = Claim.Open }
+unfoldable pub initialWires : List ℕ → Header → Wires
+initialWires bs h = record { lits = parameterLits bs (allPlaces h) (given h); arrival = 2; claim = Claim.Open }
 
 -- variable 1 is true, then come the parameters' bits, then the commands
 unfoldable pub translationOf : List ℕ → Target → (ds : List ℕ) → Header → Arm → Encoding
 translationOf bs t ds h a =
     nodesThen (One ∷ parameterNodes bs (given h))
-    (encodeArm bs h t ds a (2 + length (parameterNodes bs (given h))) (initialWires bs (given h)))
+    (encodeArm bs h t ds a (2 + length (parameterNodes bs (given h))) (initialWires bs h))
 
 -- the last two clauses: {arrival}, {-side literal}
 abbrev pub lastClauses : Claim → List Clause

@@ -2,11 +2,11 @@
 use mathlib.Core.Path.{_≡_, refl, sym, ap, _∙_}
 use mathlib.Core.List.{List, [], _∷_}
 use Prim.Native.Nat.{ℕ, zero, suc, _+_, _<_, _≤_}
-use native.Mathlib.Nat.{add-zero, add-suc, suc-add}
+use native.Mathlib.Nat.{add-zero, zero-add, add-suc, suc-add}
 use native.Mathlib.Numerals.{add-one}
 use native.Mathlib.Omega.{arith}
 use lib.ListN.{length, getD, set, length-set}
-use lib.Seq.{sets, getD-set-same, getD-set-other}
+use lib.Seq.{sets, length-sets, ext-getD, getD-set-same, getD-set-other}
 use Rattle.cnf.proofs.Appending.{sets-append}
 use Rattle.arithmetic.specs.Bits.{Bits, tabulate}
 use Rattle.arithmetic.proofs.Values.{length-tabulate}
@@ -27,6 +27,12 @@ sets-inside (v ∷ vs) l i zero h k =
 sets-inside (v ∷ vs) l i (suc j) h k =
     ap (λ (n : ℕ). getD (sets (set l i v) (suc i) vs) n 0) (add-suc i j ∙ sym (suc-add i j))
     ∙ sets-inside vs (set l i v) (suc i) j (omega arith) (omega (arith, length-set l i v))
+
+-- a list laid over one of its length is that list
+pub sets-whole : (vs l : List ℕ) → length vs ≡ length l → sets l 0 vs ≡ vs
+sets-whole vs l e =
+    let n = length-sets l 0 vs in
+    ext-getD 0 (sets l 0 vs) vs (n ∙ sym e) (λ i h. rw (zero-add i) at (sets-inside vs l 0 i (omega (arith, n)) (omega (arith, n))))
 
 -- what stands in a place, put there again
 pub set-own : (l : List ℕ) (i : ℕ) → set l i (getD l i 0) ≡ l

@@ -27,9 +27,9 @@ module _ (bs : List ℕ) (h : Header) (v x w : ℕ) (f : Fine bs h) (l : v < h .
   pub ranged-as : (0 < w) × (w ≤ 32)
   ranged-as = let r = ranged bs h v f l in (omega (arith, r .some, q), omega (arith, r .few, q))
 
-  module _ (lits : List ℕ) (n : length lits ≡ allPlaces) where
+  module _ (lits : List ℕ) (n : length lits ≡ allPlaces h) where
     pub part-end : x + w ≤ length lits
-    part-end = let r = ranged bs h v f l in omega (arith, r .variable, r .few, e, q, n)
+    part-end = omega (arith, l, ranged bs h v f l .few, e, q, n)
 
     -- the part of the literals that a call is lent
     pub part-length : length (take (x + w - x) (drop x lits)) ≡ w

@@ -5,6 +5,7 @@ use mathlib.Core.List.{List}
 use mathlib.Core.Bool.{Bool, true, false}
 use lib.Seq.{sets}
 use Rattle.routine_header.specs.Header.{width}
+use Rattle.routine_header.specs.declared.Header.{Header}
 use Rattle.arithmetic.specs.Bits.{Bits, bitsAt, tabulate}
 use Rattle.translation_state.specs.declared.Claim.{Claim}
 
@@ -12,9 +13,9 @@ use Rattle.translation_state.specs.declared.Claim.{Claim}
 abbrev pub variablePlaces : ℕ
 variablePlaces = 32
 
--- all places: those of 32 variables
-abbrev pub allPlaces : ℕ
-allPlaces = 1024
+-- all places: those of the variables
+abbrev pub allPlaces : Header → ℕ
+allPlaces h = variablePlaces * h .variables
 
 -- the first place of variable v
 abbrev pub placeOf : ℕ → ℕ

@@ -5,8 +5,11 @@ pub mod literals;
 // The places of one variable.
 pub const VARIABLE_PLACES: usize = 32;
 
-// All places: those of 32 variables.
-pub const ALL_PLACES: usize = 1024;
+// The most places that there can be: those of 32 variables.
+pub const MOST_PLACES: usize = 1024;
+
+// As many as few variables have: those of 8. Where these suffice, less is set up at each if.
+pub const FEW_PLACES: usize = 256;
 
 // The claim: none yet, or at the named access the literal of arrival and that of the side.
 pub enum Claim {

@@ -1,11 +1,11 @@
 // The literals of the variables' bits, arrival and the claim.
-use crate::ALL_PLACES;
 use crate::Claim;
 use crate::Reach;
 use crate::VARIABLE_PLACES;
+use routine_header::Header;
 ghost use mathlib.Core.Path.{_≡_};
 ghost use Prim.Native.Nat.{_≤_, _+_};
-ghost use lib.ListN.{length};
+ghost use lib.ListN.{length, replicate};
 ghost use lib.Seq.{sets};
 ghost use Rattle.translation_state.specs.Wires.{allPlaces, isMade, placeOf};
 ghost use Rattle.translation_state.specs.Inner.Reach.{reaching};
@@ -29,18 +29,30 @@ pub fn store_bits(lits: &mut [u32], place: usize, r: &[u32])
     }
 }
 
-// The literals, copied: an else starts from those at its if.
-pub fn copied(lits: &[u32]) -> [u32; ALL_PLACES]
-    requires { ⌜ length (now lits) ≡ allPlaces ⌝ }
-    ensures { λ r. ⌜ r ≡ now (lits .entry) ⌝ }
+// How many places the variables of a routine have.
+pub fn places_in(h: Header) -> usize
+    ensures { λ r. ⌜ r ≡ allPlaces h ⌝ }
 {
-    let mut r = [3u32; ALL_PLACES];
+    VARIABLE_PLACES * (h.variables as usize)
+}
+
+// Every bit becomes literal 3, as those begin that no input has.
+pub fn clear_bits(lits: &mut [u32])
+    ensures { λ _. ⌜ now (lits .exit) ≡ replicate (length (now (lits .entry))) 3 ⌝ }
+{
     let mut i = 0;
-    while i < ALL_PLACES {
-        r[i] = lits[i];
+    while i < lits.len() {
+        lits[i] = 3;
         i += 1;
     }
-    r
+}
+
+// The literals, copied: an else starts from those at its if.
+pub fn copy_bits(to: &mut [u32], from: &[u32])
+    requires { ⌜ length (now to) ≡ length (now from) ⌝ }
+    ensures { λ _. ⌜ now (to .exit) ≡ now (from .entry) ⌝ }
+{
+    store_bits(to, 0, from);
 }
 
 // Another arrival.

@@ -1,10 +1,10 @@
 -- The parameters, one after the other. Assumes nothing.
-use mathlib.Core.Path.{_≡_, refl, ap, subst, _∙_}
+use mathlib.Core.Path.{_≡_, ap, subst, _∙_}
 use mathlib.Core.List.{List, [], _++_}
 use Prim.Native.Nat.{ℕ, zero, suc, _+_, _*_, _≤_}
 use native.Mathlib.Omega.{arith}
 use native.Mathlib.Numerals.{add-one}
-use lib.ListN.{length, length-append}
+use lib.ListN.{length, length-append, length-replicate}
 use lib.Seq.{length-sets}
 use Rattle.routine_header.specs.Header.{width}
 use Rattle.routine_faults.specs.Inner.Sound.{Fine}
@@ -19,7 +19,7 @@ use Rattle.arithmetic.specs.Input.{inputs, inBit}
 use Rattle.arithmetic.specs.Inner.Taken.{TakesInputs}
 use Rattle.arithmetic.proofs.Input.{length-inputs}
 use Rattle.translation_meaning.specs.Translation.{parameterNodes, parameterLits}
-use Rattle.translation_state.specs.Wires.{allPlaces, bitsSet}
+use Rattle.translation_state.specs.Wires.{bitsSet}
 use Rattle.translation_state.proofs.Ranges.{ranged}
 
 pub some-few : (bs : List ℕ) (h : Header) → Fine bs h → (p : ℕ) → p ≤ given h → length (parameterNodes bs p) ≤ 32 * p
@@ -36,15 +36,15 @@ module _ (bs : List ℕ) (n n₁ n₂ : Net) (p w : ℕ) (e : w ≡ width bs p) 
       rw (add-one p)
       (subst (λ (ns : List Node). Emitted W U n (parameterNodes bs p ++ ns) W U n₂) (λ i. inputs p (e i)) (emitted-then (q W U) (r .tells W U p)))
 
-  pub parameter-wired : n .next ≡ 2 → (l l₁ : List ℕ) → l ≡ parameterLits bs p → l₁ ≡ bitsSet bs l p (inBit (n₁ .next)) → l₁ ≡ parameterLits bs (p + 1)
+  pub parameter-wired : (m : ℕ) → n .next ≡ 2 → (l l₁ : List ℕ) → l ≡ parameterLits bs m p → l₁ ≡ bitsSet bs l p (inBit (n₁ .next)) → l₁ ≡ parameterLits bs m (p + 1)
   unfolding parameterLits
-  parameter-wired two l l₁ a b =
+  parameter-wired m two l l₁ a b =
       let g : n₁ .next ≡ 2 + length (parameterNodes bs p) = q [] [] .next ∙ ap (λ (i : ℕ). i + length (parameterNodes bs p)) two in
       rw (add-one p) (b ∙ (λ i. bitsSet bs (a i) p (inBit (g i))))
 
 -- the literals keep their places
-pub parameters-length : (bs : List ℕ) (p : ℕ) → length (parameterLits bs p) ≡ allPlaces
+pub parameters-length : (bs : List ℕ) (m p : ℕ) → length (parameterLits bs m p) ≡ m
 unfolding parameterLits
-parameters-length bs zero = refl
-parameters-length bs (suc p) =
-    length-sets (parameterLits bs p) (32 * p) (tabulate (inBit (2 + length (parameterNodes bs p))) (width bs p)) ∙ parameters-length bs p
+parameters-length bs m zero = length-replicate m 3
+parameters-length bs m (suc p) =
+    length-sets (parameterLits bs m p) (32 * p) (tabulate (inBit (2 + length (parameterNodes bs p))) (width bs p)) ∙ parameters-length bs m p

@@ -2,14 +2,14 @@
 use mathlib.Core.Path.{_≡_, refl, sym, ap, _∙_}
 use mathlib.Core.List.{List}
 use mathlib.Core.Bool.{Bool, true, false}
-use Prim.Native.Nat.{ℕ, _+_, _*_, _-_, _<_}
+use Prim.Native.Nat.{ℕ, _+_, _*_, _-_, _<_, _≤_}
 use native.Mathlib.Omega.{arith}
 use lib.ListN.{length}
 use Rattle.slices.specs.Bytes.{entry}
 use Rattle.routine_faults.specs.Inner.Sound.{Fine}
 use Rattle.routine_header.specs.declared.Header.{Header}
 use Rattle.routine_command.specs.declared.Condition.{Condition}
-use Rattle.routine.proofs.Standing.{else-room, second-falls}
+use Rattle.routine.proofs.Standing.{else-room}
 use Rattle.netlist.specs.Inner.Emit.{Ready}
 use Rattle.netlist.proofs.Emitting.{emitted-starts-length, emitted-words-length}
 use Rattle.translation_state.specs.Wires.{isMade, allPlaces}
@@ -21,6 +21,10 @@ use Rattle.translation_walk.specs.declared.Walk.{Walk}
 use Rattle.translation_if.specs.declared.IfBegun.{IfBegun}
 use Rattle.translation_walk.proofs.Translating.{arm-from, branched-at}
 use Rattle.translation_walk.proofs.Parting.{if-told, first-room, first-stops, at-else, second-room, second-stops, join-ready, arms-join}
+
+-- the bytes left fall from an if to its else
+else-falls : (n at next else t : ℕ) → 3 * (n - at) ≡ t → at + 4 < else → else ≤ n → next ≡ else → 3 * (n - next) + 2 < t
+else-falls n at next else t e l u q = omega arith
 
 module _ {bs : List ℕ} {h : Header} {t : Target} {ds : List ℕ} {depth : ℕ} {c : Condition} {l : List ℕ} {p : Walk} (a : IfReady bs h t ds depth c l p) where
   -- an if that was made left the buffers as long as they were
@@ -41,8 +45,8 @@ module _ {bs : List ℕ} {h : Header} {t : Target} {ds : List ℕ} {depth : ℕ}
 
     -- the walk v is at the first arm
     module _ {v : Walk} (f : v ≡ inFirst (p .next + 4) p br) where
-      pub first-asks : {n : ℕ} → 2 * (length bs - p .next) ≡ n → Fine bs h → isMade (p .reach .claim) ≡ false
-          → (2 * (length bs - v .next) + 1 < n) × (ArmReady bs h t ds (depth + 1) 12 l v × Fine bs h × (isMade (v .reach .claim) ≡ false))
+      pub first-asks : {n : ℕ} → 3 * (length bs - p .next) ≡ n → Fine bs h → isMade (p .reach .claim) ≡ false
+          → (3 * (length bs - v .next) + 2 < n) × (ArmReady bs h t ds (depth + 1) 12 l v × Fine bs h × (isMade (v .reach .claim) ≡ false))
       first-asks q fine o =
           rw f
           (omega (arith, else-room bs h depth (p .next) (p .counts) (a .some)), (first-room bs h t ds depth c l p (a .some) branched (a .room) (a .places), fine, o))
@@ -57,12 +61,12 @@ module _ {bs : List ℕ} {h : Header} {t : Target} {ds : List ℕ} {depth : ℕ}
 
         -- the walk v₁ is at the else, with the literals l' that were copied
         module _ (o : k ≡ false) {l' : List ℕ} (copy : l' ≡ l) {v₁ : Walk} (f₁ : v₁ ≡ inElse p br x) where
-          pub second-asks : {n : ℕ} → 2 * (length bs - p .next) ≡ n → Fine bs h → isMade (p .reach .claim) ≡ false
-              → (2 * (length bs - v₁ .next) + 1 < n) × (ArmReady bs h t ds (depth + 1) 13 l' v₁ × Fine bs h × (isMade (v₁ .reach .claim) ≡ false))
+          pub second-asks : {n : ℕ} → 3 * (length bs - p .next) ≡ n → Fine bs h → isMade (p .reach .claim) ≡ false
+              → (3 * (length bs - v₁ .next) + 2 < n) × (ArmReady bs h t ds (depth + 1) 13 l' v₁ × Fine bs h × (isMade (v₁ .reach .claim) ≡ false))
           second-asks q fine z =
               let s = else-room bs h depth (p .next) (p .counts) (a .some) in
               rw (f₁, copy) (
-                second-falls _ _ _ _ _ q (s .0) (s .1) (at-else bs h t ds depth c l p (a .some) branched first-made (sym by ∙ o)),
+                else-falls _ _ _ _ _ q (s .0) (s .1) (at-else bs h t ds depth c l p (a .some) branched first-made (sym by ∙ o)),
                 (second-room bs h t ds depth c l p (a .some) branched first-made (sym by ∙ o) (a .room) (a .places), fine, z),
               )
 
@@ -76,7 +80,7 @@ module _ {bs : List ℕ} {h : Header} {t : Target} {ds : List ℕ} {depth : ℕ}
 
             module _ (o₁ : k₁ ≡ false) where
               pub join-asks : Fine bs h → length l₂ ≡ length l → length l₃ ≡ length l'
-                  → Ready (y .net) 8192 × (length l₂ ≡ allPlaces) × (length l₃ ≡ allPlaces) × Fine bs h
+                  → Ready (y .net) 8192 × (length l₂ ≡ allPlaces h) × (length l₃ ≡ allPlaces h) × Fine bs h
               join-asks fine z z₁ = (
                 join-ready bs h t ds depth c l p (a .some) branched first-made (sym by ∙ o) second-made (sym by₁ ∙ o₁) (a .room),
                 z ∙ a .places,

@@ -27,7 +27,7 @@ use Rattle.translation_walk.proofs.Translating.{Left, begun, arm-told, 
 -- what the loop keeps: it began at p₀ with the literals l and is now at p with the literals l₁
 pub record Going (bs : List ℕ) (h : Header) (t : Target) (ds : List ℕ) (depth close : ℕ) (w u l : List ℕ) (p₀ : Walk) (w₁ u₁ l₁ : List ℕ) (p : Walk) : Type 0 where
   pub onward : p₀ .next ≤ p .next
-  pub long : length l₁ ≡ allPlaces
+  pub long : length l₁ ≡ allPlaces h
   pub left : (i : SomeArm bs h depth close (p₀ .next) (p₀ .counts)) → Left bs h t ds depth close w u l p₀ i w₁ u₁ l₁ p
 
 module _ {bs : List ℕ} {h : Header} {t : Target} {ds : List ℕ} {depth close : ℕ} {l : List ℕ} {p₀ : Walk} (a : ArmReady bs h t ds depth close l p₀) where
@@ -65,8 +65,8 @@ module _ {bs : List ℕ} {h : Header} {t : Target} {ds : List ℕ} {depth close 
         at-close = arm-told bs h t ds depth close w u l p₀ (a .some) (closed bs h t ds depth close w u l p₀ (a .some) rest r is m q)
 
       module _ {c : Condition} (q : r ≡ Command.If c) where
-        pub if-asks : {n : ℕ} → 2 * (length bs - p₀ .next) + 1 ≡ n → Fine bs h
-            → (2 * (length bs - p .next) < n) × (IfReady bs h t ds depth c l₁ p × (p .counts .ifs < 32) × SoundIf bs h c × Fine bs h × (isMade (p .reach .claim) ≡ false))
+        pub if-asks : {n : ℕ} → 3 * (length bs - p₀ .next) + 2 ≡ n → Fine bs h
+            → (3 * (length bs - p .next) + 1 < n) × (IfReady bs h t ds depth c l₁ p × (p .counts .ifs < 32) × SoundIf bs h c × Fine bs h × (isMade (p .reach .claim) ≡ false))
         if-asks e f =
             let k = some-if bs h depth close (p .next) (p .counts) here r is c q in
             let room = room-here bs h t ds depth close w u l p₀ (a .some) rest (a .room) in
@@ -95,7 +95,7 @@ module _ {bs : List ℕ} {h : Header} {t : Target} {ds : List ℕ} {depth close 
         known = simple-known bs h depth close (p .next) (p .counts) here r is c q
 
         pub simple-asks : Fine bs h
-            → (Ready (p .net) 8192 × (length l₁ ≡ allPlaces))
+            → (Ready (p .net) 8192 × (length l₁ ≡ allPlaces h))
             × ((Sound bs h c × (tooMany c (p .counts) ≡ false) × (p .next + simpleSize c ≤ length bs)) × (Fine bs h × (isMade (p .reach .claim) ≡ false)))
         simple-asks f =
             ((ready-weaken (omega arith) (room-here bs h t ds depth close w u l p₀ (a .some) rest (a .room)), g .long), (known, (f, rest .going)))

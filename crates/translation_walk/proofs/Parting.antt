@@ -93,7 +93,7 @@ module _ (bs : List ℕ) (h : Header) (t : Target) (ds : List ℕ) (depth : ℕ)
     first-is : first (br .net .next) (arriving s (br .first)) ≡ First
     first-is = λ j. first (from-first j) (arriving s (b .first j))
 
-    pub first-room : Roomy (p .net) Fork → length l ≡ allPlaces → ArmReady bs h t ds (depth + 1) 12 l (inFirst (p .next + 4) p br)
+    pub first-room : Roomy (p .net) Fork → length l ≡ allPlaces h → ArmReady bs h t ds (depth + 1) 12 l (inFirst (p .next + 4) p br)
     first-room r long = record {
       some = record { arm = i .first; end = i .else; after = i .between; stands = i .stands-first };
       room = rw first-is (ready-after (2 ^ 25 + length (First .nodes)) (b .emitted) r (omega (arith, first-longer)));
@@ -131,7 +131,7 @@ module _ (bs : List ℕ) (h : Header) (t : Target) (ds : List ℕ) (depth : ℕ)
         else-stands : Stands bs h (depth + 1) 13 (x .next) (x .counts) (i .second) (i .end) (i .after)
         else-stands = rw (first-arrives .next o, first-arrives .counts o) (i .stands-second)
 
-        pub second-room : Roomy (p .net) Fork → length l ≡ allPlaces → ArmReady bs h t ds (depth + 1) 13 l (inElse p br x)
+        pub second-room : Roomy (p .net) Fork → length l ≡ allPlaces h → ArmReady bs h t ds (depth + 1) 13 l (inElse p br x)
         second-room r long = record {
           some = record { arm = i .second; end = i .end; after = i .after; stands = else-stands };
           room =

@@ -196,7 +196,7 @@ module _ (bs : List ℕ) (h : Header) (t : Target) (ds : List ℕ) (depth close 
           unfolding encodeArm fork-here
           if-same = rw (if-here .arm) at (y .same)
 
-          pub if-roomy : length l₁ ≡ allPlaces → Roomy (p .net) (encodeArm bs h t ds (y .rest) (p .net .next) (wiresAt l₁ p)) → IfReady bs h t ds depth c l₁ p
+          pub if-roomy : length l₁ ≡ allPlaces h → Roomy (p .net) (encodeArm bs h t ds (y .rest) (p .net .next) (wiresAt l₁ p)) → IfReady bs h t ds depth c l₁ p
           unfolding encodeArm fork-here
           if-roomy long r = record {
             some = arms-of if-here;

@@ -12,19 +12,18 @@ use translation_state::Reach;
 use translation_state::literals::place_of;
 use translation_state::literals::store_bits;
 ghost use mathlib.Core.Path.{_≡_};
-ghost use lib.ListN.{replicate};
+ghost use lib.ListN.{length, replicate};
 ghost use Rattle.routine_faults.specs.Inner.Sound.{Fine};
-ghost use Rattle.routine_faults.specs.Inputs.{given};
 ghost use Rattle.netlist.specs.Inner.Emit.{Ready};
 ghost use Rattle.translation_state.specs.Wires.{allPlaces};
 ghost use Rattle.translation_walk.specs.Inner.Walker.{Begun, beginning};
 
 // The parameters' bits take the next variables; other bits begin as literal 3.
 pub fn begin_parameters(lits: &mut [u32], n: Net, bytes: &[u8], h: Header) -> Net
-    requires { ⌜ now lits ≡ replicate allPlaces 3 ⌝ }
+    requires { ⌜ (length (now lits) ≡ allPlaces h) × (now lits ≡ replicate (length (now lits)) 3) ⌝ }
     requires { ⌜ Ready n 2048 × (n .next ≡ 2) ⌝ }
     requires { ⌜ Fine (now bytes) h ⌝ }
-    ensures { λ r. ⌜ Begun (now (bytes .entry)) n (given h) (now (lits .exit)) r ⌝ }
+    ensures { λ r. ⌜ Begun (now (bytes .entry)) h n (now (lits .exit)) r ⌝ }
 {
     let count = given_of(h);
     let mut net = n;

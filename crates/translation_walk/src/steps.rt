@@ -43,7 +43,7 @@ pub fn walk_simple(
     c: Simple,
     start: Walk,
 ) -> Walk
-    requires { ⌜ Ready (start .net) 8192 × (length (now lits) ≡ allPlaces) ⌝ }
+    requires { ⌜ Ready (start .net) 8192 × (length (now lits) ≡ allPlaces h) ⌝ }
     requires { ⌜ Sound (now bytes) h c × (tooMany c (start .counts) ≡ false) × (start .next + simpleSize c ≤ length (now bytes)) ⌝ }
     requires { ⌜ Fine (now bytes) h × (isMade (start .reach .claim) ≡ false) ⌝ }
     ensures { λ r. ⌜ WalksTo (now (words .entry)) (now (starts .entry)) (start .net) (simple (now (bytes .entry)) h t (start .net .next) c (start .counts) (wiresAt (now (lits .entry)) start)) (start .next + simpleSize c) (countsAfter c (start .counts)) (now (words .exit)) (now (starts .exit)) (now (lits .exit)) r ⌝ }
@@ -109,7 +109,7 @@ pub fn walk_join(
     other: &[u32],
     y: Walk,
 ) -> Walk
-    requires { ⌜ Ready (y .net) 8192 × (length (now lits) ≡ allPlaces) × (length (now other) ≡ allPlaces) × Fine (now bytes) h ⌝ }
+    requires { ⌜ Ready (y .net) 8192 × (length (now lits) ≡ allPlaces h) × (length (now other) ≡ allPlaces h) × Fine (now bytes) h ⌝ }
     ensures { λ r. ⌜ WalksTo (now (words .entry)) (now (starts .entry)) (y .net) (joinArms (now (bytes .entry)) h (y .net .next) c (wiresAt (now (lits .entry)) x) (wiresAt (now (other .entry)) y)) (y .next) (y .counts) (now (words .exit)) (now (starts .exit)) (now (lits .exit)) r ⌝ }
 {
     let n = y.net;

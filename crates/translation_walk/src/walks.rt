@@ -12,10 +12,13 @@ use routine_command::commands::command_at;
 use routine_header::Header;
 use slices::byte_at;
 use translation_if::begin_if;
-use translation_state::literals::copied;
+use translation_state::FEW_PLACES;
+use translation_state::MOST_PLACES;
+use translation_state::literals::copy_bits;
 ghost use mathlib.Core.Path.{_≡_};
 ghost use mathlib.Core.Bool.{false};
 ghost use Prim.Native.Nat.{_<_};
+ghost use lib.ListN.{length};
 ghost use Rattle.routine_faults.specs.Inner.Sound.{SoundIf, Fine};
 ghost use Rattle.translation_state.specs.Wires.{isMade};
 ghost use Rattle.translation_walk.specs.Inner.Walker.{ArmEncoded, ArmReady, IfEncoded, IfReady};
@@ -60,7 +63,7 @@ pub fn encode_arm(
     }
 }
 
-// Translates the if where the walk is. Its number is the count of the ifs before it. The else starts from the bits at the if.
+// Translates the if where the walk is, with room for the literals of its else.
 fn encode_if(
     words: &mut [u32],
     starts: &mut [u32],
@@ -76,11 +79,62 @@ fn encode_if(
     requires { ⌜ IfReady (now bytes) h t (now ds) depth c (now lits) start × (start .counts .ifs < 32) × SoundIf (now bytes) h c × Fine (now bytes) h × (isMade (start .reach .claim) ≡ false) ⌝ }
     ensures { λ r. ⌜ IfEncoded (now (bytes .entry)) h t (now (ds .entry)) depth c (now (words .entry)) (now (starts .entry)) (now (lits .entry)) start (now (words .exit)) (now (starts .exit)) (now (lits .exit)) r ⌝ }
 {
+    let len = lits.len();
+    if len <= FEW_PLACES {
+        let mut few = [0u32; FEW_PLACES];
+        return encode_arms(
+            words,
+            starts,
+            lits,
+            &mut few[..len],
+            bytes,
+            h,
+            t,
+            ds,
+            depth,
+            c,
+            start,
+        );
+    }
+    let mut many = [0u32; MOST_PLACES];
+    encode_arms(
+        words,
+        starts,
+        lits,
+        &mut many[..len],
+        bytes,
+        h,
+        t,
+        ds,
+        depth,
+        c,
+        start,
+    )
+}
+
+// Translates the if where the walk is. Its number is the count of the ifs before it. The else starts from the bits at the if, in `other`.
+fn encode_arms(
+    words: &mut [u32],
+    starts: &mut [u32],
+    lits: &mut [u32],
+    other: &mut [u32],
+    bytes: &[u8],
+    h: Header,
+    t: Target,
+    ds: &[u8],
+    depth: u8,
+    c: Condition,
+    start: Walk,
+) -> Walk
+    requires { ⌜ IfReady (now bytes) h t (now ds) depth c (now lits) start × (start .counts .ifs < 32) × SoundIf (now bytes) h c × Fine (now bytes) h × (isMade (start .reach .claim) ≡ false) ⌝ }
+    requires { ⌜ length (now other) ≡ length (now lits) ⌝ }
+    ensures { λ r. ⌜ IfEncoded (now (bytes .entry)) h t (now (ds .entry)) depth c (now (words .entry)) (now (starts .entry)) (now (lits .entry)) start (now (words .exit)) (now (starts .exit)) (now (lits .exit)) r ⌝ }
+{
     let n = start.net;
     let s = start.reach;
     let k = start.counts;
     let deep = depth + 1;
-    let mut other = copied(lits);
+    copy_bits(other, lits);
     let d = byte_at(ds, k.ifs as usize);
     let b = begin_if(words, starts, lits, n, bytes, h, c, d, s);
     let p = in_first(start.next + 4, start, b);
@@ -89,9 +143,9 @@ fn encode_if(
         return x;
     }
     let q = in_else(start, b, x);
-    let y = encode_arm(words, starts, &mut other, bytes, h, t, ds, deep, 0x0D, q);
+    let y = encode_arm(words, starts, other, bytes, h, t, ds, deep, 0x0D, q);
     if is_over(y) {
         return y;
     }
-    walk_join(words, starts, lits, bytes, h, b.condition, x, &other, y)
+    walk_join(words, starts, lits, bytes, h, b.condition, x, other, y)
 }

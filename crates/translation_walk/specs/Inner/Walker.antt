@@ -6,6 +6,7 @@ use mathlib.Core.Bool.{false}
 use lib.ListN.{length}
 use Rattle.slices.specs.Bytes.{entry}
 use Rattle.routine_faults.specs.Step.{countsAfterIf}
+use Rattle.routine_faults.specs.Inputs.{given}
 use Rattle.routine.specs.Routine.{Arm}
 use Rattle.routine.specs.Decode.{routine, decode, noCounts}
 use Rattle.routine.specs.Inner.Stands.{Stands, SomeArm, SomeIf}
@@ -64,7 +65,7 @@ pub record ArmEncoded (bs : List ℕ) (h : Header) (t : Target) (ds : List ℕ) 
 pub record ArmReady (bs : List ℕ) (h : Header) (t : Target) (ds : List ℕ) (depth close : ℕ) (l : List ℕ) (p : Walk) : Type 0 where
   pub some : SomeArm bs h depth close (p .next) (p .counts)
   pub room : Roomy (p .net) (encodeArm bs h t ds (some .arm) (p .net .next) (wiresAt l p))
-  pub places : length l ≡ allPlaces
+  pub places : length l ≡ allPlaces h
 
 -- an if with these arms, from where the walk p is
 abbrev pub ifOf : List ℕ → Header → Target → (ds : List ℕ) → Condition → (l : List ℕ) → Walk → (first second : Arm) → Encoding
@@ -81,12 +82,12 @@ pub record IfEncoded (bs : List ℕ) (h : Header) (t : Target) (ds : List ℕ) (
 pub record IfReady (bs : List ℕ) (h : Header) (t : Target) (ds : List ℕ) (depth : ℕ) (c : Condition) (l : List ℕ) (p : Walk) : Type 0 where
   pub some : SomeIf bs h depth (p .next) (countsAfterIf (p .counts))
   pub room : Roomy (p .net) (ifOf bs h t ds c l p (some .first) (some .second))
-  pub places : length l ≡ allPlaces
+  pub places : length l ≡ allPlaces h
 
 -- the parameters take no clauses, so that no buffer changes; the literals became l₁
-pub record Begun (bs : List ℕ) (n : Net) (parameters : ℕ) (l₁ : List ℕ) (r : Net) : Type 0 where
-  pub emitted : (w u : List ℕ) → Emitted w u n (parameterNodes bs parameters) w u r
-  pub lits : l₁ ≡ parameterLits bs parameters
+pub record Begun (bs : List ℕ) (h : Header) (n : Net) (l₁ : List ℕ) (r : Net) : Type 0 where
+  pub emitted : (w u : List ℕ) → Emitted w u n (parameterNodes bs (given h)) w u r
+  pub lits : l₁ ≡ parameterLits bs (allPlaces h) (given h)
 
 -- nothing is stored yet
 abbrev pub noStore : Store

@@ -15,7 +15,7 @@ use Rattle.translation_if.proofs.joins.join_groups.Tie as tie
 
 abbrev Inv-loop : tie.InvT-loop
 Inv-loop words₀ starts₀ lits₀ bytes h c other net₀ v₀ words starts lits net v =
-    (v ≤ h .variables) × (length lits ≡ allPlaces) × Emitted words₀ starts₀ net₀ (joinGroups bytes (net₀ .next) c lits₀ other v .nodes) words starts net
+    (v ≤ h .variables) × (length lits ≡ allPlaces h) × Emitted words₀ starts₀ net₀ (joinGroups bytes (net₀ .next) c lits₀ other v .nodes) words starts net
     × (lits ≡ joinGroups bytes (net₀ .next) c lits₀ other v .lits)
 
 abbrev μ-loop : tie.MeasureT-loop

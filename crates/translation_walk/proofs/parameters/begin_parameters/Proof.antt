@@ -3,14 +3,13 @@ use mathlib.Core.List.{List, []}
 use Prim.Native.Nat.{ℕ, _-_, _≤_}
 use native.Mathlib.Omega.{arith}
 use denote.Ref.{now}
-use lib.ListN.{length, length-replicate}
+use lib.ListN.{length}
 use borrow.Author.Needs.{needs}
 use Rattle.routine_faults.specs.Inputs.{given}
 use Rattle.arithmetic.proofs.Laws.{sized-length, table-length}
 use Rattle.netlist.specs.Inner.Emit.{Emitted}
 use Rattle.netlist.proofs.Emitting.{emitted-none, ready-after, ready-weaken}
 use Rattle.translation_meaning.specs.Translation.{parameterNodes, parameterLits}
-use Rattle.translation_state.specs.Wires.{allPlaces}
 use Rattle.translation_state.proofs.Ranges.{ranged, ranged-as, storable, stored}
 use Rattle.translation_walk.proofs.Beginning.{some-few, parameter-made, parameter-wired, parameters-length}
 use Rattle.translation_walk.proofs.parameters.begin_parameters.Statement.{statement}
@@ -18,14 +17,14 @@ use Rattle.translation_walk.proofs.parameters.begin_parameters.Tie as t
 
 abbrev Inv-loop : tie.InvT-loop
 Inv-loop lits₀ bytes count net₀ p₀ lits net p =
-    (p ≤ count) × ((w u : List ℕ) → Emitted w u net₀ (parameterNodes bytes p) w u net) × (lits ≡ parameterLits bytes p)
+    (p ≤ count) × ((w u : List ℕ) → Emitted w u net₀ (parameterNodes bytes p) w u net) × (lits ≡ parameterLits bytes (length lits₀) p)
 
 abbrev μ-loop : tie.MeasureT-loop
 μ-loop lits₀ bytes count net₀ p₀ lits net p = count - p
 
 loop-holds : tie.Need-loop-holds Inv-loop μ-loop
 unfolding parameterNodes parameterLits
-loop-holds c = (search needs, (λ w u. emitted-none w u _), c .before .before .before .pre .0)
+loop-holds c = (search needs, (λ w u. emitted-none w u _), c .before .before .before .pre .0 .1)
 
 input-bits-requires : tie.Need-input-bits-requires Inv-loop μ-loop
 input-bits-requires c κs =
@@ -68,7 +67,7 @@ store-bits-requires c κs =
     let p = c .before .before .before .before .before .before .before .before .before .before .before .pre in
     let l = c .before .before .before .before .before .before .before .loop in
     let g = c .before .before .before .before .before .before .before .before .given-of .ensures in
-    storable (now (a .bytes)) (a .h) (l .p) _ _ (p .1 .1) (omega (arith, p .1 .1 .parameters, g, c .before .before .before .before .before .before .loop-test .taken)) (c .before .place-of .ensures) (c .before .before .before .before .before .width-of .ensures) (l .lits) (ap length (l .inv .2) ∙ parameters-length (now (a .bytes)) (l .p)) _ (c .before .before .before .before .input-bits .ensures)
+    storable (now (a .bytes)) (a .h) (l .p) _ _ (p .1 .1) (omega (arith, p .1 .1 .parameters, g, c .before .before .before .before .before .before .loop-test .taken)) (c .before .place-of .ensures) (c .before .before .before .before .before .width-of .ensures) (l .lits) (ap length (l .inv .2) ∙ parameters-length (now (a .bytes)) _ (l .p) ∙ p .0 .0) _ (c .before .before .before .before .input-bits .ensures)
 
 add-p : tie.Need-add-p Inv-loop μ-loop
 add-p c = let f = c .before .before .before .before .before .before .before .before .before .before .before .before .before .before .pre .1 .1 in omega (arith, f .few, f .parameters, c .before .before .before .before .before .before .before .before .before .before .before .given-of .ensures, c .before .before .before .before .before .before .before .before .before .loop-test .taken)
@@ -83,8 +82,8 @@ loop-again c =
     let t = c .before .before .before .before .before .before .take-inputs .ensures in (
       omega (arith, c .before .before .before .before .before .before .before .before .before .loop-test .taken),
       parameter-made (now (a .bytes)) (a .n) (l .net) _ (l .p) _ e (l .inv .1) t,
-      parameter-wired (now (a .bytes)) (a .n) (l .net) _ (l .p) _ e (l .inv .1) t (p .1 .0 .1) _ _ (l .inv .2)
-          (stored (now (a .bytes)) (a .h) (l .p) _ _ (p .1 .1) (omega (arith, p .1 .1 .parameters, g, c .before .before .before .before .before .before .before .before .before .loop-test .taken)) (c .before .before .before .before .place-of .ensures) (c .before .before .before .before .before .before .before .before .width-of .ensures) (l .lits) (ap length (l .inv .2) ∙ parameters-length (now (a .bytes)) (l .p)) _ (c .before .before .before .before .before .before .before .input-bits .ensures) _ (c .before .before .store-bits .ensures)),
+      parameter-wired (now (a .bytes)) (a .n) (l .net) _ (l .p) _ e (l .inv .1) t _ (p .1 .0 .1) _ _ (l .inv .2)
+          (stored (now (a .bytes)) (a .h) (l .p) _ _ (p .1 .1) (omega (arith, p .1 .1 .parameters, g, c .before .before .before .before .before .before .before .before .before .loop-test .taken)) (c .before .before .before .before .place-of .ensures) (c .before .before .before .before .before .before .before .before .width-of .ensures) (l .lits) (ap length (l .inv .2) ∙ parameters-length (now (a .bytes)) _ (l .p) ∙ p .0 .0) _ (c .before .before .before .before .before .before .before .input-bits .ensures) _ (c .before .before .store-bits .ensures)),
     )
 
 same-length : tie.Need-same-length Inv-loop μ-loop
@@ -93,7 +92,7 @@ same-length c =
     let p = c .before .before .before .before .before .pre in
     let l = c .before .loop in
     let g = c .before .before .given-of .ensures in
-    ap length (l .inv .2) ∙ parameters-length (now (a .bytes)) (l .p) ∙ sym (ap length (p .0) ∙ length-replicate {A = ℕ} allPlaces 3)
+    ap length (l .inv .2) ∙ parameters-length (now (a .bytes)) _ (l .p)
 
 returns : tie.Need-returns Inv-loop μ-loop
 returns c =
@@ -102,7 +101,7 @@ returns c =
     let l = c .before .loop in
     let g = c .before .before .given-of .ensures in
     let e : l .p ≡ given (a .h) = omega (arith, g, l .inv .0, c .loop-test .left) in
-    record { emitted = rw e at (l .inv .1); lits = rw e at (l .inv .2) }
+    record { emitted = rw e at (l .inv .1); lits = rw (e, p .0 .0) at (l .inv .2) }
 
 pub begin-parameters-spec : {M : Type 1} → statement M
 begin-parameters-spec =
