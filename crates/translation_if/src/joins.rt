@@ -2,6 +2,7 @@
 use netlist::Net;
 use netlist::Node;
 use netlist::emit;
+use netlist::emit_mux;
 use netlist::opposite;
 use routine_header::Header;
 use routine_header::width_of;
@@ -48,7 +49,7 @@ fn join_group(
             j += 1;
         } else {
             lits[at] = 2 * net.next;
-            net = emit(words, starts, net, Node::Mux(c, x, y));
+            net = emit_mux(words, starts, net, c, x, y);
             j += 1;
         }
     }

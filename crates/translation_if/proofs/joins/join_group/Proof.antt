@@ -36,14 +36,14 @@ loop-again c =
 mul-lits : tie.Need-mul-lits Inv-loop μ-loop
 mul-lits c = omega (arith, group-ready _ _ _ _ _ (c .before .before .before .before .before .loop .inv .2) (c .before .before .before .before .before .before .before .before .before .before .pre .0) (c .before .before .before .before .loop-test .taken) .next)
 
-emit-requires : tie.Need-emit-requires Inv-loop μ-loop
-emit-requires c κs = group-ready _ _ _ _ _ (c .before .before .before .before .before .before .before .loop .inv .2) (c .before .before .before .before .before .before .before .before .before .before .before .before .pre .0) (c .before .before .before .before .before .before .loop-test .taken)
+emit-mux-requires : tie.Need-emit-mux-requires Inv-loop μ-loop
+emit-mux-requires c κs = group-ready _ _ _ _ _ (c .before .before .before .before .before .before .before .loop .inv .2) (c .before .before .before .before .before .before .before .before .before .before .before .before .pre .0) (c .before .before .before .before .before .before .loop-test .taken)
 
 loop-again-2 : tie.Need-loop-again-2 Inv-loop μ-loop
 loop-again-2 c =
     let a = c .before .before .before .before .before .before .before .before .before .before .before .before .before .before .before .before .before .args in
     let l = c .before .before .before .before .before .before .before .before .before .before .before .before .loop in
-    other-group (now (a .lits)) (now (a .other)) (a .place) (a .w) (a .c) (l .j) (c .before .before .before .before .before .before .before .before .before .before .before .loop-test .taken) (l .inv .1) (l .inv .2) (l .inv .3) (c .before .before .before .before .before .before .before .before .if1 .left) (c .before .before .before .before .emit .ensures)
+    other-group (now (a .lits)) (now (a .other)) (a .place) (a .w) (a .c) (l .j) (c .before .before .before .before .before .before .before .before .before .before .before .loop-test .taken) (l .inv .1) (l .inv .2) (l .inv .3) (c .before .before .before .before .before .before .before .before .if1 .left) (c .before .before .before .before .emit-mux .ensures)
 
 same-length : tie.Need-same-length Inv-loop μ-loop
 same-length c = emitted-words-length (c .before .loop .inv .2)
@@ -78,7 +78,7 @@ join-group-spec =
     mul-lits
     (λ c. search needs)
     (λ c. search needs)
-    emit-requires
+    emit-mux-requires
     (λ c. search needs)
     (λ c. search needs)
     loop-again-2
