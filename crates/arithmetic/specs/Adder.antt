@@ -1,6 +1,8 @@
 -- The ripple adder as a netlist.
+use mathlib.Core.Bool.{cond}
 use mathlib.Core.List.{List, [], _∷_}
 use Prim.Native.Nat.{_*_, _+_, suc, zero, ℕ}
+use lib.Dec.{eqb}
 use Rattle.arithmetic.specs.Bits.{Bits}
 use Rattle.arithmetic.specs.Circuit.{Number}
 use Rattle.netlist.specs.Literal.{opp, pos}
@@ -28,6 +30,10 @@ adder g a b c w = chain (λ j. fullAdder (g + 3 * j) (a j) (b j) (carryAt g c j)
 -- the opposite of each bit
 abbrev pub oppBits : Bits → Bits
 oppBits b j = opp (b j)
+
+-- the opposite of the bit in place m
+abbrev pub flipped : ℕ → Bits → Bits
+flipped m a j = cond (eqb j m) (opp (a j)) (a j)
 
 -- a minus b: the opposite bits of b, and the first carry 2
 abbrev pub subtractor : ℕ → Bits → Bits → ℕ → List Node

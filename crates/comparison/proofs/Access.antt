@@ -15,8 +15,9 @@ use Rattle.arithmetic.proofs.Values.{AllBefore, not-less, order, value, value-l
 use Rattle.comparison.specs.Access.{above, beyond}
 use Rattle.arithmetic.specs.Circuit.{Predicate, never}
 use Rattle.comparison.proofs.Relating.{below-before, below-length}
+use Rattle.arithmetic.specs.Adder.{flipped}
 use Rattle.arithmetic.specs.Bits.{Bits}
-use Rattle.comparison.specs.Compare.{atLeastSigned, flipped}
+use Rattle.comparison.specs.Compare.{atLeastSigned}
 use Rattle.arithmetic.specs.Extend.{constBit}
 use Rattle.netlist.proofs.Formed.{before-neg, before-opp}
 use Rattle.netlist.proofs.Literals.{lit-false, lit-opp}

@@ -4,24 +4,23 @@ use mathlib.Core.List.{List}
 use mathlib.Core.Logic.{_⊎_, inl, inr}
 use mathlib.Core.Path.{_∙_, _≡_, ap, ap₂, refl, subst, sym}
 use Prim.Native.Nat.{_%_, _*_, _+_, _-_, _<_, _^_, _≤_, suc, zero, ℕ}
-use native.Mathlib.Decide.{ℕ-discrete}
 use native.Mathlib.Nat.{mod-eq-of-lt, mod-eq-sub-mod, pow-suc}
 use native.Mathlib.Numerals.{add-one}
 use native.Mathlib.Omega.{arith}
 use lib.Dec.{eqb, ltb}
 use borrow.Author.Tests.{eq-eqb, le-ltb, lt-ltb, ne-eqb}
-use Rattle.arithmetic.proofs.Adder.{adder-cong, less-value, subtractor-formed}
-use Rattle.arithmetic.proofs.Values.{AllBefore, bit, order, value, value-cong, value-lt}
-use Rattle.arithmetic.specs.Adder.{carryAt, oppBits}
+use Rattle.arithmetic.proofs.Adder.{adder-cong, last-carry, length-adder, less-value, subtractor-formed}
+use Rattle.arithmetic.proofs.Values.{AllBefore, bit, eqb-iff, order, value, value-cong, value-lt}
+use Rattle.arithmetic.specs.Adder.{adder, carryAt, flipped, oppBits}
 use Rattle.arithmetic.specs.Bits.{Bits}
-use Rattle.comparison.specs.Compare.{below, belowSigned, equality, flipped, same, sameAt}
+use Rattle.comparison.specs.Compare.{below, belowSigned, equality, same, sameAt}
 use Rattle.netlist.proofs.Chain.{chain-formed, chain-models, chain-sized, chain-written}
 use Rattle.netlist.proofs.Formed.{before-later, before-neg, before-opp, before-pos}
 use Rattle.netlist.proofs.Literals.{lit-neg, lit-opp, lit-pos, lit-true}
 use Rattle.netlist.proofs.Model.{Before, WellFormed}
 use Rattle.netlist.proofs.Nodes.{Sized, node-sized, sized-then}
 use Rattle.netlist.proofs.Truth.{Models}
-use Rattle.netlist.specs.Inner.Emit.{Emitted}
+use Rattle.netlist.specs.Inner.Emit.{Emitted, Ready}
 use Rattle.netlist.specs.Literal.{neg, opp}
 use Rattle.cnf.specs.Meaning.{Assign, lit}
 use Rattle.netlist.specs.Meaning.{Inputs}
@@ -47,11 +46,6 @@ equality-sized g a b = chain-sized _ 2 7 26 (λ j. place-sized (g + 2 * j) (a j)
 pub last-same : (g w next : ℕ) → 0 < w → next ≡ g + 2 * w → 2 * (next - 1) ≡ sameAt g w
 last-same g zero next h e = absurd (omega arith)
 last-same g (suc w) next h e = omega arith
-
--- tests of facts that follow from each other
-eqb-iff : (u v x y : ℕ) → (u ≡ v → x ≡ y) → (x ≡ y → u ≡ v) → eqb u v ≡ eqb x y
-eqb-iff u v x y f g =
-    elim (ℕ-discrete u v) [ yes e ↦ eq-eqb u v e ∙ sym (eq-eqb x y (f e)) | no n ↦ ne-eqb u v n ∙ sym (ne-eqb x y (λ e. n (g e))) ]
 
 &&-true : (b : Bool) → (b && true) ≡ b
 &&-true true = refl
@@ -84,10 +78,10 @@ equality-value ins ρ g a b (suc j) t m =
 abbrev pub offset : ℕ → ℕ → ℕ
 offset w x = (x + 2 ^ (w - 1)) % 2 ^ w
 
-pub flipped-below : (m : ℕ) (a : Bits) (j : ℕ) → j < m → flipped m a j ≡ a j
+flipped-below : (m : ℕ) (a : Bits) (j : ℕ) → j < m → flipped m a j ≡ a j
 flipped-below m a j h = rw (ne-eqb j m (λ e. omega arith))
 
-pub flipped-top : (m : ℕ) (a : Bits) → flipped m a m ≡ opp (a m)
+flipped-top : (m : ℕ) (a : Bits) → flipped m a m ≡ opp (a m)
 flipped-top m a = rw (eq-eqb m m refl)
 
 top-place : (v p : ℕ) (b : Bool) → v < p → v + bit (not b) * p ≡ (v + bit b * p + p) % (p * 2)
@@ -189,11 +183,26 @@ decides-opposite {w} {t} {n} {x} {w₁} {t₁} d e = record {
   lit = e .1 ∙ ap opp (d .lit);
 }
 
+-- A sum was emitted: room for its last carry, which is the last variable, and what that carry's opposite decides.
+module _ {w t : List ℕ} {n : Net} (a b : Bits) (c k : ℕ) {w₁ t₁ : List ℕ} {m : Net} (e : Emitted w t n (adder (n .next) a b c k) w₁ t₁ m) (h : 0 < k) where
+  sum-next : m .next ≡ n .next + 3 * k
+  sum-next = e .next ∙ ap (λ (i : ℕ). n .next + i) (length-adder (n .next) a b c k)
+
+  pub carry-room : Ready n (3 * k) → (0 < m .next) × (m .next ≤ 2 ^ 26)
+  carry-room q = (omega (arith, sum-next), omega (arith, sum-next, q .next))
+
+  pub decides-carry : {r : Test} → (r .net ≡ m) × (r .lit ≡ opp (2 * (m .next - 1)))
+      → Decides w t n (record { nodes = adder (n .next) a b c k; lit = opp (carryAt (n .next) c k) }) w₁ t₁ r
+  decides-carry q = record {
+    emitted = subst (λ (x : Net). Emitted w t n (adder (n .next) a b c k) w₁ t₁ x) (sym (q .0)) e;
+    lit = q .1 ∙ ap opp (last-carry (n .next) c k (m .next) h sum-next);
+  }
+
 -- an equal predicate is decided alike
 pub decides-as : {w t : List ℕ} {n : Net} {x y : Predicate} {w₁ t₁ : List ℕ} {r : Test} → x ≡ y → Decides w t n x w₁ t₁ r → Decides w t n y w₁ t₁ r
 decides-as {w} {t} {n} {x} {y} {w₁} {t₁} {r} e d = subst (λ (z : Predicate). Decides w t n z w₁ t₁ r) e d
 
-pub below-cong : (g : ℕ) (a b a′ b′ : Bits) (w : ℕ) → ((j : ℕ) → j < w → a j ≡ a′ j) → ((j : ℕ) → j < w → b j ≡ b′ j) → below g a b w ≡ below g a′ b′ w
+below-cong : (g : ℕ) (a b a′ b′ : Bits) (w : ℕ) → ((j : ℕ) → j < w → a j ≡ a′ j) → ((j : ℕ) → j < w → b j ≡ b′ j) → below g a b w ≡ below g a′ b′ w
 below-cong g a b a′ b′ w h k = λ i. record {
   nodes = adder-cong g a (oppBits b) a′ (oppBits b′) 2 w h (λ j l. ap opp (k j l)) i;
   lit = opp (carryAt g 2 w);

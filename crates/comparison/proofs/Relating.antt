@@ -14,10 +14,10 @@ use Rattle.bitvec.specs.Signed.{less, signed}
 use Rattle.arithmetic.proofs.Adder.{carry-before, length-adder, less-value, subtractor-formed}
 use Rattle.comparison.proofs.Compare.{equality-formed, equality-sized, equality-value, ltb-iff, offset, offset-high, offset-low, same-before, signed-formed, signed-value}
 use Rattle.arithmetic.proofs.Values.{AllBefore, not-less, order, value, value-lt}
-use Rattle.arithmetic.specs.Adder.{oppBits}
+use Rattle.arithmetic.specs.Adder.{flipped, oppBits}
 use Rattle.arithmetic.specs.Circuit.{Predicate, never, opposite}
 use Rattle.arithmetic.specs.Bits.{Bits}
-use Rattle.comparison.specs.Compare.{below, belowSigned, flipped, sameAt, sameNumber}
+use Rattle.comparison.specs.Compare.{below, belowSigned, sameAt, sameNumber}
 use Rattle.comparison.specs.Relation.{relation}
 use Rattle.netlist.proofs.Formed.{before-neg, before-opp, before-pos}
 use Rattle.netlist.proofs.Literals.{lit-false, lit-opp}

@@ -1,9 +1,7 @@
 -- Comparisons as netlists.
-use mathlib.Core.Bool.{cond}
 use mathlib.Core.List.{List, [], _∷_}
 use Prim.Native.Nat.{_*_, _+_, _-_, suc, zero, ℕ}
-use lib.Dec.{eqb}
-use Rattle.arithmetic.specs.Adder.{carryAt, subtractor}
+use Rattle.arithmetic.specs.Adder.{carryAt, flipped, subtractor}
 use Rattle.arithmetic.specs.Bits.{Bits}
 use Rattle.arithmetic.specs.Circuit.{Predicate, opposite}
 use Rattle.netlist.specs.Literal.{neg, opp, pos}
@@ -14,10 +12,6 @@ use Rattle.netlist.specs.declared.Node.the-variants.{And, Xor}
 -- a <u b is the opposite of the last carry of a minus b
 abbrev pub below : ℕ → Bits → Bits → ℕ → Predicate
 below g a b w = record { nodes = subtractor g a b w; lit = opp (carryAt g 2 w) }
-
--- the opposite of the bit in place m
-abbrev pub flipped : ℕ → Bits → Bits
-flipped m a j = cond (eqb j m) (opp (a j)) (a j)
 
 -- a <s b first takes the opposite of both top bits
 abbrev pub belowSigned : ℕ → Bits → Bits → ℕ → Predicate

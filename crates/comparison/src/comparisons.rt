@@ -1,23 +1,34 @@
 // Comparisons of two numbers of one width.
 use crate::turned;
-use arithmetic::PLACES;
 use arithmetic::Test;
 use arithmetic::sums::emit_difference;
+use arithmetic::sums::emit_signed_difference;
 use cnf::fits;
 use netlist::Net;
 use netlist::counted;
 use netlist::gates::and_gate;
 use netlist::gates::xor_gate;
+use netlist::opposite;
 ghost use mathlib.Core.Path.{_≡_};
 ghost use Prim.Native.Nat.{_*_, _+_, _-_, _<_, _^_, _≤_};
 ghost use lib.ListN.{length};
-ghost use Rattle.arithmetic.specs.Bits.{litAt, places, tabulate};
-ghost use Rattle.arithmetic.specs.Extend.{extend};
+ghost use Rattle.arithmetic.specs.Bits.{litAt, places};
 ghost use Rattle.arithmetic.specs.Inner.Made.{Decides};
 ghost use Rattle.cnf.specs.Inner.Append.{Lent, Written};
-ghost use Rattle.comparison.specs.Compare.{atLeastSigned, below, belowSigned, equality, flipped, same, sameNumber};
+ghost use Rattle.comparison.specs.Compare.{atLeastSigned, below, belowSigned, equality, same, sameNumber};
 ghost use Rattle.netlist.specs.Inner.Emit.{Ready};
+ghost use Rattle.netlist.specs.Literal.{opp};
 ghost use Rattle.netlist.specs.Node.{netlistClauses};
+
+// Whether the difference that was just emitted has no last carry, which is its last variable.
+fn no_carry(net: Net) -> Test
+    requires { ⌜ (0 < net .next) × (net .next ≤ 2 ^ 26) ⌝ }
+    ensures { λ r. ⌜ (r .net ≡ net) × (r .lit ≡ opp (2 * (net .next - 1))) ⌝ }
+{
+    let carry = 2 * (net.next - 1);
+    let lit = opposite(carry);
+    Test { net, lit }
+}
 
 // Whether the first number is below the second, unsigned: the opposite of the last carry.
 pub fn less(words: &mut [u32], starts: &mut [u32], n: Net, a: &[u32], b: &[u32]) -> Test
@@ -26,26 +37,7 @@ pub fn less(words: &mut [u32], starts: &mut [u32], n: Net, a: &[u32], b: &[u32])
     requires { ⌜ (0 < length (now a)) × (length (now a) ≤ places) ⌝ }
     ensures { λ r. ⌜ Decides (now (words .entry)) (now (starts .entry)) n (below (n .next) (litAt (now (a .entry))) (litAt (now (b .entry))) (length (now (a .entry)))) (now (words .exit)) (now (starts .exit)) r ⌝ }
 {
-    let net = emit_difference(words, starts, n, a, b);
-    let carry = 2 * (net.next - 1);
-    let lit = netlist::opposite(carry);
-    Test { net, lit }
-}
-
-// The bits with the opposite of the top bit, and 3 from the width on.
-fn flip_top(a: &[u32]) -> [u32; PLACES]
-    requires { ⌜ (0 < length (now a)) × (length (now a) ≤ places) ⌝ }
-    ensures { λ r. ⌜ r ≡ tabulate (extend (flipped (length (now (a .entry)) - 1) (litAt (now (a .entry)))) (length (now (a .entry))) 3) places ⌝ }
-{
-    let top = a.len() - 1;
-    let mut r = [3u32; PLACES];
-    let mut j = 0;
-    while j < top {
-        r[j] = a[j];
-        j += 1;
-    }
-    r[top] = netlist::opposite(a[top]);
-    r
+    no_carry(emit_difference(words, starts, n, a, b))
 }
 
 // Whether the first number is below the second, signed: the opposite of both top bits first.
@@ -55,10 +47,7 @@ pub fn less_signed(words: &mut [u32], starts: &mut [u32], n: Net, a: &[u32], b: 
     requires { ⌜ (0 < length (now a)) × (length (now a) ≤ places) ⌝ }
     ensures { λ r. ⌜ Decides (now (words .entry)) (now (starts .entry)) n (belowSigned (n .next) (litAt (now (a .entry))) (litAt (now (b .entry))) (length (now (a .entry)))) (now (words .exit)) (now (starts .exit)) r ⌝ }
 {
-    let w = a.len();
-    let x = flip_top(a);
-    let y = flip_top(b);
-    less(words, starts, n, &x[..w], &y[..w])
+    no_carry(emit_signed_difference(words, starts, n, a, b))
 }
 
 // Whether the first number is not below the second, signed.
