@@ -1,4 +1,4 @@
 -- What inner functions ask and tell each other. No promise of a public call rests on it.
-pub mod Made
+pub mod Results
 pub mod Taken
 pub mod Turned

@@ -10,7 +10,7 @@ ghost use Prim.Native.Nat.{_*_, _+_, _^_, _≤_};
 ghost use lib.ListN.{length};
 ghost use Rattle.arithmetic.specs.Bits.{litAt};
 ghost use Rattle.arithmetic.specs.Choose.{choose, chooser};
-ghost use Rattle.arithmetic.specs.Inner.Made.{Makes};
+ghost use Rattle.arithmetic.specs.Inner.Results.{Makes};
 ghost use Rattle.cnf.specs.Inner.Append.{Lent, Written};
 ghost use Rattle.netlist.specs.Inner.Emit.{Ready};
 ghost use Rattle.netlist.specs.Node.{netlistClauses};

@@ -29,7 +29,7 @@ use Rattle.netlist.specs.Node.{chain, netlistClauses}
 use Rattle.netlist.specs.declared.Node.{Node}
 use Rattle.netlist.specs.declared.Node.the-variants.{And, Xor}
 use Rattle.arithmetic.specs.Circuit.{Predicate, opposite}
-use Rattle.arithmetic.specs.Inner.Made.{Decides}
+use Rattle.arithmetic.specs.Inner.Results.{Decides}
 use Rattle.arithmetic.specs.declared.Test.{Test}
 use Rattle.cnf.specs.Inner.Append.{Written}
 use Rattle.netlist.specs.declared.Net.{Net}

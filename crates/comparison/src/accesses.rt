@@ -6,7 +6,7 @@ use netlist::Net;
 ghost use Prim.Native.Nat.{_*_, _<_, _≤_};
 ghost use lib.ListN.{length};
 ghost use Rattle.arithmetic.specs.Bits.{litAt};
-ghost use Rattle.arithmetic.specs.Inner.Made.{Decides};
+ghost use Rattle.arithmetic.specs.Inner.Results.{Decides};
 ghost use Rattle.comparison.specs.Access.{above};
 ghost use Rattle.netlist.specs.Inner.Emit.{Ready};
 

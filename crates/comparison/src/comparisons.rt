@@ -13,7 +13,7 @@ ghost use mathlib.Core.Path.{_≡_};
 ghost use Prim.Native.Nat.{_*_, _+_, _-_, _<_, _^_, _≤_};
 ghost use lib.ListN.{length};
 ghost use Rattle.arithmetic.specs.Bits.{litAt, places};
-ghost use Rattle.arithmetic.specs.Inner.Made.{Decides};
+ghost use Rattle.arithmetic.specs.Inner.Results.{Decides};
 ghost use Rattle.cnf.specs.Inner.Append.{Lent, Written};
 ghost use Rattle.comparison.specs.Compare.{atLeastSigned, below, belowSigned, equality, same, sameNumber};
 ghost use Rattle.netlist.specs.Inner.Emit.{Ready};

@@ -12,7 +12,7 @@ ghost use mathlib.Core.Path.{_≡_};
 ghost use Prim.Native.Nat.{_*_, _<_, _≤_};
 ghost use lib.ListN.{length};
 ghost use Rattle.arithmetic.specs.Bits.{litAt, places};
-ghost use Rattle.arithmetic.specs.Inner.Made.{Decides};
+ghost use Rattle.arithmetic.specs.Inner.Results.{Decides};
 ghost use Rattle.comparison.specs.Relation.{relation};
 ghost use Rattle.netlist.specs.Inner.Emit.{Ready};
 ghost use Rattle.netlist.specs.Literal.{opp};

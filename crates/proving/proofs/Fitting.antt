@@ -73,14 +73,14 @@ module _ (words starts words₁ starts₁ : List ℕ) (short : length words ≤ 
   by b c =
       cond b
       (cond c
-      (record { translated = Translated.Made (translationSize x); words = sets words 0 (flatten (clausesOfAll x)); starts = sets starts 0 (offsets 0 (clausesOfAll x)) })
+      (record { translated = Translated.Clauses (translationSize x); words = sets words 0 (flatten (clausesOfAll x)); starts = sets starts 0 (offsets 0 (clausesOfAll x)) })
       (record { translated = Translated.Refused (translating.Refusal.TooSmall Buffer.Starts); words = words; starts = starts }))
       (record { translated = Translated.Refused (translating.Refusal.TooSmall Buffer.Words); words = words; starts = starts })
 
-  made-by : (size : Size) → z ≡ Translated.Made size → (b c : Bool) → leb (translationSize x .words) (usable words) ≡ b → leb (translationSize x .clauses) (usable starts) ≡ c
+  made-by : (size : Size) → z ≡ Translated.Clauses size → (b c : Bool) → leb (translationSize x .words) (usable words) ≡ b → leb (translationSize x .clauses) (usable starts) ≡ c
       → _≡_ {A = TranslationAnswer} (record { translated = z; words = words₁; starts = starts₁ }) (by b c) → Made words starts words₁ starts₁ size x
   made-by size is true true p q f =
-      let y : Translated.Made size ≡ Translated.Made (translationSize x) = sym is ∙ ap (λ (v : TranslationAnswer). v .translated) f in
+      let y : Translated.Clauses size ≡ Translated.Clauses (translationSize x) = sym is ∙ ap (λ (v : TranslationAnswer). v .translated) f in
       record {
         sized = cc;
         words-room = rw (used-whole words short) at (leb-true (translationSize x .words) (usable words) p);
@@ -89,15 +89,15 @@ module _ (words starts words₁ starts₁ : List ℕ) (short : length words ≤ 
         starts-are = ap (λ (v : TranslationAnswer). v .starts) f;
       }
   made-by size is true false p q f =
-      let y : Translated.Made size ≡ Translated.Refused (translating.Refusal.TooSmall Buffer.Starts) = sym is ∙ ap (λ (v : TranslationAnswer). v .translated) f in
+      let y : Translated.Clauses size ≡ Translated.Refused (translating.Refusal.TooSmall Buffer.Starts) = sym is ∙ ap (λ (v : TranslationAnswer). v .translated) f in
       let n : _≡_ {A = ℕ} 0 1 = cc in
       absurd (omega arith)
   made-by size is false c p q f =
-      let y : Translated.Made size ≡ Translated.Refused (translating.Refusal.TooSmall Buffer.Words) = sym is ∙ ap (λ (v : TranslationAnswer). v .translated) f in
+      let y : Translated.Clauses size ≡ Translated.Refused (translating.Refusal.TooSmall Buffer.Words) = sym is ∙ ap (λ (v : TranslationAnswer). v .translated) f in
       let n : _≡_ {A = ℕ} 0 1 = cc in
       absurd (omega arith)
 
-  made : (size : Size) → z ≡ Translated.Made size → Made words starts words₁ starts₁ size x
+  made : (size : Size) → z ≡ Translated.Clauses size → Made words starts words₁ starts₁ size x
   made size is = made-by size is (leb (translationSize x .words) (usable words)) (leb (translationSize x .clauses) (usable starts)) refl refl e
 
   -- what was not made has no room in words, or in starts
@@ -106,7 +106,7 @@ module _ (words starts words₁ starts₁ : List ℕ) (short : length words ≤ 
       → _≡_ {A = TranslationAnswer} (record { translated = z; words = words₁; starts = starts₁ }) (by b c) → Proved.Refused (byTranslation refusal) ≡ provedBy r from m h k x
   unfolding provedBy
   refused-by r from m h k mw ms refusal is true true p q f =
-      let y : Translated.Refused refusal ≡ Translated.Made (translationSize x) = sym is ∙ ap (λ (v : TranslationAnswer). v .translated) f in
+      let y : Translated.Refused refusal ≡ Translated.Clauses (translationSize x) = sym is ∙ ap (λ (v : TranslationAnswer). v .translated) f in
       let n : _≡_ {A = ℕ} 0 1 = cc in
       absurd (omega arith)
   refused-by r from m h k mw ms refusal is true false p q f =
@@ -157,7 +157,7 @@ module _ (bs r : List ℕ) (h : Header) (k : Counts) (t : Target) (words starts 
         ap Proved.Refused by ∙ not-made words starts words₁ starts₁ short few z (Of a) (fitted-of a d) r (proofAt h k) room h k refl refl refusal is;
   }
 
-  module _ (size : Size) (is : z ≡ Translated.Made size) where
+  module _ (size : Size) (is : z ≡ Translated.Clauses size) where
     of-made : (a : Arm) → decode bs ≡ routine h a k → Made words starts words₁ starts₁ size (Of a)
     of-made a d = made words starts words₁ starts₁ short few z (Of a) (fitted-of a d) size is
 

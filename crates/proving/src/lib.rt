@@ -99,7 +99,7 @@ pub fn prove(
     let end = 2 + k.ifs as usize;
     match fit(routine, h, t, &report[2..end], words, starts) {
         Translated::Refused(refusal) => Proved::Refused(by_translation(refusal)),
-        Translated::Made(size) => {
+        Translated::Clauses(size) => {
             let m = size.variables as usize + 1;
             if marks.len() < m {
                 return Proved::Refused(Refusal::TooSmall(Buffer::Marks));

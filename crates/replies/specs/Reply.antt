@@ -37,7 +37,7 @@ runFills (Ran.Refused refusal) ans = record { code = run.rowOf refusal .number; 
 
 -- what a translation gives
 abbrev pub translateFills : Translated → List ℕ → Reply
-translateFills (Translated.Made size) ans = record { code = 0; answer = sets ans 0 (sizesOf size) }
+translateFills (Translated.Clauses size) ans = record { code = 0; answer = sets ans 0 (sizesOf size) }
 translateFills (Translated.Refused refusal) ans = record { code = translation.rowOf refusal .number; answer = set ans 0 (translation.rowOf refusal .place) }
 
 -- what checking a proof gives: steps closed and hints read; 254, no number of document 01, where the buffers do not hold what is asked

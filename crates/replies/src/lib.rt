@@ -65,7 +65,7 @@ pub fn fill_translate(translated: Translated, answer: &mut [u64]) -> u8
     ensures { λ r. ⌜ Fills (translateFills translated (now (answer .entry))) (now (answer .exit)) r ⌝ }
 {
     match translated {
-        Translated::Made(size) => {
+        Translated::Clauses(size) => {
             fill_size(size, answer);
             0
         }

@@ -20,7 +20,7 @@ use Rattle.routine.specs.declared.Checked.{Checked}
 
 pub record Whole (bs : List ℕ) (h : Header) (a : Arm) (k : Counts) : Type 0 where
   pub short : length bs ≤ 4096
-  pub header : headerOf bs ≡ Head.Whole h
+  pub header : headerOf bs ≡ Head.Valid h
   pub stands : Stands bs h 0 0 (firstCommand h) noCounts a (length bs) k
 
 module _ (bs : List ℕ) where
@@ -28,19 +28,19 @@ module _ (bs : List ℕ) where
   Of-decoded (rejected refusal) = Unit {0}
   Of-decoded (routine h a k) = Whole bs h a k
 
-  of-end : (h : Header) (a : Arm) (end : ℕ) (k : Counts) → length bs ≤ 4096 → headerOf bs ≡ Head.Whole h → Stands bs h 0 0 (firstCommand h) noCounts a end k
+  of-end : (h : Header) (a : Arm) (end : ℕ) (k : Counts) → length bs ≤ 4096 → headerOf bs ≡ Head.Valid h → Stands bs h 0 0 (firstCommand h) noCounts a end k
       → (b : Bool) → eqb end (length bs) ≡ b → Of-decoded (unless b (rejected (Refusal.Trailing end)) (routine h a k))
   unfolding unless
   of-end h a end k l w s true e = record { short = l; header = w; stands = subst (λ (n : ℕ). Stands bs h 0 0 (firstCommand h) noCounts a n k) (eqb-true _ _ e) s }
   of-end h a end k l w s false e = tt
 
-  of-arm : (h : Header) → length bs ≤ 4096 → headerOf bs ≡ Head.Whole h → (p : Parsed Arm) → arm bs h 0 0 (firstCommand h) noCounts ≡ p → Of-decoded (decodeArm bs h p)
+  of-arm : (h : Header) → length bs ≤ 4096 → headerOf bs ≡ Head.Valid h → (p : Parsed Arm) → arm bs h 0 0 (firstCommand h) noCounts ≡ p → Of-decoded (decodeArm bs h p)
   of-arm h l w (refused fault place) e = tt
   of-arm h l w (parsed a end k) e = of-end h a end k l w (record { reads = e }) (eqb end (length bs)) refl
 
   of-head : length bs ≤ 4096 → (x : Head) → headerOf bs ≡ x → Of-decoded (decodeHead bs x)
   of-head l (Head.Wrong place) e = tt
-  of-head l (Head.Whole h) e = of-arm h l e (arm bs h 0 0 (firstCommand h) noCounts) refl
+  of-head l (Head.Valid h) e = of-arm h l e (arm bs h 0 0 (firstCommand h) noCounts) refl
 
   of-decode : (b c : Bool) → leb 1 (length bs) ≡ b → leb (length bs) 4096 ≡ c → Of-decoded (unless (b && c) (rejected Refusal.Length) (decodeHead bs (headerOf bs)))
   unfolding unless

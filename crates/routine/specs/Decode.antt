@@ -28,7 +28,7 @@ decodeArm bs h (parsed a end k) = unless (eqb end (length bs)) (rejected (Refusa
 -- what the header is, and then the commands after it
 abbrev pub decodeHead : List ℕ → Head → Decoded
 decodeHead bs (Head.Wrong place) = rejected (Refusal.Header place)
-decodeHead bs (Head.Whole h) = decodeArm bs h (arm bs h 0 0x00 (firstCommand h) noCounts)
+decodeHead bs (Head.Valid h) = decodeArm bs h (arm bs h 0 0x00 (firstCommand h) noCounts)
 
 -- 1 to 4,096 bytes, and in them a header and commands
 unfoldable pub decode : List ℕ → Decoded

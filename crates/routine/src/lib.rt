@@ -57,6 +57,6 @@ pub fn check(routine: &[u8]) -> Checked
     }
     match routine_header::read_header(routine) {
         Head::Wrong(place) => Checked::Refused(Refusal::Header(place)),
-        Head::Whole(h) => walks::check_commands(routine, h),
+        Head::Valid(h) => walks::check_commands(routine, h),
     }
 }

@@ -108,7 +108,7 @@ module _ (bs : List ℕ) (v : ℕ) where
   header-room zero l e = omega arith
   header-room (suc n) l e = omega (arith, sizes-fine (suc n) e n (omega arith) .0)
 
-pub fine : (bs : List ℕ) (h : Header) → headerOf bs ≡ Head.Whole h → Fine bs h
+pub fine : (bs : List ℕ) (h : Header) → headerOf bs ≡ Head.Valid h → Fine bs h
 fine bs h e =
     let v = headerIn bs .variables in
     let n = headerIn bs .arrays in

@@ -26,15 +26,15 @@ pub record Held (bs : List ℕ) (h : Header) : Type 0 where
   pub is : headerIn bs ≡ h
 
 -- no wrong place: the test held
-needed : (b : Bool) (place : ℕ) (go : Head) (h : Header) → unless b (Head.Wrong place) go ≡ Head.Whole h → (b ≡ true) × (go ≡ Head.Whole h)
+needed : (b : Bool) (place : ℕ) (go : Head) (h : Header) → unless b (Head.Wrong place) go ≡ Head.Valid h → (b ≡ true) × (go ≡ Head.Valid h)
 unfolding unless
 needed true place go h e = (refl, e)
 needed false place go h e = let z : _≡_ {A = ℕ} 0 1 = cc in absurd (omega arith)
 
-whole-injective : {h h₁ : Header} → Head.Whole h ≡ Head.Whole h₁ → h ≡ h₁
-whole-injective e = cc
+valid-injective : {h h₁ : Header} → Head.Valid h ≡ Head.Valid h₁ → h ≡ h₁
+valid-injective e = cc
 
-pub held : (bs : List ℕ) (h : Header) → headerOf bs ≡ Head.Whole h → Held bs h
+pub held : (bs : List ℕ) (h : Header) → headerOf bs ≡ Head.Valid h → Held bs h
 unfolding headerOf
 held bs h e =
     let v = entry bs 1 in
@@ -54,5 +54,5 @@ held bs h e =
       parameters = t₃ .0;
       arrays = t₄ .0;
       sizes = eqb-true _ _ (t₅ .0);
-      is = whole-injective (t₅ .1);
+      is = valid-injective (t₅ .1);
     }

@@ -44,7 +44,7 @@ headerOf bs =
     (unless (within bs (v + 2) 0 v) (Head.Wrong (v + 2))
     (unless (within bs (v + 3) 0 16) (Head.Wrong (v + 3))
     (unless (eqb z (v + 4 + 2 * n)) (Head.Wrong z)
-    (Head.Whole (record { variables = v; parameters = entry bs (v + 2); arrays = n })))))))
+    (Head.Valid (record { variables = v; parameters = entry bs (v + 2); arrays = n })))))))
 
 -- the offset of the first command
 abbrev pub firstCommand : Header → ℕ

@@ -16,7 +16,7 @@ pub struct Header {
 
 // What reading the header finds: a header, or the offset that is wrong.
 pub enum Head {
-    Whole(Header),
+    Valid(Header),
     Wrong(usize),
 }
 
@@ -106,7 +106,7 @@ pub fn read_header(bytes: &[u8]) -> Head
     if z != v + 4 + 2 * (arrays as usize) {
         return Head::Wrong(z);
     }
-    Head::Whole(Header {
+    Head::Valid(Header {
         variables,
         parameters,
         arrays,

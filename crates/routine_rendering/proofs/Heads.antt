@@ -31,7 +31,7 @@ record Told (bs : List ℕ) (h : Header) : Type 0 where
   pub parameters : entry bs (h .variables + 2) ≡ h .parameters
   pub arrays : entry bs (h .variables + 3) ≡ h .arrays
 
-told : (bs : List ℕ) (h : Header) → headerOf bs ≡ Head.Whole h → Told bs h
+told : (bs : List ℕ) (h : Header) → headerOf bs ≡ Head.Valid h → Told bs h
 told bs h e =
     let t = held bs h e in
     subst (Told bs) (t .is) (record { first = omega (arith, in-bounds bs 0 1 1 (t .first) .1, in-bounds bs 0 1 1 (t .first) .2); variables = refl; parameters = refl; arrays = refl })
@@ -91,7 +91,7 @@ module _ (bs : List ℕ) (h : Header) (fine : Fine bs h) where
   }
 
   -- the bytes of the header
-  pub header-bytes : AreBytes bs → headerOf bs ≡ Head.Whole h → (t : Text)
+  pub header-bytes : AreBytes bs → headerOf bs ≡ Head.Valid h → (t : Text)
       → let p = syntaxOf bs h t in
       bs ≡ 1 ∷ length (p .widths) ∷ p .widths ++ (p .parameters ∷ length (p .sizes) ∷ sizeBytes (p .sizes) ++ drop (firstCommand h) bs)
   header-bytes f q t =
@@ -184,7 +184,7 @@ module _ (bs : List ℕ) (p : Syntax) (tail : List ℕ)
   from-commands = further bs (variables + 4) _ from-sizes (2 * arrays) ∙ drop-at (sizeBytes (p .sizes)) tail (2 * arrays) (length-size-bytes (p .sizes))
 
   -- the header that is read
-  pub header-read : Between 1 32 variables → Each 1 32 (p .widths) → p .parameters ≤ variables → arrays ≤ 16 → Each 1 4096 (p .sizes) → headerOf bs ≡ Head.Whole (headOf p)
+  pub header-read : Between 1 32 variables → Each 1 32 (p .widths) → p .parameters ≤ variables → arrays ≤ 16 → Each 1 4096 (p .sizes) → headerOf bs ≡ Head.Valid (headOf p)
   unfolding headerOf
   header-read v w l n z =
       let e₁ : entry bs 1 ≡ variables = entry-at bs 0 _ is 1 in

@@ -54,7 +54,7 @@ module _ (bs : List ℕ) (h : Header) (t : Target) (ds words starts : List ℕ) 
 
   module _ (l : need .words ≤ w) (q : need .clauses ≤ c) (words₁ starts₁ : List ℕ) (made : Size)
       (m : ClaimEncoded bs h t ds (take w words) (take c starts) words₁ starts₁ made) where
-    pub both-fit : Fitted bs h t ds words starts (words₁ ++ drop w words) (starts₁ ++ drop c starts) (Translated.Made made)
+    pub both-fit : Fitted bs h t ds words starts (words₁ ++ drop w words) (starts₁ ++ drop c starts) (Translated.Clauses made)
     both-fit = record {
       tells = λ a k d.
           let x = translationOf bs t ds h a in
@@ -66,5 +66,5 @@ module _ (bs : List ℕ) (h : Header) (t : Target) (ds words starts : List ℕ) 
           let ss : starts₁ ++ drop c starts ≡ sets starts 0 (offsets 0 (clausesOfAll x)) =
           ap (λ (y : List ℕ). y ++ drop c starts) (p .starts) ∙ sets-part (offsets 0 (clausesOfAll x)) starts c (omega arith) lc in
           rw (le-leb (translationSize (translationOf bs t ds h a) .words) (usable words) (omega (arith, words-are a k d)), le-leb (translationSize (translationOf bs t ds h a) .clauses) (usable starts) (omega (arith, clauses-are a k d)))
-          (λ j. record { translated = Translated.Made (m .size a k d j); words = ww j; starts = ss j });
+          (λ j. record { translated = Translated.Clauses (m .size a k d j); words = ww j; starts = ss j });
     }

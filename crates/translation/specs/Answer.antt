@@ -26,7 +26,7 @@ abbrev pub fitted : (words starts : List ℕ) → Encoding → TranslationAnswer
 fitted words starts x =
     cond (leb (translationSize x .words) (usable words))
     (cond (leb (translationSize x .clauses) (usable starts))
-    (record { translated = Translated.Made (translationSize x); words = sets words 0 (flatten (clausesOfAll x)); starts = sets starts 0 (offsets 0 (clausesOfAll x)) })
+    (record { translated = Translated.Clauses (translationSize x); words = sets words 0 (flatten (clausesOfAll x)); starts = sets starts 0 (offsets 0 (clausesOfAll x)) })
     (record { translated = Translated.Refused (Refusal.TooSmall Buffer.Starts); words = words; starts = starts }))
     (record { translated = Translated.Refused (Refusal.TooSmall Buffer.Words); words = words; starts = starts })
 

@@ -125,5 +125,5 @@ pub fn fit(
         t,
         decisions,
     );
-    Translated::Made(made)
+    Translated::Clauses(made)
 }

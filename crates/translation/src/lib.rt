@@ -18,7 +18,7 @@ pub enum Refusal {
 
 // What a translation answers.
 pub enum Translated {
-    Made(Size),
+    Clauses(Size),
     Refused(Refusal),
 }
 

@@ -5,7 +5,7 @@ use Prim.Native.Nat.{_*_, _+_, ℕ}
 use native.Mathlib.Omega.{arith}
 use lib.ListN.{length}
 use Rattle.arithmetic.specs.Bits.{Bits}
-use Rattle.arithmetic.specs.Inner.Made.{Decides}
+use Rattle.arithmetic.specs.Inner.Results.{Decides}
 use Rattle.arithmetic.specs.declared.Test.{Test}
 use Rattle.comparison.proofs.Access.{above-short}
 use Rattle.comparison.specs.Access.{above}

@@ -8,7 +8,7 @@ use netlist::opposite;
 ghost use Prim.Native.Nat.{_*_, _+_, _<_, _≤_};
 ghost use lib.ListN.{length};
 ghost use Rattle.arithmetic.specs.Bits.{litAt};
-ghost use Rattle.arithmetic.specs.Inner.Made.{Decides};
+ghost use Rattle.arithmetic.specs.Inner.Results.{Decides};
 ghost use Rattle.translation_access.specs.Index.{passing, claim};
 ghost use Rattle.netlist.specs.Inner.Emit.{Ready};
 

@@ -21,7 +21,7 @@ use Rattle.arithmetic.specs.Bits.{Bits, litAt, tabulate}
 use Rattle.arithmetic.specs.Input.{inBit}
 use Rattle.arithmetic.specs.Inner.Taken.{TakesInputs}
 use Rattle.arithmetic.specs.Circuit.{Number}
-use Rattle.arithmetic.specs.Inner.Made as made
+use Rattle.arithmetic.specs.Inner.Results as made
 use Rattle.arithmetic.specs.declared.Bundle.{Bundle}
 use Rattle.translation_access.proofs.Gates.{claim-short, passing-short}
 use Rattle.translation_state.specs.Wires.{Wires, bitsIn, bitsSet, bitsOf, withBits, arriving, claiming, isMade}

@@ -12,7 +12,7 @@ ghost use Prim.Native.Nat.{_≤_, _<_};
 ghost use lib.ListN.{length};
 ghost use Rattle.netlist.specs.Inner.Emit.{Ready};
 ghost use Rattle.arithmetic.specs.Bits.{litAt, places, tabulate};
-ghost use Rattle.arithmetic.specs.Inner.Made.{Makes};
+ghost use Rattle.arithmetic.specs.Inner.Results.{Makes};
 ghost use Rattle.translation_command.specs.Operation.{conversion, computation};
 
 // 0x02 copy, 0x06 cut, 0x07 zero-extend, 0x08 sign-extend.

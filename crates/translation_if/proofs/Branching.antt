@@ -21,7 +21,7 @@ use Rattle.netlist.specs.declared.Net.{Net}
 use Rattle.netlist.proofs.Emitting.{emitted-none, emitted-then, ready-after}
 use Rattle.arithmetic.specs.Bits.{Bits, bitsAt, tabulate}
 use Rattle.arithmetic.specs.Circuit.{Predicate}
-use Rattle.arithmetic.specs.Inner.Made.{Decides}
+use Rattle.arithmetic.specs.Inner.Results.{Decides}
 use Rattle.arithmetic.specs.Join.{join, joiner, joinBit}
 use Rattle.arithmetic.specs.declared.Test.{Test}
 use Rattle.arithmetic.proofs.Values.{length-tabulate}

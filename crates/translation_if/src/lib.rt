@@ -16,7 +16,7 @@ ghost use mathlib.Core.Path.{_≡_};
 ghost use lib.ListN.{length};
 ghost use Rattle.routine_faults.specs.Inner.Sound.{SoundIf, Fine};
 ghost use Rattle.netlist.specs.Inner.Emit.{Ready};
-ghost use Rattle.arithmetic.specs.Inner.Made.{Decides};
+ghost use Rattle.arithmetic.specs.Inner.Results.{Decides};
 ghost use Rattle.translation_state.specs.Wires.{allPlaces};
 ghost use Rattle.translation_state.specs.Inner.Reach.{wiresOf};
 ghost use Rattle.translation_if.specs.If.{armArrival};

@@ -41,17 +41,17 @@ pub fn walk_simple(
     h: Header,
     t: Target,
     c: Simple,
-    start: Walk,
+    here: Walk,
 ) -> Walk
-    requires { ⌜ Ready (start .net) 8192 × (length (now lits) ≡ allPlaces h) ⌝ }
-    requires { ⌜ Sound (now bytes) h c × (tooMany c (start .counts) ≡ false) × (start .next + simpleSize c ≤ length (now bytes)) ⌝ }
-    requires { ⌜ Fine (now bytes) h × (isMade (start .reach .claim) ≡ false) ⌝ }
-    ensures { λ r. ⌜ WalksTo (now (words .entry)) (now (starts .entry)) (start .net) (simple (now (bytes .entry)) h t (start .net .next) c (start .counts) (wiresAt (now (lits .entry)) start)) (start .next + simpleSize c) (countsAfter c (start .counts)) (now (words .exit)) (now (starts .exit)) (now (lits .exit)) r ⌝ }
+    requires { ⌜ Ready (here .net) 8192 × (length (now lits) ≡ allPlaces h) ⌝ }
+    requires { ⌜ Sound (now bytes) h c × (tooMany c (here .counts) ≡ false) × (here .next + simpleSize c ≤ length (now bytes)) ⌝ }
+    requires { ⌜ Fine (now bytes) h × (isMade (here .reach .claim) ≡ false) ⌝ }
+    ensures { λ r. ⌜ WalksTo (now (words .entry)) (now (starts .entry)) (here .net) (simple (now (bytes .entry)) h t (here .net .next) c (here .counts) (wiresAt (now (lits .entry)) here)) (here .next + simpleSize c) (countsAfter c (here .counts)) (now (words .exit)) (now (starts .exit)) (now (lits .exit)) r ⌝ }
 {
-    let n = start.net;
-    let k = start.counts;
-    let s = start.reach;
-    let next = start.next + simple_size(c);
+    let n = here.net;
+    let k = here.counts;
+    let s = here.reach;
+    let next = here.next + simple_size(c);
     let counts = counts_after(c, k);
     let m = encode_simple(words, starts, lits, n, bytes, h, t, c, k, s);
     let net = m.net;
@@ -65,12 +65,12 @@ pub fn walk_simple(
 }
 
 // The walk at the first arm of the if where it was, whose commands begin at `next`.
-pub fn in_first(next: usize, start: Walk, b: IfBegun) -> Walk
-    requires { ⌜ start .counts .ifs < 32 ⌝ }
-    ensures { λ r. ⌜ r ≡ inFirst next start b ⌝ }
+pub fn in_first(next: usize, here: Walk, b: IfBegun) -> Walk
+    requires { ⌜ here .counts .ifs < 32 ⌝ }
+    ensures { λ r. ⌜ r ≡ inFirst next here b ⌝ }
 {
-    let s = start.reach;
-    let counts = counts_after_if(start.counts);
+    let s = here.reach;
+    let counts = counts_after_if(here.counts);
     let net = b.net;
     let reach = with_arrival(s, b.first);
     Walk {
@@ -82,10 +82,10 @@ pub fn in_first(next: usize, start: Walk, b: IfBegun) -> Walk
 }
 
 // The walk at the else, after the first arm x.
-pub fn in_else(start: Walk, b: IfBegun, x: Walk) -> Walk
-    ensures { λ r. ⌜ r ≡ inElse start b x ⌝ }
+pub fn in_else(here: Walk, b: IfBegun, x: Walk) -> Walk
+    ensures { λ r. ⌜ r ≡ inElse here b x ⌝ }
 {
-    let s = start.reach;
+    let s = here.reach;
     let counts = x.counts;
     let net = x.net;
     let reach = with_arrival(s, b.second);

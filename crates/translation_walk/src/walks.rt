@@ -34,12 +34,12 @@ pub fn encode_arm(
     ds: &[u8],
     depth: u8,
     close: u8,
-    start: Walk,
+    here: Walk,
 ) -> Walk
-    requires { ⌜ ArmReady (now bytes) h t (now ds) depth close (now lits) start × Fine (now bytes) h × (isMade (start .reach .claim) ≡ false) ⌝ }
-    ensures { λ r. ⌜ ArmEncoded (now (bytes .entry)) h t (now (ds .entry)) depth close (now (words .entry)) (now (starts .entry)) (now (lits .entry)) start (now (words .exit)) (now (starts .exit)) (now (lits .exit)) r ⌝ }
+    requires { ⌜ ArmReady (now bytes) h t (now ds) depth close (now lits) here × Fine (now bytes) h × (isMade (here .reach .claim) ≡ false) ⌝ }
+    ensures { λ r. ⌜ ArmEncoded (now (bytes .entry)) h t (now (ds .entry)) depth close (now (words .entry)) (now (starts .entry)) (now (lits .entry)) here (now (words .exit)) (now (starts .exit)) (now (lits .exit)) r ⌝ }
 {
-    let mut p = start;
+    let mut p = here;
     loop {
         match command_at(bytes, p.next) {
             Command::Missing => return p,
@@ -74,10 +74,10 @@ fn encode_if(
     ds: &[u8],
     depth: u8,
     c: Condition,
-    start: Walk,
+    here: Walk,
 ) -> Walk
-    requires { ⌜ IfReady (now bytes) h t (now ds) depth c (now lits) start × (start .counts .ifs < 32) × SoundIf (now bytes) h c × Fine (now bytes) h × (isMade (start .reach .claim) ≡ false) ⌝ }
-    ensures { λ r. ⌜ IfEncoded (now (bytes .entry)) h t (now (ds .entry)) depth c (now (words .entry)) (now (starts .entry)) (now (lits .entry)) start (now (words .exit)) (now (starts .exit)) (now (lits .exit)) r ⌝ }
+    requires { ⌜ IfReady (now bytes) h t (now ds) depth c (now lits) here × (here .counts .ifs < 32) × SoundIf (now bytes) h c × Fine (now bytes) h × (isMade (here .reach .claim) ≡ false) ⌝ }
+    ensures { λ r. ⌜ IfEncoded (now (bytes .entry)) h t (now (ds .entry)) depth c (now (words .entry)) (now (starts .entry)) (now (lits .entry)) here (now (words .exit)) (now (starts .exit)) (now (lits .exit)) r ⌝ }
 {
     let len = lits.len();
     if len <= FEW_PLACES {
@@ -93,7 +93,7 @@ fn encode_if(
             ds,
             depth,
             c,
-            start,
+            here,
         );
     }
     let mut many = [0u32; MOST_PLACES];
@@ -108,7 +108,7 @@ fn encode_if(
         ds,
         depth,
         c,
-        start,
+        here,
     )
 }
 
@@ -124,25 +124,25 @@ fn encode_arms(
     ds: &[u8],
     depth: u8,
     c: Condition,
-    start: Walk,
+    here: Walk,
 ) -> Walk
-    requires { ⌜ IfReady (now bytes) h t (now ds) depth c (now lits) start × (start .counts .ifs < 32) × SoundIf (now bytes) h c × Fine (now bytes) h × (isMade (start .reach .claim) ≡ false) ⌝ }
+    requires { ⌜ IfReady (now bytes) h t (now ds) depth c (now lits) here × (here .counts .ifs < 32) × SoundIf (now bytes) h c × Fine (now bytes) h × (isMade (here .reach .claim) ≡ false) ⌝ }
     requires { ⌜ length (now other) ≡ length (now lits) ⌝ }
-    ensures { λ r. ⌜ IfEncoded (now (bytes .entry)) h t (now (ds .entry)) depth c (now (words .entry)) (now (starts .entry)) (now (lits .entry)) start (now (words .exit)) (now (starts .exit)) (now (lits .exit)) r ⌝ }
+    ensures { λ r. ⌜ IfEncoded (now (bytes .entry)) h t (now (ds .entry)) depth c (now (words .entry)) (now (starts .entry)) (now (lits .entry)) here (now (words .exit)) (now (starts .exit)) (now (lits .exit)) r ⌝ }
 {
-    let n = start.net;
-    let s = start.reach;
-    let k = start.counts;
+    let n = here.net;
+    let s = here.reach;
+    let k = here.counts;
     let deep = depth + 1;
     copy_bits(other, lits);
     let d = byte_at(ds, k.ifs as usize);
     let b = begin_if(words, starts, lits, n, bytes, h, c, d, s);
-    let p = in_first(start.next + 4, start, b);
+    let p = in_first(here.next + 4, here, b);
     let x = encode_arm(words, starts, lits, bytes, h, t, ds, deep, 0x0C, p);
     if is_over(x) {
         return x;
     }
-    let q = in_else(start, b, x);
+    let q = in_else(here, b, x);
     let y = encode_arm(words, starts, other, bytes, h, t, ds, deep, 0x0D, q);
     if is_over(y) {
         return y;

@@ -11,7 +11,7 @@ use Rattle.routine.specs.Decode.{decodeHead, decode, checkAnswer, routin
 
 -- what `check_commands` answers: the header is known to be whole
 unfoldable pub checkedCommands : List ℕ → Header → Checked
-checkedCommands bs h = checkAnswer (decodeHead bs (Head.Whole h))
+checkedCommands bs h = checkAnswer (decodeHead bs (Head.Valid h))
 
 -- the bytes are a routine with this header and these counts
 pub record IsRoutineWith (bs : List ℕ) (h : Header) (k : Counts) : Type 0 where

@@ -17,7 +17,7 @@ encode-simple-requires c κs = let p = c .before .before .before .before .before
 
 returns : tie.Need-returns
 returns c = let a = c .before .before .before .before .before .before .before .before .before .before .before .before .before .before .before .before .before .before .before .before .before .before .args in
-    arrives-by (c .before .before .before .before .before .before .before .before .encode-simple .ensures) (ap (λ (z : ℕ). a .start .next + z) (c .before .before .before .before .before .before .before .before .before .before .before .before .before .before .simple-size .ensures)) (c .before .before .before .before .before .before .before .before .before .before .before .before .counts-after .ensures)
+    arrives-by (c .before .before .before .before .before .before .before .before .encode-simple .ensures) (ap (λ (z : ℕ). a .here .next + z) (c .before .before .before .before .before .before .before .before .before .before .before .before .before .before .simple-size .ensures)) (c .before .before .before .before .before .before .before .before .before .before .before .before .counts-after .ensures)
 
 pub walk-simple-spec : {M : Type 1} → statement M
 walk-simple-spec =
