@@ -99,31 +99,17 @@ pub fn fit(
     let mut no_starts = [0u32; 0];
     let mut lits = [0u32; MOST_PLACES];
     let p = places_in(h);
+    let own = &mut lits[..p];
     let w = usable(words.len());
     let c = usable(starts.len());
-    let need = make(
-        &mut no_words,
-        &mut no_starts,
-        &mut lits[..p],
-        routine,
-        h,
-        t,
-        decisions,
-    );
+    let need = make(&mut no_words, &mut no_starts, own, routine, h, t, decisions);
     if w < need.words as usize {
         return Translated::Refused(Refusal::TooSmall(Buffer::Words));
     }
     if c < need.clauses as usize {
         return Translated::Refused(Refusal::TooSmall(Buffer::Starts));
     }
-    let made = make(
-        &mut words[..w],
-        &mut starts[..c],
-        &mut lits[..p],
-        routine,
-        h,
-        t,
-        decisions,
-    );
+    let used = &mut words[..w];
+    let made = make(used, &mut starts[..c], own, routine, h, t, decisions);
     Translated::Clauses(made)
 }

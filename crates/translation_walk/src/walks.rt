@@ -82,34 +82,12 @@ fn encode_if(
     let len = lits.len();
     if len <= FEW_PLACES {
         let mut few = [0u32; FEW_PLACES];
-        return encode_arms(
-            words,
-            starts,
-            lits,
-            &mut few[..len],
-            bytes,
-            h,
-            t,
-            ds,
-            depth,
-            c,
-            here,
-        );
+        let other = &mut few[..len];
+        return encode_arms(words, starts, lits, other, bytes, h, t, ds, depth, c, here);
     }
     let mut many = [0u32; MOST_PLACES];
-    encode_arms(
-        words,
-        starts,
-        lits,
-        &mut many[..len],
-        bytes,
-        h,
-        t,
-        ds,
-        depth,
-        c,
-        here,
-    )
+    let other = &mut many[..len];
+    encode_arms(words, starts, lits, other, bytes, h, t, ds, depth, c, here)
 }
 
 // Translates the if where the walk is. Its number is the count of the ifs before it. The else starts from the bits at the if, in `other`.

@@ -192,11 +192,11 @@ encode-arm-loop-again-2 t c = let m = c .before .before .before .before .before 
 encode-if-array-borrow-prefix-few : (t : ℕ) → encode-if-lts.Need-array-borrow-prefix-few (encode-if-calls t) (encode-if-at t) encode-if.Post
 encode-if-array-borrow-prefix-few t c = search needs
 
-encode-if-slice-aggregate-encode-arms : (t : ℕ) → encode-if-lts.Need-slice-aggregate-encode-arms (encode-if-calls t) (encode-if-at t) encode-if.Post
-encode-if-slice-aggregate-encode-arms t c = sym (length-take-le _ _ (encode-if-array-borrow-prefix-few t (c .before)))
+encode-if-slice-aggregate-other : (t : ℕ) → encode-if-lts.Need-slice-aggregate-other (encode-if-calls t) (encode-if-at t) encode-if.Post
+encode-if-slice-aggregate-other t c = sym (length-take-le _ _ (encode-if-array-borrow-prefix-few t (c .before)))
 
 encode-if-encode-arms-requires : (t : ℕ) → encode-if-lts.Need-encode-arms-requires (encode-if-calls t) (encode-if-at t) encode-if.Post
-encode-if-encode-arms-requires t c κs = let p = c .before .before .before .before .before .before .before .before .before .before .pre in (omega (arith, p .0), (p .1, length-take-le _ _ (encode-if-array-borrow-prefix-few t (c .before))))
+encode-if-encode-arms-requires t c κs = let p = c .before .before .before .before .before .before .before .before .before .before .pre in (omega (arith, p .0), (p .1, length-take-le _ _ (encode-if-array-borrow-prefix-few t (c .before .before .before .before))))
 
 encode-if-same-length : (t : ℕ) → encode-if-lts.Need-same-length (encode-if-calls t) (encode-if-at t) encode-if.Post
 encode-if-same-length t c = c .before .before .before .before .before .before .before .encode-arms .kept .0
@@ -211,13 +211,13 @@ encode-if-returns : (t : ℕ) → encode-if-lts.Need-returns (encode-if-calls t)
 encode-if-returns t c = c .before .before .before .before .before .before .before .encode-arms .ensures
 
 encode-if-array-borrow-prefix-many : (t : ℕ) → encode-if-lts.Need-array-borrow-prefix-many (encode-if-calls t) (encode-if-at t) encode-if.Post
-encode-if-array-borrow-prefix-many t c = search (needs, c .before .before .before .before .before .before .before .before .before .pre .1 .0 .places, c .before .before .before .before .before .before .before .before .before .pre .1 .3 .few)
+encode-if-array-borrow-prefix-many t c = let p = c .before .before .before .before .before .before .pre .1 in search (needs, p .0 .places, p .3 .few)
 
-encode-if-slice-aggregate-encode-arms-2 : (t : ℕ) → encode-if-lts.Need-slice-aggregate-encode-arms-2 (encode-if-calls t) (encode-if-at t) encode-if.Post
-encode-if-slice-aggregate-encode-arms-2 t c = sym (length-take-le _ _ (encode-if-array-borrow-prefix-many t (c .before)))
+encode-if-slice-aggregate-other-2 : (t : ℕ) → encode-if-lts.Need-slice-aggregate-other-2 (encode-if-calls t) (encode-if-at t) encode-if.Post
+encode-if-slice-aggregate-other-2 t c = sym (length-take-le _ _ (encode-if-array-borrow-prefix-many t (c .before)))
 
 encode-if-encode-arms-requires-2 : (t : ℕ) → encode-if-lts.Need-encode-arms-requires-2 (encode-if-calls t) (encode-if-at t) encode-if.Post
-encode-if-encode-arms-requires-2 t c κs = let p = c .before .before .before .before .before .before .before .before .before .before .pre in (omega (arith, p .0), (p .1, length-take-le _ _ (encode-if-array-borrow-prefix-many t (c .before))))
+encode-if-encode-arms-requires-2 t c κs = let p = c .before .before .before .before .before .before .before .before .before .before .pre in (omega (arith, p .0), (p .1, length-take-le _ _ (encode-if-array-borrow-prefix-many t (c .before .before .before .before))))
 
 encode-if-same-length-4 : (t : ℕ) → encode-if-lts.Need-same-length-4 (encode-if-calls t) (encode-if-at t) encode-if.Post
 encode-if-same-length-4 t c = c .before .before .before .before .before .before .before .encode-arms2 .kept .0
@@ -376,14 +376,14 @@ pub +encode-arm+encode-arms+encode-if-spec : {M : Type 1} → statement M
     (encode-if-at t)
     encode-if.Post
     (encode-if-array-borrow-prefix-few t)
-    (encode-if-slice-aggregate-encode-arms t)
+    (encode-if-slice-aggregate-other t)
     (encode-if-encode-arms-requires t)
     (encode-if-same-length t)
     (encode-if-same-length-2 t)
     (encode-if-same-length-3 t)
     (encode-if-returns t)
     (encode-if-array-borrow-prefix-many t)
-    (encode-if-slice-aggregate-encode-arms-2 t)
+    (encode-if-slice-aggregate-other-2 t)
     (encode-if-encode-arms-requires-2 t)
     (encode-if-same-length-4 t)
     (encode-if-same-length-5 t)
