@@ -48,8 +48,8 @@ ghost use Rattle.run.specs.Inner.Walker.{settled, isOver, isDone, wayAt,
 ghost use Rattle.run.specs.declared.Course.{Course};
 
 // Whether an arm taken at the if of this number is by the decisions, or the if does not matter on the way to the goal.
-fn keeps_to(decisions: &[u8], goal: Goal, number: u8, arm: u8) -> bool
-    ensures { λ r. ⌜ r ≡ keepsTo (now (decisions .entry)) goal number arm ⌝ }
+fn keeps_to(ds: &[u8], goal: Goal, number: u8, arm: u8) -> bool
+    ensures { λ r. ⌜ r ≡ keepsTo (now (ds .entry)) goal number arm ⌝ }
 {
     match goal {
         Goal::End => true,
@@ -57,7 +57,7 @@ fn keeps_to(decisions: &[u8], goal: Goal, number: u8, arm: u8) -> bool
             if before <= number {
                 return true;
             }
-            let decision = byte_at(decisions, number as usize);
+            let decision = byte_at(ds, number as usize);
             if decision == 2 {
                 return true;
             }
@@ -121,8 +121,8 @@ impl State {
     fn follow_arm(
         mut self,
         bytes: &[u8],
-        inputs: &[u32],
-        decisions: &[u8],
+        ins: &[u32],
+        ds: &[u8],
         goal: Goal,
         h: Header,
         depth: u8,
@@ -131,7 +131,7 @@ impl State {
         before: Counts,
     ) -> Way
         requires { ⌜ SomeArm (now bytes) h depth close from before × Fine (now bytes) h × (isOver (self .outcome) ≡ false) ⌝ }
-        ensures { λ r. ⌜ FollowsArm (now (bytes .entry)) (now (inputs .entry)) (now (decisions .entry)) goal h depth close (wayAt from before self Course.Passing) r ⌝ }
+        ensures { λ r. ⌜ FollowsArm (now (bytes .entry)) (now (ins .entry)) (now (ds .entry)) goal h depth close (wayAt from before self Course.Passing) r ⌝ }
     {
         let mut at = from;
         let mut k = before;
@@ -140,7 +140,7 @@ impl State {
                 Command::Missing => return way(at, k, self, Course::Passing),
                 Command::Close(_) => return way(at + 1, k, self, Course::Passing),
                 Command::If(c) => {
-                    let r = self.follow_if(bytes, inputs, decisions, goal, h, depth, c, at, k);
+                    let r = self.follow_if(bytes, ins, ds, goal, h, depth, c, at, k);
                     if is_done(r) {
                         return r;
                     }
@@ -158,7 +158,7 @@ impl State {
                             let d = o.d as usize;
                             let x = self.values[a];
                             let y = self.values[b];
-                            self.values[d] = value_after(bytes, h, inputs, c, k, x, y);
+                            self.values[d] = value_after(bytes, h, ins, c, k, x, y);
                             at += simple_size(c);
                             k = counts_after(c, k);
                         }
@@ -179,8 +179,8 @@ impl State {
     fn follow_if(
         self,
         bytes: &[u8],
-        inputs: &[u32],
-        decisions: &[u8],
+        ins: &[u32],
+        ds: &[u8],
         goal: Goal,
         h: Header,
         depth: u8,
@@ -189,28 +189,18 @@ impl State {
         k: Counts,
     ) -> Way
         requires { ⌜ SomeIf (now bytes) h depth at (countsAfterIf k) × (k .ifs < 32) × SoundIf (now bytes) h c × Fine (now bytes) h × (isOver (self .outcome) ≡ false) ⌝ }
-        ensures { λ r. ⌜ FollowsIf (now (bytes .entry)) (now (inputs .entry)) (now (decisions .entry)) goal h depth c (wayAt at k self Course.Passing) r ⌝ }
+        ensures { λ r. ⌜ FollowsIf (now (bytes .entry)) (now (ins .entry)) (now (ds .entry)) goal h depth c (wayAt at k self Course.Passing) r ⌝ }
     {
         let inside = counts_after_if(k);
         let a = c.s as usize;
         let b = c.t as usize;
         let arm = arm_at(bytes, h, c, self.values[a], self.values[b]);
-        if !keeps_to(decisions, goal, k.ifs, arm) {
+        if !keeps_to(ds, goal, k.ifs, arm) {
             return way(at, k, self, Course::Astray(k.ifs));
         }
         if arm == 0 {
             let first = self.with_arm(k.ifs, 0);
-            let r = first.follow_arm(
-                bytes,
-                inputs,
-                decisions,
-                goal,
-                h,
-                depth + 1,
-                0x0C,
-                at + 4,
-                inside,
-            );
+            let r = first.follow_arm(bytes, ins, ds, goal, h, depth + 1, 0x0C, at + 4, inside);
             if is_done(r) {
                 return r;
             }
@@ -223,17 +213,7 @@ impl State {
             let past = pass_arm(bytes, h, depth + 1, 0x0C, at + 4, inside);
             let between = past.counts;
             let second = self.with_arm(k.ifs, 1);
-            second.follow_arm(
-                bytes,
-                inputs,
-                decisions,
-                goal,
-                h,
-                depth + 1,
-                0x0D,
-                past.next,
-                between,
-            )
+            second.follow_arm(bytes, ins, ds, goal, h, depth + 1, 0x0D, past.next, between)
         }
     }
 }
@@ -270,23 +250,13 @@ fn is_done(w: Way) -> bool
 }
 
 // Follows the run of a routine on an input list as far as the goal. The state is that of the whole run only where the course is not settled.
-pub fn follow(routine: &[u8], inputs: &[u32], decisions: &[u8], goal: Goal, h: Header) -> Way
+pub fn follow(routine: &[u8], ins: &[u32], ds: &[u8], goal: Goal, h: Header) -> Way
     requires { ⌜ IsRoutine (now routine) h ⌝ }
-    ensures { λ r. ⌜ r .course ≡ courseTo (now (decisions .entry)) goal (runOf (now (routine .entry)) (now (inputs .entry)) h (commandsIn (now (routine .entry))) .events) ⌝ }
-    ensures { λ r. ⌜ (settled (r .course) ≡ false → r .state ≡ runOf (now (routine .entry)) (now (inputs .entry)) h (commandsIn (now (routine .entry))) .state) ⌝ }
+    ensures { λ r. ⌜ r .course ≡ courseTo (now (ds .entry)) goal (runOf (now (routine .entry)) (now (ins .entry)) h (commandsIn (now (routine .entry))) .events) ⌝ }
+    ensures { λ r. ⌜ (settled (r .course) ≡ false → r .state ≡ runOf (now (routine .entry)) (now (ins .entry)) h (commandsIn (now (routine .entry))) .state) ⌝ }
 {
     let nothing_yet = no_counts();
-    let begun = State::initial(inputs, given_of(h));
+    let begun = State::initial(ins, given_of(h));
     let first = first_command(h);
-    begun.follow_arm(
-        routine,
-        inputs,
-        decisions,
-        goal,
-        h,
-        0,
-        0x00,
-        first,
-        nothing_yet,
-    )
+    begun.follow_arm(routine, ins, ds, goal, h, 0, 0x00, first, nothing_yet)
 }
