@@ -7,8 +7,8 @@ use Rattle.routine_header.specs.Header.{firstCommand}
 use Rattle.routine_header.specs.declared.Header.{Header}
 use Rattle.routine_faults.specs.Step.{accesses}
 use Rattle.routine_faults.specs.declared.Counts.{Counts}
-use Rattle.run.specs.Side.{sideNumber}
-use Rattle.run.specs.declared.Side.{Side}
+use Rattle.run_state.specs.Side.{sideNumber}
+use Rattle.run_state.specs.declared.Side.{Side}
 use Rattle.translation_meaning.specs.declared.Size.{Size}
 
 -- 1 if a whole number is negative

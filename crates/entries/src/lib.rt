@@ -4,14 +4,14 @@ use routine_faults::Counts;
 use routine_faults::steps::accesses_of;
 use routine_header::Header;
 use routine_header::first_command;
-use run::Side;
+use run_state::Side;
 use translation_meaning::Size;
 ghost use mathlib.Core.Path.{_≡_};
 ghost use Prim.Native.Nat.{_≤_};
 ghost use mathlib.Core.List.{[], _∷_};
 ghost use lib.ListN.{length, set};
 ghost use lib.Seq.{sets};
-ghost use Rattle.run.specs.Side.{sideNumber};
+ghost use Rattle.run_state.specs.Side.{sideNumber};
 ghost use Rattle.entries.specs.Entry.{isNegative, magnitude, answerNumber, countsOf, stoppedOf, sizesOf, judgedOf};
 
 fn wide8(x: u8) -> u64

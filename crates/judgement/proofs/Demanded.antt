@@ -12,16 +12,16 @@ use Rattle.routine_faults.specs.declared.Counts.{Counts}
 use Rattle.routine.specs.Routine.{Arm}
 use Rattle.routine.specs.Access.{ifsBefore}
 use Rattle.routine.specs.Decode.{Decoded, rejected, routine, decode}
-use Rattle.run.specs.Side.{isOn}
-use Rattle.run.specs.State.{lies}
-use Rattle.run.proofs.Sides.{on-side}
+use Rattle.run_state.specs.Side.{isOn}
+use Rattle.run_state.specs.State.{lies}
+use Rattle.run_state.proofs.Sides.{on-side}
 use Rattle.run.specs.Answer.{ranBy}
 use Rattle.run_inputs.specs.Inputs.{listed}
-use Rattle.run.specs.Run.{runOf}
+use Rattle.run_state.specs.Run.{runOf}
 use Rattle.run_inputs.specs.declared.Listed.{Listed}
-use Rattle.run.proofs.Outside.{Ends, ends-at, ends}
-use Rattle.run.specs.Goes.{goesWay, Comes}
-use Rattle.run.proofs.Arriving.{arrival}
+use Rattle.run_state.proofs.Outside.{Ends, ends-at, ends}
+use Rattle.run_state.specs.Goes.{goesWay, Comes}
+use Rattle.run_state.proofs.Arriving.{arrival}
 use Rattle.cnf.specs.Clause.{Clause}
 use Rattle.cnf.specs.Meaning.{Assign, lit, satClause, sat}
 use Rattle.netlist.specs.Node.{netlistClauses}

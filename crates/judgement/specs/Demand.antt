@@ -10,15 +10,15 @@ use Rattle.routine_faults.specs.declared.Counts.{Counts}
 use Rattle.routine.specs.Routine.{Arm}
 use Rattle.routine.specs.Access.{ifsBefore}
 use Rattle.routine.specs.Decode.{routine, decode}
-use Rattle.run.specs.Side.{sideNumber, isOn}
-use Rattle.run.specs.State.{lies}
-use Rattle.run.specs.declared.Side.{Side}
+use Rattle.run_state.specs.Side.{sideNumber, isOn}
+use Rattle.run_state.specs.State.{lies}
+use Rattle.run_state.specs.declared.Side.{Side}
 use Rattle.run.specs.Answer.{ranBy}
 use Rattle.run_inputs.specs.Inputs.{listed}
-use Rattle.run.specs.Run.{Execution, runOf}
+use Rattle.run_state.specs.Run.{Execution, runOf}
 use Rattle.run_inputs.specs.declared.Listed.{Listed}
 use Rattle.run.specs.declared.Ran.{Ran}
-use Rattle.run.specs.Goes.{goesWay, Comes}
+use Rattle.run_state.specs.Goes.{goesWay, Comes}
 use Rattle.witness.specs.Lead.{decisionsIn, witnessIn}
 use Rattle.judgement.specs.declared.Judged.{Judged}
 

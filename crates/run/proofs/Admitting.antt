@@ -19,14 +19,14 @@ use Rattle.routine.proofs.Accepted.{accepted, refused-by, decoded, commands-are
 use Rattle.routine.proofs.Counting.{few-ifs}
 use Rattle.routine_faults.proofs.Fine.{fine}
 use Rattle.run_inputs.specs.Inputs.{listed}
-use Rattle.run.specs.State.{over}
-use Rattle.run.specs.Run.{runOf}
+use Rattle.run_state.specs.State.{over}
+use Rattle.run_state.specs.Run.{runOf}
 use Rattle.run.specs.Answer.{RunAdmission, refused, runs, byList, runByRoutine, runAdmission, ranBy, runAnswer, RunAnswers}
 use Rattle.run.specs.Inner.Admitted.{runWithoutTree, admittedRoom, runAdmitted}
 use Rattle.run_inputs.specs.declared.Listed.{Listed}
 use Rattle.run.specs.declared.Refusal.{Refusal}
 use Rattle.run.specs.declared.AdmittedRun.{AdmittedRun}
-use Rattle.run.specs.declared.State.{State}
+use Rattle.run_state.specs.declared.State.{State}
 use Rattle.run.specs.declared.Ran.{Ran}
 
 -- ---- the routine

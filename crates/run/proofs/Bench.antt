@@ -14,10 +14,10 @@ use Rattle.routine_faults.specs.Step.{inRange, widthsFit, tooMany, simpleStep, 
 use Rattle.routine.specs.Routine.{textOf, armBy}
 use Rattle.routine.specs.Decode.{decode}
 use Rattle.run_inputs.specs.Inputs.{variablesFrom, readVariables, firstGreat, listed}
-use Rattle.run.specs.State.{over, initial, indexOf, lies, executed}
-use Rattle.run.specs.Run.{runArm, runOf}
+use Rattle.run_state.specs.State.{over, initial, indexOf, lies, executed}
+use Rattle.run_state.specs.Run.{runArm, runOf}
 use Rattle.run.specs.Answer.{RunAnswer, runAdmission, runAnswer}
-use Rattle.run.specs.declared.Side.the-variants.{Below, Above}
+use Rattle.run_state.specs.declared.Side.the-variants.{Below, Above}
 use Rattle.run.specs.declared.Ran.{Ran}
 
 -- one variable of 8 bits, a parameter; one array of 100; a write at that variable; the end

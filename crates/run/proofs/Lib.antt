@@ -1,17 +1,3 @@
--- What the proofs of several functions use, and the laws for the layers above.
-mod Laid
-mod InRange
-mod Moving
-pub mod Sides
-pub mod Laws
-mod Touching
-mod Following
-mod Reaching
-mod Parting
-mod Wholes
+-- What the proofs of several functions use.
 mod Admitting
 mod Bench
-pub mod Ordered
-pub mod Arriving
-pub mod Outside
-pub mod Words

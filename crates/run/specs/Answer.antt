@@ -11,11 +11,11 @@ use Rattle.routine.specs.Decode.{Decoded, rejected, routine, decode}
 use Rattle.routine_header.specs.declared.Header.{Header}
 use Rattle.routine_faults.specs.declared.Counts.{Counts}
 use Rattle.run_inputs.specs.Inputs.{listed}
-use Rattle.run.specs.State.{over}
-use Rattle.run.specs.Run.{runOf}
+use Rattle.run_state.specs.State.{over}
+use Rattle.run_state.specs.Run.{runOf}
 use Rattle.run_inputs.specs.declared.Listed.{Listed}
-use Rattle.run.specs.declared.Outcome.{Outcome}
-use Rattle.run.specs.declared.State.{State}
+use Rattle.run_state.specs.declared.Outcome.{Outcome}
+use Rattle.run_state.specs.declared.State.{State}
 use Rattle.run.specs.declared.Refusal.{Refusal}
 use Rattle.run.specs.declared.Ran.{Ran}
 

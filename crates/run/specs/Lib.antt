@@ -1,7 +1,2 @@
-pub mod Side
-pub mod State
-pub mod Run
-pub mod Course
-pub mod Goes
 pub mod Answer
 pub mod Inner

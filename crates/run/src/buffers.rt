@@ -1,9 +1,9 @@
 // Handing values and trail out into the lent buffers.
-use crate::State;
+use run_state::State;
 ghost use mathlib.Core.Path.{_≡_};
 ghost use Prim.Native.Nat.{_≤_};
 ghost use lib.ListN.{length};
-ghost use Rattle.run.specs.State.{over};
+ghost use Rattle.run_state.specs.State.{over};
 
 // The first n values go into the lent buffer.
 pub fn hand_out_values(state: State, n: u8, values: &mut [u32])

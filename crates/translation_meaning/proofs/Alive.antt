@@ -14,10 +14,10 @@ use Rattle.routine_header.specs.declared.Header.{Header}
 use Rattle.routine_faults.specs.declared.Counts.{Counts}
 use Rattle.routine.proofs.Views.{induction}
 use Rattle.routine.proofs.Numbering.{EachIf, Before}
-use Rattle.run.specs.State.{withArm, holds, executed}
-use Rattle.run.specs.Run.{took, eventsAt, runArm, Execution, eventsThen, runOn}
-use Rattle.run.specs.declared.State.{State}
-use Rattle.run.specs.Course.{courseTo, course}
+use Rattle.run_state.specs.State.{withArm, holds, executed}
+use Rattle.run_state.specs.Run.{took, eventsAt, runArm, Execution, eventsThen, runOn}
+use Rattle.run_state.specs.declared.State.{State}
+use Rattle.run_state.specs.Course.{courseTo, course}
 use Rattle.cnf.specs.Meaning.{Assign}
 use Rattle.netlist.specs.Meaning.{Inputs}
 use Rattle.netlist.proofs.Truth.{Models, models-append}
@@ -31,7 +31,7 @@ use Rattle.translation_meaning.proofs.Claimed.{simple-claims, fork-clai
 use Rattle.translation_meaning.proofs.Dead.{Deadens, arm-dead}
 use Rattle.run_inputs.proofs.Fitting.{Fit}
 use Rattle.translation_meaning.proofs.Forks.{Runs, Arms, fork-alive}
-use Rattle.run.proofs.Ordered.{accesses-grow}
+use Rattle.run_state.proofs.Ordered.{accesses-grow}
 use Rattle.translation_meaning.proofs.Numbers.{Elsewhere, misses}
 use Rattle.translation_meaning.proofs.Simples.{alive-through, simple-alive}
 use Rattle.routine_faults.proofs.Tests.{not-both}

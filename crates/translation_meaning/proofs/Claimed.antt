@@ -21,7 +21,7 @@ use Rattle.translation_meaning.specs.Walk.{encodeOn, encodeIf, encodeArm
 use Rattle.translation_if.specs.If.{joinArms}
 use Rattle.translation_state.specs.declared.Claim.{Claim}
 use Rattle.lead.specs.declared.Target.{Target}
-use Rattle.run.proofs.Ordered.{after-grows, accesses-grow}
+use Rattle.run_state.proofs.Ordered.{after-grows, accesses-grow}
 use Rattle.routine_faults.proofs.Tests.{not-both}
 use Rattle.translation_meaning.proofs.Stretches.{then-by, access-by, fork-by, firstFrom, firstWires, firstOf, secondFrom, secondWires, secondOf}
 

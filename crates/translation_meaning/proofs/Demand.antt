@@ -22,16 +22,16 @@ use Rattle.routine.proofs.Accepted.{decoded}
 use Rattle.routine.proofs.Numbering.{ifs-before}
 use Rattle.routine_faults.proofs.Fine.{fine}
 use Rattle.run_inputs.specs.Inputs.{listed}
-use Rattle.run.specs.State as state
-use Rattle.run.specs.Side.{isOn}
-use Rattle.run.specs.State.{lies}
-use Rattle.run.specs.Run.{Event, runOf}
-use Rattle.run.specs.Course.{course}
-use Rattle.run.specs.Goes.{goesWay, Comes, Reaches}
-use Rattle.run.proofs.Arriving.{arrival}
+use Rattle.run_state.specs.State as state
+use Rattle.run_state.specs.Side.{isOn}
+use Rattle.run_state.specs.State.{lies}
+use Rattle.run_state.specs.Run.{Event, runOf}
+use Rattle.run_state.specs.Course.{course}
+use Rattle.run_state.specs.Goes.{goesWay, Comes, Reaches}
+use Rattle.run_state.proofs.Arriving.{arrival}
 use Rattle.run_inputs.specs.declared.Listed.{Listed}
-use Rattle.run.specs.declared.State.{State}
-use Rattle.run.specs.declared.Course.{Course}
+use Rattle.run_state.specs.declared.State.{State}
+use Rattle.run_state.specs.declared.Course.{Course}
 use Rattle.netlist.specs.declared.Node.{Node}
 use Rattle.cnf.specs.Meaning.{Assign, lit}
 use Rattle.netlist.specs.Meaning.{Inputs}

@@ -15,11 +15,11 @@ use Rattle.routine_faults.specs.Inner.Sound.{SoundIf, Fine}
 use Rattle.routine_header.specs.declared.Header.{Header}
 use Rattle.routine_command.specs.declared.Condition.{Condition}
 use Rattle.routine_faults.proofs.Fine.{condition-fine}
-use Rattle.run.specs.State.{withArm, holds}
-use Rattle.run.specs.Run.{took, Execution, eventsThen}
-use Rattle.run.specs.declared.State.{State}
-use Rattle.run.specs.Course.{follows, courseTo, course}
-use Rattle.run.specs.declared.Course.{Course}
+use Rattle.run_state.specs.State.{withArm, holds}
+use Rattle.run_state.specs.Run.{took, Execution, eventsThen}
+use Rattle.run_state.specs.declared.State.{State}
+use Rattle.run_state.specs.Course.{follows, courseTo, course}
+use Rattle.run_state.specs.declared.Course.{Course}
 use Rattle.cnf.specs.Meaning.{Assign, lit}
 use Rattle.netlist.specs.Meaning.{Inputs}
 use Rattle.netlist.proofs.Truth.{Models, models-append}

@@ -14,13 +14,13 @@ use Rattle.routine_header.specs.declared.Header.{Header}
 use Rattle.routine_faults.specs.declared.Counts.{Counts}
 use Rattle.routine_command.specs.declared.Touch.{Touch}
 use Rattle.routine.proofs.Views.{induction}
-use Rattle.run.specs.State.{withArm, holds, executed}
-use Rattle.run.specs.Run.{took, came, eventsBy, eventsAt, runArm, Execution, eventsThen, runOn}
-use Rattle.run.specs.declared.State.{State}
-use Rattle.run.specs.Course.{keeps, courseTo, course}
-use Rattle.run.specs.declared.Course.{Course}
-use Rattle.run.proofs.Laws.{onward, course-append}
-use Rattle.run.proofs.Ordered.{run-then-by, after-grows, accesses-grow}
+use Rattle.run_state.specs.State.{withArm, holds, executed}
+use Rattle.run_state.specs.Run.{took, came, eventsBy, eventsAt, runArm, Execution, eventsThen, runOn}
+use Rattle.run_state.specs.declared.State.{State}
+use Rattle.run_state.specs.Course.{keeps, courseTo, course}
+use Rattle.run_state.specs.declared.Course.{Course}
+use Rattle.run_state.proofs.Laws.{onward, course-append}
+use Rattle.run_state.proofs.Ordered.{run-then-by, after-grows, accesses-grow}
 use Rattle.translation_meaning.proofs.Stretches.{by-cond}
 
 -- ---- a course that goes on

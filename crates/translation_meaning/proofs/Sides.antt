@@ -8,11 +8,11 @@ use native.Mathlib.Omega.{arith}
 use lib.Dec.{ltb, leb}
 use Rattle.bitvec.specs.Signed.{signed}
 use Rattle.bitvec.specs.declared.Whole.{Whole}
-use Rattle.run.specs.Side.{isOn}
-use Rattle.run.specs.State.{lies}
-use Rattle.run.specs.declared.Lies.{Lies}
-use Rattle.run.specs.declared.Side.{Side}
-use Rattle.run.specs.declared.Side.the-variants.{Below, Above}
+use Rattle.run_state.specs.Side.{isOn}
+use Rattle.run_state.specs.State.{lies}
+use Rattle.run_state.specs.declared.Lies.{Lies}
+use Rattle.run_state.specs.declared.Side.{Side}
+use Rattle.run_state.specs.declared.Side.the-variants.{Below, Above}
 use Rattle.cnf.specs.Meaning.{Assign, lit}
 use Rattle.netlist.specs.Meaning.{Inputs}
 use Rattle.netlist.proofs.Truth.{Models}

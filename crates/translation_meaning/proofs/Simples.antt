@@ -20,14 +20,14 @@ use Rattle.routine_header.specs.declared.Header.{Header}
 use Rattle.routine_faults.specs.declared.Counts.{Counts}
 use Rattle.routine_command.specs.declared.Simple.{Simple}
 use Rattle.routine_faults.proofs.Fine.{set-fine, convert-fine, compute-fine, read-fine, write-fine}
-use Rattle.run.specs.State as state
-use Rattle.run.specs.State.{converted, computed, indexOf, lies, arrive, accessed, executed}
-use Rattle.run.specs.Run.{came, eventsAt}
-use Rattle.run.specs.declared.Lies.{Lies}
-use Rattle.run.specs.declared.Outcome.{Outcome}
-use Rattle.run.specs.declared.State.{State}
-use Rattle.run.specs.Course.{courseTo, course}
-use Rattle.run.specs.declared.Course.{Course}
+use Rattle.run_state.specs.State as state
+use Rattle.run_state.specs.State.{converted, computed, indexOf, lies, arrive, accessed, executed}
+use Rattle.run_state.specs.Run.{came, eventsAt}
+use Rattle.run_state.specs.declared.Lies.{Lies}
+use Rattle.run_state.specs.declared.Outcome.{Outcome}
+use Rattle.run_state.specs.declared.State.{State}
+use Rattle.run_state.specs.Course.{courseTo, course}
+use Rattle.run_state.specs.declared.Course.{Course}
 use Rattle.netlist.specs.declared.Node.{Node}
 use Rattle.cnf.specs.Meaning.{Assign, lit}
 use Rattle.netlist.specs.Meaning.{Inputs}

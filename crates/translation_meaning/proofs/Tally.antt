@@ -10,14 +10,14 @@ use Rattle.bitvec.specs.declared.Whole.{Whole}
 use Rattle.routine_header.specs.Header.{arraySize}
 use Rattle.routine_faults.specs.Inner.Sound.{Fine}
 use Rattle.routine_header.specs.declared.Header.{Header}
-use Rattle.run.specs.Side.{isOn}
-use Rattle.run.specs.State.{lies}
-use Rattle.run.specs.Run.{Execution, runOn}
-use Rattle.run.specs.Inner.Walker.{isOver}
-use Rattle.run.specs.declared.Outcome.{Outcome}
-use Rattle.run.specs.declared.State.{State}
-use Rattle.run.specs.Course.{course}
-use Rattle.run.specs.declared.Course.{Course}
+use Rattle.run_state.specs.Side.{isOn}
+use Rattle.run_state.specs.State.{lies}
+use Rattle.run_state.specs.Run.{Execution, runOn}
+use Rattle.run_state.specs.Inner.Walker.{isOver}
+use Rattle.run_state.specs.declared.Outcome.{Outcome}
+use Rattle.run_state.specs.declared.State.{State}
+use Rattle.run_state.specs.Course.{course}
+use Rattle.run_state.specs.declared.Course.{Course}
 use Rattle.cnf.specs.Meaning.{Assign, lit}
 use Rattle.translation_command.specs.Command.{Encoding, nodesThen}
 use Rattle.translation_state.specs.Wires.{Wires, isMade}
@@ -25,8 +25,8 @@ use Rattle.translation_meaning.specs.Walk.{encodeOn}
 use Rattle.translation_state.specs.declared.Claim.{Claim}
 use Rattle.lead.specs.declared.Target.{Target}
 use Rattle.translation_meaning.proofs.Claimed.{open-of}
-use Rattle.run.proofs.Laws.{onward, course-append}
-use Rattle.run.proofs.Ordered.{run-then-by}
+use Rattle.run_state.proofs.Laws.{onward, course-append}
+use Rattle.run_state.proofs.Ordered.{run-then-by}
 use Rattle.translation_meaning.proofs.Numbers.{Elsewhere, elsewhere-then}
 use Rattle.routine_faults.proofs.Tests.{not-both}
 use Rattle.translation_meaning.proofs.Worth.{Worth}

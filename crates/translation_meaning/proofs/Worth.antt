@@ -14,7 +14,7 @@ use Rattle.slices.specs.Bytes.{entry}
 use Rattle.routine_header.specs.Header.{width}
 use Rattle.routine_faults.specs.Inner.Sound.{Fine}
 use Rattle.routine_header.specs.declared.Header.{Header}
-use Rattle.run.specs.State.{over}
+use Rattle.run_state.specs.State.{over}
 use Rattle.cnf.specs.Meaning.{Assign, lit}
 use Rattle.netlist.specs.Meaning.{Inputs}
 use Rattle.netlist.proofs.Literals.{lit-false}

@@ -13,11 +13,11 @@ use Rattle.routine.specs.Access.{ifsBefore}
 use Rattle.routine_header.specs.declared.Header.{Header}
 use Rattle.routine_faults.specs.declared.Counts.{Counts}
 use Rattle.run_inputs.specs.Inputs.{listed}
-use Rattle.run.specs.Side.{isOn}
-use Rattle.run.specs.State.{lies}
-use Rattle.run.specs.Run.{runOf}
+use Rattle.run_state.specs.Side.{isOn}
+use Rattle.run_state.specs.State.{lies}
+use Rattle.run_state.specs.Run.{runOf}
 use Rattle.run_inputs.specs.declared.Listed.{Listed}
-use Rattle.run.specs.Goes.{goesWay, Comes, Reaches}
+use Rattle.run_state.specs.Goes.{goesWay, Comes, Reaches}
 use Rattle.arithmetic.specs.Input.{bitsOfWord}
 use Rattle.netlist.specs.Node.{netlistClauses}
 use Rattle.cnf.specs.Meaning.{Assign, lit, sat}

@@ -8,10 +8,10 @@ use Rattle.routine_faults.specs.declared.Counts.{Counts}
 use Rattle.routine.specs.Routine.{Arm}
 use Rattle.routine.specs.Access.{ifsBefore}
 use Rattle.run_inputs.specs.Inputs.{listed}
-use Rattle.run.specs.Run.{runOf}
+use Rattle.run_state.specs.Run.{runOf}
 use Rattle.run_inputs.specs.declared.Listed.{Listed}
-use Rattle.run.specs.Course.{course}
-use Rattle.run.specs.declared.Course.{Course}
+use Rattle.run_state.specs.Course.{course}
+use Rattle.run_state.specs.declared.Course.{Course}
 use Rattle.lead.specs.declared.Target.{Target}
 use Rattle.routine_faults.specs.Inputs.{inputCount}
 use Rattle.witness.specs.Lead.{decisionsIn, wordsFrom, witnessIn, leadOf}

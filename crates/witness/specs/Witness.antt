@@ -8,13 +8,13 @@ use Rattle.routine_header.specs.declared.Header.{Header}
 use Rattle.routine_faults.specs.declared.Counts.{Counts}
 use Rattle.routine.specs.Routine.{Arm}
 use Rattle.routine.specs.Access.{ifsBefore}
-use Rattle.run.specs.Side.{isOn}
-use Rattle.run.specs.State.{lies}
+use Rattle.run_state.specs.Side.{isOn}
+use Rattle.run_state.specs.State.{lies}
 use Rattle.run_inputs.specs.Inputs.{listed}
-use Rattle.run.specs.Run.{runOf}
+use Rattle.run_state.specs.Run.{runOf}
 use Rattle.run_inputs.specs.declared.Listed.{Listed}
-use Rattle.run.specs.Course.{course}
-use Rattle.run.specs.declared.Course.{Course}
+use Rattle.run_state.specs.Course.{course}
+use Rattle.run_state.specs.declared.Course.{Course}
 use Rattle.lead.specs.declared.Target.{Target}
 use Rattle.witness.specs.Lead.{decisionsIn, witnessIn, leadOf}
 use Rattle.witness.specs.declared.Refusal.{Refusal}

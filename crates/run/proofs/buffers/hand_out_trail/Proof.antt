@@ -1,8 +1,8 @@
 use mathlib.Core.Path.{_≡_}
 use Prim.Native.Nat.{_≤_, _-_}
 use native.Mathlib.Omega.{arith}
-use Rattle.run.specs.State.{over}
-use Rattle.run.proofs.Laid.{laid-none, laid-next, laid-length, laid-all}
+use Rattle.run_state.specs.State.{over}
+use Rattle.run_state.proofs.Laid.{laid-none, laid-next, laid-length, laid-all}
 use Rattle.run.proofs.buffers.hand_out_trail.Statement.{statement}
 use Rattle.run.proofs.buffers.hand_out_trail.Tie as tie
 

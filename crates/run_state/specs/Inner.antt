@@ -1,0 +1,3 @@
+-- What inner functions ask and tell each other. No promise of a public call rests on it.
+pub mod Moves
+pub mod Walker
