@@ -23,7 +23,7 @@ use Rattle.netlist.specs.Node.{netlistClauses}
 use Rattle.netlist.specs.Inner.Emit.{Emitted, Ready}
 use Rattle.netlist.specs.declared.Net.{Net}
 use Rattle.netlist.proofs.Emitting.{emitted-then, ready-after, ready-clauses}
-use Rattle.translation_command.specs.Command.{Encoding, nodesThen}
+use Rattle.translation_command.specs.Command.{Encoding}
 use Rattle.translation_meaning.specs.Walk.{encodeArm}
 use Rattle.translation_meaning.specs.Translation.{parameterNodes, initialWires, translationOf, lastClauses, clausesOfAll, translationSize}
 use Rattle.translation_walk.specs.Inner.Walker.{wiresAt, beginning, WalksTo, Roomy, ArmEncoded, ArmReady, Begun, ClaimEncoded, noStore}

@@ -11,11 +11,11 @@ use netlist::opposite;
 use routine_header::Header;
 use routine_header::first_command;
 use slices::Buffer;
+use slices::fill_words;
 use slices::usable;
 use translation_meaning::Size;
 use translation_state::Claim;
 use translation_state::MOST_PLACES;
-use translation_state::literals::clear_bits;
 use translation_state::literals::places_in;
 use translation_walk::parameters::begin_parameters;
 use translation_walk::parameters::first_walk;
@@ -44,7 +44,7 @@ fn append_claim(words: &mut [u32], starts: &mut [u32], s: Store, claim: Claim) -
     }
 }
 
-// Variable 1, the parameters, the commands as far as the named access, and the last two clauses. The literals of the bits go into lits.
+// Variable 1, the parameters, the commands as far as the named access, and the last two clauses. The literals of the bits go into lits; those that no input has begin as 3.
 fn make(
     words: &mut [u32],
     starts: &mut [u32],
@@ -67,7 +67,7 @@ fn make(
         next: 1,
     };
     let n = emit(words, starts, empty, Node::One);
-    clear_bits(lits);
+    fill_words(lits, 3);
     let net = begin_parameters(lits, n, bytes, h);
     let p = first_walk(first_command(h), net);
     let r = encode_arm(words, starts, lits, bytes, h, t, decisions, 0, 0x00, p);

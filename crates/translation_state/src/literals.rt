@@ -5,7 +5,7 @@ use crate::VARIABLE_PLACES;
 use routine_header::Header;
 ghost use mathlib.Core.Path.{_≡_};
 ghost use Prim.Native.Nat.{_≤_, _+_};
-ghost use lib.ListN.{length, replicate};
+ghost use lib.ListN.{length};
 ghost use lib.Seq.{sets};
 ghost use Rattle.translation_state.specs.Wires.{allPlaces, isMade, placeOf};
 ghost use Rattle.translation_state.specs.Inner.Reach.{reaching};
@@ -34,17 +34,6 @@ pub fn places_in(h: Header) -> usize
     ensures { λ r. ⌜ r ≡ allPlaces h ⌝ }
 {
     VARIABLE_PLACES * (h.variables as usize)
-}
-
-// Every bit becomes literal 3, as those begin that no input has.
-pub fn clear_bits(lits: &mut [u32])
-    ensures { λ _. ⌜ now (lits .exit) ≡ replicate (length (now (lits .entry))) 3 ⌝ }
-{
-    let mut i = 0;
-    while i < lits.len() {
-        lits[i] = 3;
-        i += 1;
-    }
 }
 
 // The literals, copied: an else starts from those at its if.

@@ -10,7 +10,7 @@ use Rattle.translation.proofs.fitting.make.Tie as tie
 
 begin-parameters-requires : tie.Need-begin-parameters-requires
 begin-parameters-requires c κs = let b = c .before .before .before in let e = c .before .before .before .before .before .before .before .before .before in let p = c .before .before .before .before .before .before .before .before .before .before .before .before .before .before .before .before .before .pre in
-    ((b .clear-bits .kept .0 ∙ p .1, b .clear-bits .ensures ∙ ap (λ (n : ℕ). replicate n 3) (sym (b .clear-bits .kept .0))), ((begin-ready (p .0) (e .emit .ensures), e .emit .ensures .next), fine-here _ _ (p .0)))
+    ((b .fill-words .kept .0 ∙ p .1, b .fill-words .ensures ∙ ap (λ (n : ℕ). replicate n 3) (sym (b .fill-words .kept .0))), ((begin-ready (p .0) (e .emit .ensures), e .emit .ensures .next), fine-here _ _ (p .0)))
 
 encode-arm-requires : tie.Need-encode-arm-requires
 encode-arm-requires c κs = let i = c .before .before .before .before .before .before .before .before .before .before .before .before .before .before .before .before .before .before .before .before .before .before .before .before .before .pre .0 in
@@ -38,7 +38,7 @@ same-length-2 : tie.Need-same-length-2
 same-length-2 c = returns c .starts-long
 
 same-length-3 : tie.Need-same-length-3
-same-length-3 c = c .before .before .before .before .before .before .before .before .before .before .before .before .before .before .before .before .before .encode-arm .kept .1 .1 .0 ∙ c .before .before .before .before .before .before .before .before .before .before .before .before .before .before .before .before .before .before .before .before .before .before .before .before .before .begin-parameters .kept .0 ∙ c .before .before .before .before .before .before .before .before .before .before .before .before .before .before .before .before .before .before .before .before .before .before .before .before .before .before .before .before .before .clear-bits .kept .0
+same-length-3 c = c .before .before .before .before .before .before .before .before .before .before .before .before .before .before .before .before .before .encode-arm .kept .1 .1 .0 ∙ c .before .before .before .before .before .before .before .before .before .before .before .before .before .before .before .before .before .before .before .before .before .before .before .before .before .begin-parameters .kept .0 ∙ c .before .before .before .before .before .before .before .before .before .before .before .before .before .before .before .before .before .before .before .before .before .before .before .before .before .before .before .before .before .fill-words .kept .0
 
 pub make-spec : {M : Type 1} → statement M
 make-spec =

@@ -1,5 +1,4 @@
 use mathlib.Core.Path.{sym, _∙_}
-use denote.Ref.{now}
 use borrow.Author.Needs.{needs}
 use Rattle.translation_state.proofs.Overlay.{sets-whole}
 use Rattle.translation_state.proofs.literals.copy_bits.Statement.{statement}
