@@ -5,7 +5,7 @@ use mathlib.Core.Path.{_∙_, _≡_, ap, ap₂, subst, sym}
 use Prim.Native.Nat.{_*_, _+_, _-_, _<_, _^_, _≤_, suc, zero, ℕ}
 use native.Mathlib.Nat.{pow-suc}
 use native.Mathlib.Omega.{arith}
-use lib.Dec.{eqb, leb, ltb}
+use lib.Dec.{eqb, ltb}
 use lib.ListN.{length}
 use borrow.Author.Tests.{le-ltb, lt-ltb}
 use Rattle.bitvec.proofs.Laws.{signed-high, signed-low}

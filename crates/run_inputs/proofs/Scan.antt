@@ -9,11 +9,11 @@ use lib.Dec.{ltb, eqb}
 use borrow.Author.Tests.{ne-eqb}
 use Rattle.slices.specs.Bytes.{entry, word}
 use Rattle.routine_header.specs.Header.{width, firstCommand, between}
-use Rattle.routine_command.specs.Command.{commandSize, sizeByOp, simpleSize, commandBy, commandOf, commandAt, touches}
+use Rattle.routine_command.specs.Command.{commandSize, sizeByOp, commandBy, commandOf, commandAt, touches}
 use Rattle.routine_faults.specs.Step.{countsAfter}
-use Rattle.routine_faults.specs.Inputs.{given, inputNumber, inputCount}
+use Rattle.routine_faults.specs.Inputs.{given, inputCount}
 use Rattle.routine.specs.Routine.{Arm, textOf}
-use Rattle.routine.specs.Decode.{routine, decode, commandsIn}
+use Rattle.routine.specs.Decode.{commandsIn}
 use Rattle.routine.specs.Inner.Stands.{Stands}
 use Rattle.routine.specs.Inner.Known.{IsRoutineWith}
 use Rattle.routine_header.specs.declared.Header.{Header}

@@ -9,7 +9,6 @@ use Rattle.routine_header.specs.declared.Header.{Header}
 use Rattle.routine_faults.specs.Inner.Sound.{Fine}
 use Rattle.routine_faults.specs.Inputs.{given}
 use Rattle.routine_faults.proofs.Fine.{fine}
-use Rattle.routine.specs.Routine.{Arm}
 use Rattle.routine.specs.Decode.{noCounts, commandsIn, IsRoutine}
 use Rattle.routine.specs.Inner.Stands.{SomeArm}
 use Rattle.routine.proofs.Accepted.{decoded, commands-are}

@@ -2,7 +2,7 @@
 use mathlib.Core.Path.{_≡_, refl, subst}
 use mathlib.Core.List.{List, [], _∷_}
 use mathlib.Core.Bool.{Bool, true, false, cond}
-use Prim.Native.Nat.{ℕ, zero, suc, _+_, _^_, _≤_, _<_}
+use Prim.Native.Nat.{ℕ, zero, suc, _^_, _<_}
 use native.Mathlib.Nat.{mod-lt, lt-of-lt-of-le}
 use native.Mathlib.Omega.{arith}
 use lib.ListN.{length, set, replicate}
@@ -16,14 +16,13 @@ use Rattle.bitvec.specs.declared.Whole.{Whole}
 use Rattle.bitvec.proofs.Laws.{add-below, subtract-below, multiply-below, extend-below}
 use Rattle.routine_header.specs.Header.{width, arraySize, firstCommand, between}
 use Rattle.routine_header.specs.declared.Header.{Header}
-use Rattle.routine_command.specs.declared.Condition.{Condition}
 use Rattle.routine_command.specs.declared.Simple.{Simple}
 use Rattle.routine_faults.specs.Step.{accesses, converts, widthsFit}
 use Rattle.routine_faults.specs.Inputs.{given}
-use Rattle.routine_faults.specs.Inner.Sound.{Sound, Fine}
+use Rattle.routine_faults.specs.Inner.Sound.{Sound}
 use Rattle.routine_faults.specs.declared.Counts.{Counts}
-use Rattle.routine_faults.proofs.Fine.{fine, set-fine, convert-fine}
-use Rattle.routine.specs.Routine.{Arm, done, plain, ifElse}
+use Rattle.routine_faults.proofs.Fine.{set-fine, convert-fine}
+use Rattle.routine.specs.Routine.{Arm}
 use Rattle.routine.specs.Decode.{routine, decode, noCounts}
 use Rattle.routine.specs.Inner.Stands.{Stands}
 use Rattle.routine.proofs.Accepted.{decoded}
@@ -35,7 +34,7 @@ use Rattle.run_state.specs.declared.State.{State}
 use Rattle.run_inputs.specs.Inputs.{listed}
 use Rattle.run_inputs.specs.declared.Listed.{Listed}
 use Rattle.run_inputs.proofs.Fitting.{FitSimple, Fit, fitting}
-use Rattle.run_state.specs.Run.{Event, took, Execution, unlessStopped, runOn, eventsAt, runArm, runOf, eventsThen}
+use Rattle.run_state.specs.Run.{took, Execution, unlessStopped, runOn, eventsAt, runArm, runOf, eventsThen}
 
 -- ---- entries of a list
 

@@ -6,7 +6,6 @@ mod ways;
 
 use bitvec::Whole;
 use routine_faults::Counts;
-use routine_header::Header;
 
 // Where an index lies outside its array: below 0, or at or above the size.
 pub enum Side {

@@ -1,5 +1,4 @@
 -- How many gates an access takes. Assumes nothing.
-use mathlib.Core.Path.{_≡_}
 use mathlib.Core.Bool.{Bool, true, false, cond}
 use Prim.Native.Nat.{ℕ, _+_, _*_, _≤_}
 use native.Mathlib.Omega.{arith}
@@ -7,7 +6,7 @@ use lib.ListN.{length, length-append}
 use lib.Dec.{eqb}
 use mathlib.Core.List.{[]}
 use Rattle.arithmetic.specs.Bits.{Bits}
-use Rattle.arithmetic.specs.Circuit.{Predicate, never}
+use Rattle.arithmetic.specs.Circuit.{never}
 use Rattle.comparison.proofs.Access.{above-short}
 use Rattle.comparison.specs.Access.{above}
 use Rattle.translation_access.specs.Index.{passing, claim, top}

@@ -1,12 +1,11 @@
 -- What the parts of a command made is what the command makes. Assumes nothing.
 use mathlib.Core.Path.{_≡_, refl, sym, ap, subst, _∙_}
-use mathlib.Core.List.{List, [], append-nil}
+use mathlib.Core.List.{List, append-nil}
 use mathlib.Core.Bool.{Bool, true, false, cond}
 use Prim.Native.Nat.{ℕ, _+_, _*_, _≤_}
 use native.Mathlib.Nat.{mul-le-mul}
 use native.Mathlib.Omega.{arith}
-use lib.ListN.{length, take, drop, length-append}
-use lib.Seq.{sets}
+use lib.ListN.{length}
 use lib.Dec.{eqb}
 use borrow.Author.Tests.{eq-eqb, ne-eqb}
 use Rattle.routine_header.specs.Header.{width, arraySize}
@@ -17,14 +16,14 @@ use Rattle.routine_faults.specs.declared.Counts.{Counts}
 use Rattle.routine_command.specs.declared.Simple.{Simple}
 use Rattle.netlist.specs.declared.Net.{Net}
 use Rattle.netlist.proofs.Emitting.{emitted-then}
-use Rattle.arithmetic.specs.Bits.{Bits, litAt, tabulate}
+use Rattle.arithmetic.specs.Bits.{Bits}
 use Rattle.arithmetic.specs.Input.{inBit}
 use Rattle.arithmetic.specs.Inner.Taken.{TakesInputs}
 use Rattle.arithmetic.specs.Circuit.{Number}
 use Rattle.arithmetic.specs.Inner.Results as made
 use Rattle.arithmetic.specs.declared.Bundle.{Bundle}
 use Rattle.translation_access.proofs.Gates.{claim-short, passing-short}
-use Rattle.translation_state.specs.Wires.{Wires, bitsIn, bitsSet, bitsOf, withBits, arriving, claiming, isMade}
+use Rattle.translation_state.specs.Wires.{Wires, bitsSet, bitsOf, withBits, arriving, claiming, isMade}
 use Rattle.translation_state.specs.Inner.Reach.{wiresOf}
 use Rattle.translation_command.specs.Command.{Encoding, nodesThen, still, claimed, passed, readInto, simple}
 use Rattle.translation_access.specs.Index.{claim, passing}

@@ -1,7 +1,6 @@
 use Rattle.translation_state.specs.Inner.Reach.{wiresOf}
 use lib.Dec.{eqb}
 use mathlib.Core.Path.{sym, _∙_}
-use Prim.Native.Nat.{_*_}
 use native.Mathlib.Omega.{arith}
 use denote.Ref.{now}
 use Rattle.routine_faults.proofs.Fine.{condition-fine}
