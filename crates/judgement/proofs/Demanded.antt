@@ -40,7 +40,7 @@ use Rattle.proof.proofs.Soundness.{sound}
 use Rattle.step.specs.declared.Verdict.{Verdict}
 use Rattle.translation_command.specs.Command.{Encoding}
 use Rattle.translation_state.specs.declared.Claim.{Claim}
-use Rattle.witness.specs.Lead.{decisionsIn, witnessIn, proofAt}
+use Rattle.witness.specs.Lead.{targetIn, decisionsIn, witnessIn, proofAt}
 use Rattle.witness.specs.Witness.{witnessOf}
 use Rattle.witness.specs.declared.Witness.{Witness}
 use Rattle.witness.proofs.Opening.{lets}
@@ -48,8 +48,9 @@ use Rattle.witness.proofs.Standing.{Stood, stood}
 use Rattle.proving.specs.Proving.{Room, byVerdict, limitsIn, provedBy}
 use Rattle.proving.specs.declared.Proved.{Proved}
 use Rattle.proving.specs.declared.Refusal.{Refusal}
-use Rattle.judgement.specs.Demand.{StopsOutside, Finding, Found, Demand3}
+use Rattle.judgement.specs.Demand.{StopsOutside, Overflows, Found, Demand3}
 use Rattle.judgement.specs.Judging.{byProof, byWitness, byRoutine, judgement}
+use Rattle.judgement.specs.declared.Finding.{Finding}
 use Rattle.judgement.specs.declared.Judged.{Judged}
 
 -- ---- clauses that nothing satisfies
@@ -120,8 +121,11 @@ module _ (bs r : List ℕ) (h : Header) (a : Arm) (k : Counts) (d : decode bs �
       let none : sat ρ (netlistClauses 1 (x .nodes) ++ lastClauses (Claim.Made (claim .arrival) (claim .side))) ≡ false = rw (claim .claims) at (refuted .none steps hints closed ρ) in
       claim .lies ins ok ρ y way array₁ index₁ there .0 (side-true ρ (claim .arrival) (claim .side) (netlistClauses 1 (x .nodes)) none (y .satisfies) come)
 
-  finding : Finding bs ds (witnessIn r h k) h a k (t .access) (t .side) array index
-  finding =
+  abbrev found : Finding
+  found = record { access = t .access; side = t .side; array = array; size = arraySize bs h array; index = index; steps = steps; hints = hints }
+
+  overflows : Overflows bs ds (witnessIn r h k) h a k found
+  overflows =
       let witness = arrival bs (witnessIn r h k) ds h a k d (t .access) (admitted-range bs t ds h a k admitted .1 .access) array index .0 (s .arrived) in
       record {
         accepted = s .accepted;
@@ -140,53 +144,57 @@ module _ (bs r : List ℕ) (h : Header) (a : Arm) (k : Counts) (d : decode bs �
           let n = ends-at bs h (there .before) (t .access) array₁ index₁ (there .after) (runOf bs ins h a .state .outcome) e (o .on) (o .outside) in
           record { on = o .on; named = o .named; stops = ap ranBy (n .1); outside = l }
 
+  -- the lead that was opened is the report's
+  named : t ≡ targetIn r
+  named = lets r h k t _ (sym (s .opens)) refl .target
+
+  pub finds : Found bs r found
+  finds = record {
+    header = h;
+    commands = a;
+    counts = k;
+    decodes = d;
+    access = ap (λ (u : Target). u .access) named;
+    side = ap (λ (u : Target). u .side) named;
+    size = refl;
+    overflows = overflows;
+  }
+
 -- ---- the whole
 
 module _ (bs r : List ℕ) (m : Room) (translated : (t : Target) (ds : List ℕ) → Demand2 bs t ds)
-    (refuted : (cs : List Clause) (L : Limits) (from : ℕ) → Refutes cs (checkProof cs L r from .verdict))
-    (access side array size : ℕ) (index : Whole) (steps hints : ℕ) where
+    (refuted : (cs : List Clause) (L : Limits) (from : ℕ) → Refutes cs (checkProof cs L r from .verdict)) (f : Finding) where
   abbrev Says : Judged → Type 0
-  Says j = j ≡ Judged.Accepted access side array size index steps hints
-
-  by-proof : (h : Header) (t : Target) (array₁ : ℕ) (index₁ : Whole) (p : Proved) → Says (byProof bs h t array₁ index₁ p)
-      → (t .access ≡ access) × (t .side ≡ side) × (array₁ ≡ array) × (index₁ ≡ index) × (p ≡ Proved.Closed steps hints)
-  by-proof h t array₁ index₁ (Proved.Refused refusal) e = let z : _≡_ {A = ℕ} 0 1 = cc in absurd (omega arith)
-  by-proof h t array₁ index₁ (Proved.Closed steps₁ hints₁) e =
-      let p : t .access ≡ access = cc in
-      let q : t .side ≡ side = cc in
-      let u : array₁ ≡ array = cc in
-      let v : index₁ ≡ index = cc in
-      let y : steps₁ ≡ steps = cc in
-      let z : hints₁ ≡ hints = cc in
-      (p, q, u, v, rw (y, z) refl)
+  Says j = j ≡ Judged.Accepted f
 
   module _ (h : Header) (a : Arm) (k : Counts) (d : decode bs ≡ routine h a k) where
-    by-witness : (w : Witness) → witnessOf bs r h a k ≡ w → Says (byWitness bs r m h a k w)
-        → Finding bs (decisionsIn r k) (witnessIn r h k) h a k access side array index
-    by-witness (Witness.Refused refusal) is e = let z : _≡_ {A = ℕ} 0 1 = cc in absurd (omega arith)
-    by-witness (Witness.Stands t array₁ index₁) is e =
-        let p = by-proof h t array₁ index₁ (provedBy r (proofAt h k) m h k (translationOf bs t (decisionsIn r k) h a)) e in
+    by-proof : (t : Target) (array : ℕ) (index : Whole) → witnessOf bs r h a k ≡ Witness.Stands t array index
+        → (p : Proved) → provedBy r (proofAt h k) m h k (translationOf bs t (decisionsIn r k) h a) ≡ p → Says (byProof bs h t array index p) → Found bs r f
+    by-proof t array index is (Proved.Refused refusal) w e = let z : _≡_ {A = ℕ} 0 1 = cc in absurd (omega arith)
+    by-proof t array index is (Proved.Closed steps hints) w e =
         let x = translationOf bs t (decisionsIn r k) h a in
-        let v = verdict-was steps hints r (proofAt h k) m h k x (p .4) in
-        rw (← p .0, ← p .1, ← p .2, ← p .3)
-        (finding bs r h a k d t array₁ index₁ (stood bs r h a k t array₁ index₁ is) (translated t (decisionsIn r k)) _
+        let v = verdict-was steps hints r (proofAt h k) m h k x w in
+        let q : found bs r h a k d t array index (stood bs r h a k t array index is) (translated t (decisionsIn r k)) _ (refuted (clausesOfAll x) (limitsIn m x) (proofAt h k)) steps hints v ≡ f = cc in
+        subst (Found bs r) q
+        (finds bs r h a k d t array index (stood bs r h a k t array index is) (translated t (decisionsIn r k)) _
         (refuted (clausesOfAll x) (limitsIn m x) (proofAt h k)) steps hints v)
 
-  by-decoded : (x : Decoded) → decode bs ≡ x → Says (byRoutine bs r m x) → Found bs r access side array index
-  by-decoded (rejected refusal) d e = let z : _≡_ {A = ℕ} 0 1 = cc in absurd (omega arith)
-  by-decoded (routine h a k) d e =
-      record { header = h; commands = a; counts = k; decodes = d; finding = by-witness h a k d (witnessOf bs r h a k) refl e }
+    by-witness : (w : Witness) → witnessOf bs r h a k ≡ w → Says (byWitness bs r m h a k w) → Found bs r f
+    by-witness (Witness.Refused refusal) is e = let z : _≡_ {A = ℕ} 0 1 = cc in absurd (omega arith)
+    by-witness (Witness.Stands t array index) is e = by-proof t array index is (provedBy r (proofAt h k) m h k (translationOf bs t (decisionsIn r k) h a)) refl e
 
-  holds : Says (judgement bs r m) → Found bs r access side array index
+  by-decoded : (x : Decoded) → decode bs ≡ x → Says (byRoutine bs r m x) → Found bs r f
+  by-decoded (rejected refusal) d e = let z : _≡_ {A = ℕ} 0 1 = cc in absurd (omega arith)
+  by-decoded (routine h a k) d e = by-witness h a k d (witnessOf bs r h a k) refl e
+
+  holds : Says (judgement bs r m) → Found bs r f
   unfolding judgement
   holds e = by-decoded (decode bs) refl e
 
 -- demand 3 follows from what `translate` promises of every admitted claim and from what the proof's check promises of every verdict
 pub follows : (bs r : List ℕ) (m : Room) → ((t : Target) (ds : List ℕ) → Demand2 bs t ds)
     → ((cs : List Clause) (L : Limits) (from : ℕ) → Refutes cs (checkProof cs L r from .verdict)) → Demand3 bs r (judgement bs r m)
-follows bs r m translated refuted = record {
-  holds = λ access side array size index steps hints e. holds bs r m translated refuted access side array size index steps hints e;
-}
+follows bs r m translated refuted = record { holds = λ f e. holds bs r m translated refuted f e }
 
 -- whatever is judged so
 pub demand : (bs r : List ℕ) (m : Room) (j : Judged) → j ≡ judgement bs r m → Demand3 bs r j

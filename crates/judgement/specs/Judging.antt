@@ -19,10 +19,19 @@ use Rattle.proving.specs.declared.Refusal.{Refusal}
 use Rattle.proving.specs.declared.Proved.{Proved}
 use Rattle.judgement.specs.declared.Judged.{Judged}
 
--- the answer: access, side, array, size, index, steps closed, hints read
+-- the answer: what was found, with the steps closed and the hints read
 abbrev pub byProof : List ℕ → Header → Target → (array : ℕ) → Whole → Proved → Judged
 byProof bs h t array index (Proved.Refused refusal) = Judged.Refused refusal
-byProof bs h t array index (Proved.Closed steps hints) = Judged.Accepted (t .access) (t .side) array (arraySize bs h array) index steps hints
+byProof bs h t array index (Proved.Closed steps hints) =
+    Judged.Accepted (record {
+      access = t .access;
+      side = t .side;
+      array = array;
+      size = arraySize bs h array;
+      index = index;
+      steps = steps;
+      hints = hints;
+    })
 
 -- the witness, then 16 and the proof
 abbrev pub byWitness : (bs r : List ℕ) → Room → Header → Arm → Counts → Witness → Judged

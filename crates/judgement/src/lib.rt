@@ -3,18 +3,20 @@
 use bitvec::Whole;
 use proving::Refusal;
 
+// What an accepted report says: the access and the side that it names; the array that its witness reaches there, the size of that array, and the index;
+// the steps and the hints of its proof.
+pub struct Finding {
+    pub access: u8,
+    pub side: u8,
+    pub array: u8,
+    pub size: u32,
+    pub index: Whole,
+    pub steps: usize,
+    pub hints: usize,
+}
+
 // What is said of a report.
 pub enum Judged {
-    Accepted {
-        access: u8,
-        side: u8,
-        array: u8,
-        // the size of the array
-        size: u32,
-        // the index that the witness has there
-        index: Whole,
-        steps: usize,
-        hints: usize,
-    },
+    Accepted(Finding),
     Refused(Refusal),
 }

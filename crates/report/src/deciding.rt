@@ -1,5 +1,6 @@
 // What is said of a report: the routine, the witness, then the proof.
 use bitvec::Whole;
+use judgement::Finding;
 use judgement::Judged;
 use lead::Target;
 use proving::Proved;
@@ -25,7 +26,7 @@ fn by_proof(routine: &[u8], h: Header, t: Target, array: u8, index: Whole, prove
 {
     match proved {
         Proved::Refused(refusal) => Judged::Refused(refusal),
-        Proved::Closed { steps, hints } => Judged::Accepted {
+        Proved::Closed { steps, hints } => Judged::Accepted(Finding {
             access: t.access,
             side: t.side,
             array,
@@ -33,7 +34,7 @@ fn by_proof(routine: &[u8], h: Header, t: Target, array: u8, index: Whole, prove
             index,
             steps,
             hints,
-        },
+        }),
     }
 }
 
