@@ -1,10 +1,4 @@
--- What the proofs of several functions use, and the laws for the layers above.
-mod Unless
-mod Truth
-pub mod Soundness
-pub mod Steady
-mod Bench
-mod Going
-mod Turning
-mod Running
-pub mod Laying
+-- What the proofs of several functions use.
+mod Fitting
+mod Stood
+mod Asking

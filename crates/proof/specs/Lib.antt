@@ -1,3 +1,3 @@
-pub mod Sound
-pub mod Answer
+pub mod Fit
+pub mod Checking
 pub mod Inner

@@ -1,55 +1,61 @@
-// The checking of a proof by hinted unit propagation.
-mod turns;
+// The check of a proof for anyone who asks, whatever the buffers hold.
+mod fits;
+mod parts;
 
-use step::Phase;
-use step::Progress;
-use step::Turn;
-use step::Verdict;
-use turns::turn;
-ghost use Rattle.propagation.specs.Stored.{clausesOf};
-ghost use Rattle.proof.specs.Inner.Begins.{Begins, Answers};
-ghost use Rattle.proof.specs.Sound.{Refutes};
+use parts::check_parts;
+use proof_check::Refusal;
+use slices::usable;
+ghost use Rattle.proof_propagation.specs.Stored.{clausesOf};
+ghost use Rattle.proof.specs.Checking.{part, Checks, Unsatisfied};
 
-// The literals that a step's hints may make true so that its marks are undone by a list of them: a step with more is read again.
-const TRAIL: usize = 4096;
+// Whether clauses stand one after another in the words, and where they end.
+pub enum Standing {
+    Ends(usize),
+    Nowhere,
+}
 
-// Checks the proof that begins at an offset of the report, over the first `count` clauses, which take the first `used` words. Room is what is lent:
-// all words, all starts, and a mark for each variable and one more. A step's clause is stored after the others, so the buffers are left with what was
-// closed, and with the literals and the marks of the step in which the check stopped.
-pub fn check_proof(
+// What is said to anyone who asks for a check.
+pub enum Checked {
+    Accepted { steps: usize, hints: usize },
+    Refused(Refusal),
+    // the buffers do not hold what is asked
+    Unfit,
+}
+
+// Checks a proof over any buffers, of which only the first 16,777,216 entries are used. It looks first whether the report is not too long, whether there is a mark
+// for each variable and one more, and whether so many clauses of these variables stand in words one after another from the beginning, with their offsets in
+// starts; where not, it is Unfit, and the buffers are as they were. Where they do, starts and marks are zeroed.
+pub fn prove(
     report: &[u8],
     from: usize,
-    count: usize,
-    used: usize,
-    words: &mut [u32],
+    clauses: u32,
+    variables: u32,
+    words: &[u32],
     starts: &mut [u32],
     marks: &mut [u8],
-) -> Verdict
-    requires { ⌜ Begins (now words) (now starts) (now marks) (now report) from count used ⌝ }
-    ensures { λ r. ⌜ Answers (now (words .entry)) (now (starts .entry)) (now (marks .entry)) (now (report .entry)) from count (now (words .exit)) (now (starts .exit)) (now (marks .exit)) r ⌝ }
-    ensures { λ r. ⌜ Refutes (clausesOf (now (words .entry)) (now (starts .entry)) count) r ⌝ }
+) -> Checked
+    ensures { λ r. ⌜ Checks (now (words .entry)) (now (starts .entry)) (now (marks .entry)) (now (report .entry)) from clauses variables (now (starts .exit)) (now (marks .exit)) r ⌝ }
+    ensures { λ r. ⌜ Unsatisfied (clausesOf (part (now (words .entry))) (part (now (starts .entry))) clauses) r ⌝ }
 {
-    let mut trail = [0u32; TRAIL];
-    let mut p = Progress {
-        at: from,
-        used,
-        count,
-        literals: 0,
-        commands: 0,
-        decided: 0,
-        phase: Phase::Literals,
-        steps: 0,
-        hints: 0,
-    };
-    loop {
-        let next = turn(words, starts, marks, &mut trail, report, p);
-        match next {
-            Turn::More(q) => {
-                p = q;
-            }
-            Turn::Stop(v) => {
-                return v;
-            }
-        }
+    let w = usable(words.len());
+    let s = usable(starts.len());
+    let m = usable(marks.len());
+    if 16777216 < report.len() {
+        return Checked::Unfit;
     }
+    if report.len() < from {
+        return Checked::Unfit;
+    }
+    if m < variables as usize + 1 {
+        return Checked::Unfit;
+    }
+    check_parts(
+        report,
+        from,
+        clauses as usize,
+        variables as usize,
+        &words[..w],
+        &mut starts[..s],
+        &mut marks[..m],
+    )
 }

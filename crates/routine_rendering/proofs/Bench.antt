@@ -1,8 +1,9 @@
 -- Worked routines and their bytes. Assumes nothing.
 use mathlib.Core.Path.{_≡_, refl}
 use mathlib.Core.List.{[], _∷_}
+use Rattle.slices.specs.Bytes.{halfBytes, wordBytes}
 use Rattle.routine_rendering.specs.Syntax.{noMore, simple, ifText}
-use Rattle.routine_rendering.specs.Render.{two, four, simpleBytes, textBytes, sizeBytes, render}
+use Rattle.routine_rendering.specs.Render.{simpleBytes, textBytes, sizeBytes, render}
 use Rattle.routine_command.specs.declared.Simple.{Simple}
 
 -- in turn: the two of document 01; two-sensors of the examples, with an if in an if in an if
@@ -28,5 +29,5 @@ bench :
     ≡ 0x01 ∷ 0x04 ∷ 0x20 ∷ 0x20 ∷ 0x20 ∷ 0x20 ∷ 0x02 ∷ 0x01 ∷ 0x64 ∷ 0x00 ∷ 0x01 ∷ 0x03 ∷ 0x32 ∷ 0x00 ∷ 0x00 ∷ 0x00 ∷ 0x0B ∷ 0x09 ∷ 0x00 ∷ 0x03
     ∷ 0x0B ∷ 0x09 ∷ 0x01 ∷ 0x03 ∷ 0x03 ∷ 0x02 ∷ 0x00 ∷ 0x01 ∷ 0x01 ∷ 0x03 ∷ 0x64 ∷ 0x00 ∷ 0x00 ∷ 0x00 ∷ 0x0B ∷ 0x06 ∷ 0x02 ∷ 0x03
     ∷ 0x0A ∷ 0x00 ∷ 0x02 ∷ 0x00 ∷ 0x0C ∷ 0x0D ∷ 0x0C ∷ 0x0D ∷ 0x0C ∷ 0x0D ∷ 0x00 ∷ [])
-unfolding two four simpleBytes textBytes sizeBytes render
+unfolding halfBytes wordBytes simpleBytes textBytes sizeBytes render
 bench = (refl, refl, refl)

@@ -8,10 +8,10 @@ use native.Mathlib.Omega.{arith}
 use lib.ListN.{length, drop}
 use lib.Dec.{leb, eqb}
 use borrow.Author.Tests.{ne-eqb, le-leb, lt-leb, eqb-true, leb-true}
-use Rattle.slices.specs.Bytes.{entry, word}
+use Rattle.slices.specs.Bytes.{entry, word, wordBytes}
 use Rattle.routine_header.specs.Header.{between}
 use Rattle.routine_command.specs.Command.{commandSize, simpleSize, commandBy, commandOf, commandAt}
-use Rattle.routine_rendering.specs.Render.{four, simpleBytes}
+use Rattle.routine_rendering.specs.Render.{simpleBytes}
 use Rattle.routine_rendering.specs.WellFormed.{Between}
 use Rattle.routine_command.specs.declared.Simple.{Simple}
 use Rattle.routine_command.specs.declared.Condition.{Condition}
@@ -19,7 +19,8 @@ use Rattle.routine_command.specs.declared.Command.{Command}
 use Rattle.routine_rendering.specs.Exactly.{AreBytes}
 use Rattle.routine_command.proofs.Sizes.{whole}
 use Rattle.routine_faults.proofs.Tests.{both}
-use Rattle.routine_rendering.proofs.Bytes.{next, here, entry-at, entry-here, bytes-left, word-at, four-digits, four-value}
+use Rattle.slices.proofs.Digits.{word-digits, word-value}
+use Rattle.routine_rendering.proofs.Bytes.{next, here, entry-at, entry-here, bytes-left, word-at}
 
 -- the command at an offset is the one at the start of the bytes from there on
 pub command-from : (bs : List ℕ) (at : ℕ) (ys : List ℕ) → drop at bs ≡ ys → commandAt bs at ≡ commandAt ys 0
@@ -79,9 +80,9 @@ module _ (op a b c k : ℕ) where
 
 -- a command stands where its bytes do
 simple-bytes : (c : Simple) (tail : List ℕ) → Kind c → commandAt (simpleBytes c ++ tail) 0 ≡ Command.Simple c
-unfolding simpleBytes commandBy four word
+unfolding simpleBytes commandBy wordBytes word
 simple-bytes (Simple.Set d c) tail l =
-    whole-here (simpleBytes (Simple.Set d c) ++ tail) (Command.Simple (Simple.Set d c)) (ap (λ (x : ℕ). Command.Simple (Simple.Set d x)) (four-value c l)) (omega arith)
+    whole-here (simpleBytes (Simple.Set d c) ++ tail) (Command.Simple (Simple.Set d c)) (ap (λ (x : ℕ). Command.Simple (Simple.Set d x)) (word-value c l)) (omega arith)
 simple-bytes (Simple.Convert op d s) tail l = whole-here (op ∷ d ∷ s ∷ tail) (Command.Simple (Simple.Convert op d s)) (by-convert op d s _ _ l) (omega arith)
 simple-bytes (Simple.Compute op d s t) tail l = whole-here (op ∷ d ∷ s ∷ t ∷ tail) (Command.Simple (Simple.Compute op d s t)) (by-compute op d s t _ l) (omega arith)
 simple-bytes (Simple.Read d array i) tail l = whole-here (0x09 ∷ d ∷ array ∷ i ∷ tail) (Command.Simple (Simple.Read d array i)) refl (omega arith)
@@ -158,7 +159,7 @@ module _ (bs : List ℕ) (at : ℕ) where
   if-there c e l = let h = subst HoldsAt e holds-at in rw (h .1, h .2, h .3, ← h .0) (front₄ l)
 
   constant : AreBytes bs → at + 6 ≤ length bs
-      → (drop (at + 2) bs ≡ four (word bs (at + 2)) ++ drop (at + 6) bs) × (word bs (at + 2) < 4294967296)
+      → (drop (at + 2) bs ≡ wordBytes (word bs (at + 2)) ++ drop (at + 6) bs) × (word bs (at + 2) < 4294967296)
   unfolding word
   constant f l =
       let a = entry bs (at + 2) in
@@ -172,7 +173,7 @@ module _ (bs : List ℕ) (at : ℕ) where
       let e₁ : at + 2 + 1 ≡ at + 3 = omega arith in
       let e₂ : at + 2 + 2 ≡ at + 4 = omega arith in
       let e₃ : at + 2 + 3 ≡ at + 5 = omega arith in (
-        rw (e₁, e₂, e₃, four-digits a b c d i j k m) (rw (next bs at 2 (omega arith), next bs at 3 (omega arith), next bs at 4 (omega arith), next bs at 5 (omega arith))),
+        rw (e₁, e₂, e₃, word-digits a b c d i j k m) (rw (next bs at 2 (omega arith), next bs at 3 (omega arith), next bs at 4 (omega arith), next bs at 5 (omega arith))),
         rw (e₁, e₂, e₃) (omega arith),
       )
 

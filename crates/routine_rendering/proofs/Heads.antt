@@ -8,18 +8,19 @@ use lib.ListN.{length, getD, take, drop, length-drop, take-append-drop, List·ge
 use lib.Seq.{drop-at, drop-drop, take-at, getD-take, getD-drop, length-take-le}
 use lib.Dec.{eqb, lit≤}
 use borrow.Author.Tests.{lt-ltb, le-leb, eq-eqb}
-use Rattle.slices.specs.Bytes.{entry, half}
+use Rattle.slices.specs.Bytes.{entry, half, halfBytes}
 use Rattle.routine_header.specs.Header.{between, within, widthOk, sizeOk, firstBad, headerOf, firstCommand}
 use Rattle.routine_faults.specs.Inner.Sound.{Fine}
 use Rattle.routine_rendering.specs.Syntax.{Text, Syntax}
-use Rattle.routine_rendering.specs.Render.{two, sizeBytes}
+use Rattle.routine_rendering.specs.Render.{sizeBytes}
 use Rattle.routine_rendering.specs.WellFormed.{Between}
 use Rattle.routine_rendering.specs.Exactly.{AreBytes, headOf}
 use Rattle.routine_header.specs.declared.Header.{Header}
 use Rattle.routine_header.specs.declared.Head.{Head}
 use Rattle.routine_faults.proofs.Fine.{in-bounds}
 use Rattle.routine_header.proofs.Held.{held}
-use Rattle.routine_rendering.proofs.Bytes.{here, next, entry-at, entry-here, bytes-left, further, two-digits, two-value}
+use Rattle.slices.proofs.Digits.{half-digits, half-value}
+use Rattle.routine_rendering.proofs.Bytes.{here, next, entry-at, entry-here, bytes-left, further}
 use Rattle.routine_rendering.proofs.Operands.{Same}
 
 -- ---- from the bytes to the syntax
@@ -52,18 +53,18 @@ size-from bs zero at i l = absurd (omega arith)
 size-from bs (suc n) at zero l = let e : at + 2 * 0 ≡ at = omega arith in rw e
 size-from bs (suc n) at (suc i) l = let e : at + 2 + 2 * i ≡ at + 2 * suc i = omega arith in rw (← e) (size-from bs n (at + 2) i (omega arith))
 
-size-there : (bs : List ℕ) → AreBytes bs → (at : ℕ) → at + 2 ≤ length bs → drop at bs ≡ two (half bs at) ++ drop (at + 2) bs
+size-there : (bs : List ℕ) → AreBytes bs → (at : ℕ) → at + 2 ≤ length bs → drop at bs ≡ halfBytes (half bs at) ++ drop (at + 2) bs
 unfolding half
 size-there bs f at l =
-    rw (two-digits (entry bs at) (entry bs (at + 1)) (f at (omega arith)) (f (at + 1) (omega arith)))
+    rw (half-digits (entry bs at) (entry bs (at + 1)) (f at (omega arith)) (f (at + 1) (omega arith)))
     (rw (here bs at (omega arith), next bs at 1 (omega arith)))
 
 sizes-there : (bs : List ℕ) → AreBytes bs → (n at : ℕ) → at + 2 * n ≤ length bs → drop at bs ≡ sizeBytes (sizesFrom bs at n) ++ drop (at + 2 * n) bs
-unfolding sizesFrom sizeBytes two
+unfolding sizesFrom sizeBytes halfBytes
 sizes-there bs f zero at l = let e : at + 2 * 0 ≡ at = omega arith in rw e
 sizes-there bs f (suc n) at l =
     let e : at + 2 + 2 * n ≡ at + 2 * suc n = omega arith in
-    size-there bs f at (omega arith) ∙ ap (λ (ys : List ℕ). two (half bs at) ++ ys) (rw (← e) (sizes-there bs f n (at + 2) (omega arith)))
+    size-there bs f at (omega arith) ∙ ap (λ (ys : List ℕ). halfBytes (half bs at) ++ ys) (rw (← e) (sizes-there bs f n (at + 2) (omega arith)))
 
 -- the syntax that a header and the bytes tell, with its commands
 abbrev pub syntaxOf : List ℕ → Header → Text → Syntax
@@ -135,13 +136,13 @@ widths-right bs (w ∷ ws) at tail e f =
     rw (t, ← q) (widths-right bs ws (at + 1) tail (further bs at (w ∷ ws ++ tail) e 1) (λ i m. f (suc i) (omega arith)))
 
 -- a size is read back
-size-back : (bs : List ℕ) (at n : ℕ) (tail : List ℕ) → drop at bs ≡ two n ++ tail → n ≤ 4096 → half bs at ≡ n
-unfolding two half
-size-back bs at n tail e l = rw (entry-here bs at _ e, entry-at bs at _ e 1) (two-value n (omega arith))
+size-back : (bs : List ℕ) (at n : ℕ) (tail : List ℕ) → drop at bs ≡ halfBytes n ++ tail → n ≤ 4096 → half bs at ≡ n
+unfolding halfBytes half
+size-back bs at n tail e l = rw (entry-here bs at _ e, entry-at bs at _ e 1) (half-value n (omega arith))
 
 -- sizes that stand from `at` on are all right
 sizes-right : (bs ns : List ℕ) (at : ℕ) (tail : List ℕ) → drop at bs ≡ sizeBytes ns ++ tail → Each 1 4096 ns → firstBad (sizeOk bs) 2 (length ns) at ≡ at + 2 * length ns
-unfolding firstBad sizeBytes two sizeOk
+unfolding firstBad sizeBytes halfBytes sizeOk
 sizes-right bs [] at tail e f = omega arith
 sizes-right bs (n ∷ ns) at tail e f =
     let b = f 0 (omega arith) in
@@ -151,13 +152,13 @@ sizes-right bs (n ∷ ns) at tail e f =
     rw (t, ← q) (sizes-right bs ns (at + 2) tail (further bs at _ e 2) (λ i m. f (suc i) (omega arith)))
 
 pub length-size-bytes : (ns : List ℕ) → length (sizeBytes ns) ≡ 2 * length ns
-unfolding sizeBytes two
+unfolding sizeBytes halfBytes
 length-size-bytes [] = refl
 length-size-bytes (n ∷ ns) = omega (arith, length-size-bytes ns)
 
 -- sizes are read back
 sizes-back : (bs ns : List ℕ) (at : ℕ) (tail : List ℕ) → drop at bs ≡ sizeBytes ns ++ tail → Each 1 4096 ns → sizesFrom bs at (length ns) ≡ ns
-unfolding sizesFrom sizeBytes two
+unfolding sizesFrom sizeBytes halfBytes
 sizes-back bs [] at tail e f = refl
 sizes-back bs (n ∷ ns) at tail e f =
     let r = sizes-back bs ns (at + 2) tail (further bs at _ e 2) (λ i m. f (suc i) (omega arith)) in

@@ -9,13 +9,14 @@ use lib.ListN.{length, drop, length-append}
 use lib.Seq.{drop-append-add}
 use lib.Dec.{lit≤}
 use borrow.Author.Tests.{eq-eqb, lt-ltb, lt-leb}
+use Rattle.slices.specs.Bytes.{wordBytes}
 use Rattle.routine_command.specs.Command.{simpleSize, commandAt}
 use Rattle.routine_faults.specs.Step.{closing, simpleThen, ifThen, tooMany, countsAfter, simpleStep, countsAfterIf, ifStep, stepOf, accesses}
 use Rattle.routine_faults.specs.Inner.Sound.{Sound, SoundIf}
 use Rattle.routine.specs.Routine.{Arm, done, plain, ifElse, armStep, stepAt, arm}
 use Rattle.routine.specs.Inner.Stands.{Stands}
 use Rattle.routine_rendering.specs.Syntax.{Text, noMore, simple, ifText, Syntax}
-use Rattle.routine_rendering.specs.Render.{four, simpleBytes, textBytes}
+use Rattle.routine_rendering.specs.Render.{simpleBytes, textBytes}
 use Rattle.routine_rendering.specs.WellFormed.{Variable, widthOf, AllGood, depth, ifs, oneRead, oneWrite, reads, writes, accessCount}
 use Rattle.routine_rendering.specs.Exactly.{plus, numbered}
 use Rattle.routine_header.specs.declared.Header.{Header}
@@ -39,7 +40,7 @@ end-mark = inr (record { low = lit≤ tt; high = lit≤ tt })
 
 -- what follows the bytes of a command
 after-simple : (c : Simple) (tail : List ℕ) → drop (simpleSize c) (simpleBytes c ++ tail) ≡ tail
-unfolding simpleBytes four
+unfolding simpleBytes wordBytes
 after-simple (Simple.Set d x) tail = refl
 after-simple (Simple.Convert op d s) tail = refl
 after-simple (Simple.Compute op d s t) tail = refl
@@ -111,7 +112,7 @@ same-counts : {k k₁ : Counts} → k .ifs ≡ k₁ .ifs → k .reads ≡ k₁ .
 same-counts a b c = λ i. record { ifs = a i; reads = b i; writes = c i }
 
 simple-length : (c : Simple) → length (simpleBytes c) ≡ simpleSize c
-unfolding simpleBytes four
+unfolding simpleBytes wordBytes
 simple-length (Simple.Set d x) = refl
 simple-length (Simple.Convert op d s) = refl
 simple-length (Simple.Compute op d s t) = refl

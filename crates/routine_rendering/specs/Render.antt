@@ -1,21 +1,14 @@
 -- The bytes of a routine.
-use Prim.Native.Nat.{ℕ, _/_, _%_}
+use Prim.Native.Nat.{ℕ}
 use mathlib.Core.List.{List, [], _∷_, _++_}
 use lib.ListN.{length}
+use Rattle.slices.specs.Bytes.{halfBytes, wordBytes}
 use Rattle.routine_rendering.specs.Syntax.{Text, noMore, simple, ifText, Syntax}
 use Rattle.routine_command.specs.declared.Simple.{Simple}
 
--- a number as two bytes, the lowest first
-unfoldable pub two : ℕ → List ℕ
-two n = n % 256 ∷ n / 256 % 256 ∷ []
-
--- a number as four bytes, the lowest first
-unfoldable pub four : ℕ → List ℕ
-four n = n % 256 ∷ n / 256 % 256 ∷ n / 65536 % 256 ∷ n / 16777216 % 256 ∷ []
-
 -- a command that is no if: its byte and its operands
 unfoldable pub simpleBytes : Simple → List ℕ
-simpleBytes (Simple.Set d c) = 0x01 ∷ d ∷ four c
+simpleBytes (Simple.Set d c) = 0x01 ∷ d ∷ wordBytes c
 simpleBytes (Simple.Convert op d s) = op ∷ d ∷ s ∷ []
 simpleBytes (Simple.Compute op d s t) = op ∷ d ∷ s ∷ t ∷ []
 simpleBytes (Simple.Read d array i) = 0x09 ∷ d ∷ array ∷ i ∷ []
@@ -31,7 +24,7 @@ textBytes (ifText c first second rest) =
 -- the sizes of the arrays, two bytes each
 unfoldable pub sizeBytes : List ℕ → List ℕ
 sizeBytes [] = []
-sizeBytes (n ∷ ns) = two n ++ sizeBytes ns
+sizeBytes (n ∷ ns) = halfBytes n ++ sizeBytes ns
 
 -- a routine: 0x01, the number of variables, their widths, the number of parameters, the number of arrays, their sizes, the commands, 0x00
 unfoldable pub render : Syntax → List ℕ

@@ -1,3 +1,0 @@
-pub mod Fit
-pub mod Checking
-pub mod Inner

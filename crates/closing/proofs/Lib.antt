@@ -1,2 +1,0 @@
--- What the proof of the close uses.
-mod Adding

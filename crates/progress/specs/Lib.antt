@@ -1,4 +1,0 @@
-pub mod State
-pub mod Check
-pub mod Lent
-pub mod Inner

@@ -1,0 +1,65 @@
+// A look at what the next hints name. Where the clauses are more than the caches hold, a hint waits for its clause, and the next one is read only then; looked at
+// beforehand, the clauses of many hints are fetched at once.
+use proof_reader::Command;
+use proof_reader::read_command;
+use slices::entry_at;
+use std::num::wrapping_add_u32;
+ghost use mathlib.Core.Path.{_≡_};
+ghost use lib.Seq.{slice};
+
+// Fewer words than these are fetched fast enough.
+const MANY_WORDS: usize = 4194304;
+
+// The hints that are looked at beforehand.
+const AHEAD: usize = 32;
+
+// Where the last look is used up, reads the first word of the clause of each of the next hints, and returns the offset as far as it looked. What it read matters to
+// nothing: the sum goes into the trail's next entry, so that it is read indeed, and what was kept in the trail stays.
+pub fn look_ahead(
+    proof: &[u8],
+    words: &[u32],
+    starts: &[u32],
+    trail: &mut [u32],
+    decided: usize,
+    ahead: usize,
+    here: usize,
+) -> usize
+    ensures { λ r. ⌜ slice 0 decided (now (trail .exit)) ≡ slice 0 decided (now (trail .entry)) ⌝ }
+{
+    if words.len() < MANY_WORDS {
+        return ahead;
+    }
+    if here < ahead {
+        return ahead;
+    }
+    let mut named = [0u32; AHEAD];
+    let mut count: usize = 0;
+    let mut at = here;
+    while count < AHEAD {
+        match read_command(proof, at) {
+            Command::Hint(h) => {
+                named[count] = entry_at(starts, h as usize);
+                count += 1;
+                at += 5;
+            }
+            Command::Literal(_) => {
+                at += 5;
+            }
+            Command::Close => {
+                at += 1;
+            }
+            Command::End => break,
+            Command::Unreadable => break,
+        }
+    }
+    let mut sum: u32 = 0;
+    let mut i: usize = 0;
+    while i < count {
+        sum = wrapping_add_u32(sum, entry_at(words, named[i] as usize));
+        i += 1;
+    }
+    if decided < trail.len() {
+        trail[decided] = sum;
+    }
+    at
+}

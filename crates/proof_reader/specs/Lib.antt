@@ -1,0 +1,4 @@
+pub mod Command
+pub mod Literals
+pub mod Encode
+pub mod Inner

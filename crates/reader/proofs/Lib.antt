@@ -1,2 +1,0 @@
--- What the layers above know of a command that was read.
-pub mod Reading

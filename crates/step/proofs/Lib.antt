@@ -1,2 +1,0 @@
--- What the proofs of several functions use, and the laws for the layers above.
-pub mod Cleaning

@@ -1,8 +1,0 @@
--- A check that stops.
-use Rattle.step.specs.declared.Refusal.{Refusal}
-use Rattle.step.specs.declared.Turn.{Turn}
-use Rattle.step.specs.declared.Verdict.{Verdict}
-
--- what follows a command that is turned down
-abbrev pub refusedBy : Refusal → Turn
-refusedBy refusal = Turn.Stop (Verdict.Refused refusal)
