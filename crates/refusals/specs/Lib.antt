@@ -1,8 +1,1 @@
-pub mod Row
-pub mod Routine
-pub mod Run
-pub mod Lead
-pub mod Translation
-pub mod Witness
-pub mod Proof
-pub mod Report
+pub mod Table

@@ -1,12 +1,12 @@
 use borrow.Author.Needs.{needs}
-use Rattle.refusals.proofs.of_translation.row_of.Statement.{statement}
-use Rattle.refusals.proofs.of_translation.row_of.Tie as tie
+use Rattle.refusals.proofs.row_of_translation.Statement.{statement}
+use Rattle.refusals.proofs.row_of_translation.Tie as tie
 
 returns-2 : tie.Need-returns-2
 returns-2 c = rw (c .before .before .before .refusal2 .given .1, ← c .before .buffer-number .ensures) (c .of .ensures)
 
-pub row-of-spec : {M : Type 1} → statement M
-row-of-spec =
+pub row-of-translation-spec : {M : Type 1} → statement M
+row-of-translation-spec =
     tie.close
     (tie.spec
     (λ c. search needs)

@@ -1,6 +1,6 @@
 use borrow.Author.Needs.{needs}
-use Rattle.refusals.proofs.of_proof.row_of.Statement.{statement}
-use Rattle.refusals.proofs.of_proof.row_of.Tie as tie
+use Rattle.refusals.proofs.row_of_proof.Statement.{statement}
+use Rattle.refusals.proofs.row_of_proof.Tie as tie
 
 returns : tie.Need-returns
 returns c = rw (c .before .before .refusal .given .1) (c .of .ensures)
@@ -29,8 +29,8 @@ returns-8 c = rw (c .before .before .refusal8 .given .1) (c .of8 .ensures)
 returns-9 : tie.Need-returns-9
 returns-9 c = rw (c .before .before .refusal9 .given .1) (c .of9 .ensures)
 
-pub row-of-spec : {M : Type 1} → statement M
-row-of-spec =
+pub row-of-proof-spec : {M : Type 1} → statement M
+row-of-proof-spec =
     tie.close
     (tie.spec
     (λ c. search needs)

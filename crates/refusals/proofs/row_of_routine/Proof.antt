@@ -1,6 +1,6 @@
 use borrow.Author.Needs.{needs}
-use Rattle.refusals.proofs.of_routine.row_of.Statement.{statement}
-use Rattle.refusals.proofs.of_routine.row_of.Tie as tie
+use Rattle.refusals.proofs.row_of_routine.Statement.{statement}
+use Rattle.refusals.proofs.row_of_routine.Tie as tie
 
 returns : tie.Need-returns
 returns c = rw (c .before .enum-told .given .1) (c .of .ensures)
@@ -14,8 +14,8 @@ returns-3 c = rw (c .before .before .before .refusal2 .given .1, ← c .before .
 returns-4 : tie.Need-returns-4
 returns-4 c = rw (c .before .before .refusal3 .given .1) (c .of4 .ensures)
 
-pub row-of-spec : {M : Type 1} → statement M
-row-of-spec =
+pub row-of-routine-spec : {M : Type 1} → statement M
+row-of-routine-spec =
     tie.close
     (tie.spec
     (λ c. search needs)

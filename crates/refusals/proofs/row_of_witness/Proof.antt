@@ -1,6 +1,6 @@
 use borrow.Author.Needs.{needs}
-use Rattle.refusals.proofs.of_witness.row_of.Statement.{statement}
-use Rattle.refusals.proofs.of_witness.row_of.Tie as tie
+use Rattle.refusals.proofs.row_of_witness.Statement.{statement}
+use Rattle.refusals.proofs.row_of_witness.Tie as tie
 
 returns-2 : tie.Need-returns-2
 returns-2 c = rw (c .before .before .refusal2 .given .1) (c .of .ensures)
@@ -17,8 +17,8 @@ returns-5 c = rw (c .before .before .refusal5 .given .1) (c .of4 .ensures)
 returns-6 : tie.Need-returns-6
 returns-6 c = rw (c .before .before .refusal6 .given .1) (c .of5 .ensures)
 
-pub row-of-spec : {M : Type 1} → statement M
-row-of-spec =
+pub row-of-witness-spec : {M : Type 1} → statement M
+row-of-witness-spec =
     tie.close
     (tie.spec
     (λ c. search needs)
