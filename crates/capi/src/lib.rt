@@ -1,21 +1,22 @@
 // The C interface, and nothing else: each call hands its arguments to the layer that does the work and writes what it answered into `answer`.
-use replies::fill_alike;
-use replies::fill_check;
-use replies::fill_judge;
-use replies::fill_prove;
-use replies::fill_run;
-use replies::fill_translate;
+use capi_answer::ANSWER_ENTRIES;
+use capi_answer::fill_alike;
+use capi_answer::fill_check;
+use capi_answer::fill_judge;
+use capi_answer::fill_prove;
+use capi_answer::fill_run;
+use capi_answer::fill_translate;
 ghost use mathlib.Core.List.{[], _∷_};
 ghost use Rattle.lead.specs.Lead.{targetOf};
 ghost use Rattle.translation_meaning.specs.Faithful.{Demand2};
-ghost use Rattle.interface.specs.Left.{Leaves, checkLeaves, runLeaves, translateLeaves, proveLeaves, judgeLeaves, Finds, alikeLeaves};
+ghost use Rattle.capi_answer.specs.Left.{Leaves, checkLeaves, runLeaves, translateLeaves, proveLeaves, judgeLeaves, Finds, alikeLeaves};
 
 // Checks a routine.
 #[no_mangle]
 pub extern "C" fn pellet_check(routine: &[u8], answer: &mut [u64]) -> u8
     ensures { λ r. ⌜ Leaves (checkLeaves (now (routine .entry)) (now (answer .entry))) [] (now (answer .exit)) r ⌝ }
 {
-    if answer.len() < 8 {
+    if answer.len() < ANSWER_ENTRIES {
         return 255;
     }
     fill_check(routine::check(routine), answer)
@@ -32,7 +33,7 @@ pub extern "C" fn pellet_run(
 ) -> u8
     ensures { λ r. ⌜ Leaves (runLeaves (now (routine .entry)) (now (inputs .entry)) (now (values .entry)) (now (trail .entry)) (now (answer .entry))) (now (values .exit) ∷ now (trail .exit) ∷ []) (now (answer .exit)) r ⌝ }
 {
-    if answer.len() < 8 {
+    if answer.len() < ANSWER_ENTRIES {
         return 255;
     }
     fill_run(run::run(routine, inputs, values, trail), answer)
@@ -52,7 +53,7 @@ pub extern "C" fn pellet_translate(
     ensures { λ r. ⌜ Leaves (translateLeaves (now (routine .entry)) access side (now (decisions .entry)) (now (words .entry)) (now (starts .entry)) (now (answer .entry))) (now (words .exit) ∷ now (starts .exit) ∷ []) (now (answer .exit)) r ⌝ }
     ensures { λ r. ⌜ Demand2 (now (routine .entry)) (targetOf access side) (now (decisions .entry)) ⌝ }
 {
-    if answer.len() < 8 {
+    if answer.len() < ANSWER_ENTRIES {
         return 255;
     }
     fill_translate(
@@ -75,7 +76,7 @@ pub extern "C" fn pellet_prove(
 ) -> u8
     ensures { λ r. ⌜ Leaves (proveLeaves (now (report .entry)) from clauses variables (now (words .entry)) (now (starts .entry)) (now (marks .entry)) (now (answer .entry))) (now (words .exit) ∷ now (starts .exit) ∷ now (marks .exit) ∷ []) (now (answer .exit)) r ⌝ }
 {
-    if answer.len() < 8 {
+    if answer.len() < ANSWER_ENTRIES {
         return 255;
     }
     fill_prove(
@@ -101,7 +102,7 @@ pub extern "C" fn pellet_judge(
 {
     // Judging zeroes the buffers, and they are zeroed on every return: so it comes before the test of the answer's length.
     let judged = report::judge(routine, report, words, starts, marks, values, trail);
-    if answer.len() < 8 {
+    if answer.len() < ANSWER_ENTRIES {
         return 255;
     }
     fill_judge(judged, answer)
@@ -117,7 +118,7 @@ pub extern "C" fn pellet_alike(
 ) -> u8
     ensures { λ r. ⌜ Leaves (alikeLeaves (now (routine .entry)) (now (first .entry)) (now (second .entry)) (now (answer .entry))) [] (now (answer .exit)) r ⌝ }
 {
-    if answer.len() < 8 {
+    if answer.len() < ANSWER_ENTRIES {
         return 255;
     }
     fill_alike(comparing::alike(routine, first, second), answer)

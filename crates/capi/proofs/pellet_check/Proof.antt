@@ -1,6 +1,6 @@
-use Rattle.interface.proofs.Leaving.{short, check-leaves}
+use Rattle.capi_answer.proofs.Leaving.{short, check-leaves}
 use borrow.Author.Tests.{lt-ltb, le-ltb}
-use Rattle.interface.specs.Left.{checkLeaves}
+use Rattle.capi_answer.specs.Left.{checkLeaves}
 use borrow.Author.Needs.{needs}
 use Rattle.capi.proofs.pellet_check.Statement.{statement}
 use Rattle.capi.proofs.pellet_check.Tie as tie

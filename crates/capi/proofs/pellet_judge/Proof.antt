@@ -1,4 +1,5 @@
-use Rattle.interface.proofs.Finding.{judge-short, judge-leaves, finds, finds-nothing}
+use Rattle.capi_answer.proofs.Leaving.{judge-short, judge-leaves}
+use Rattle.capi_answer.proofs.Telling.{finds, finds-nothing}
 use borrow.Author.Tests.{lt-ltb, le-ltb}
 use borrow.Author.Needs.{needs}
 use Rattle.capi.proofs.pellet_judge.Statement.{statement}

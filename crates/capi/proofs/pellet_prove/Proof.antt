@@ -1,6 +1,6 @@
-use Rattle.interface.proofs.Leaving.{prove-leaves, short}
+use Rattle.capi_answer.proofs.Leaving.{prove-leaves, short}
 use borrow.Author.Tests.{lt-ltb, le-ltb}
-use Rattle.interface.specs.Left.{proveLeaves}
+use Rattle.capi_answer.specs.Left.{proveLeaves}
 use borrow.Author.Needs.{needs}
 use Rattle.capi.proofs.pellet_prove.Statement.{statement}
 use Rattle.capi.proofs.pellet_prove.Tie as tie

@@ -1,6 +1,6 @@
-use Rattle.interface.proofs.Leaving.{run-leaves, short}
+use Rattle.capi_answer.proofs.Leaving.{run-leaves, short}
 use borrow.Author.Tests.{lt-ltb, le-ltb}
-use Rattle.interface.specs.Left.{runLeaves}
+use Rattle.capi_answer.specs.Left.{runLeaves}
 use borrow.Author.Needs.{needs}
 use Rattle.capi.proofs.pellet_run.Statement.{statement}
 use Rattle.capi.proofs.pellet_run.Tie as tie

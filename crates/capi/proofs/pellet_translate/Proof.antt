@@ -1,7 +1,7 @@
-use Rattle.interface.proofs.Leaving.{translate-leaves, short}
+use Rattle.capi_answer.proofs.Leaving.{translate-leaves, short}
 use Rattle.translation_meaning.proofs.Demand.{demand}
 use borrow.Author.Tests.{lt-ltb, le-ltb}
-use Rattle.interface.specs.Left.{translateLeaves}
+use Rattle.capi_answer.specs.Left.{translateLeaves}
 use borrow.Author.Needs.{needs}
 use Rattle.capi.proofs.pellet_translate.Statement.{statement}
 use Rattle.capi.proofs.pellet_translate.Tie as tie

@@ -1,0 +1,3 @@
+-- The laws for the functions of the C interface.
+pub mod Leaving
+pub mod Telling
