@@ -14,7 +14,7 @@
  *   0    done; `answer` is filled as said at the function.
  *   254  only from pellet_prove: what it is given is not as it says there;
  *        nothing is changed, not even `answer`.
- *   255  `answer` has fewer than 8 entries; nothing is changed, except that
+ *   255  `answer` has fewer than 16 entries; nothing is changed, except that
  *        pellet_judge zeroes its five buffers on every return.
  *   else the number of a refusal; answer[0] receives its place, and nothing
  *        else is changed, unless the function says so.

@@ -14,7 +14,7 @@ use Rattle.judgement.specs.declared.Finding.{Finding}
 
 -- the entries that `answer` has at least; one with fewer is short
 abbrev pub answerEntries : ℕ
-answerEntries = 8
+answerEntries = 16
 
 -- 1 if a whole number is negative
 abbrev pub isNegative : Whole → ℕ

@@ -26,7 +26,7 @@ ghost use Rattle.capi_answer.specs.Entry.{answerEntries};
 ghost use Rattle.capi_answer.specs.Reply.{refused, checkFills, runFills, translateFills, proveFills, judgeFills, alikeFills, Fills};
 
 // The entries that `answer` has at least.
-pub const ANSWER_ENTRIES: usize = 8;
+pub const ANSWER_ENTRIES: usize = 16;
 
 // A refusal's row: the number is returned, the place told.
 fn fill_refused(row: Row, answer: &mut [u64]) -> u8

@@ -8,7 +8,7 @@ use crate::fast_refusal::Refusal;
 use crate::fast_run::check_inputs;
 use crate::fast_translate::{admit, fit, Claim};
 use crate::lent::Buffers;
-use pellet::MAX_ENTRIES;
+use pellet::{ANSWER_LEN, ANSWER_TOO_SHORT, MAX_ENTRIES};
 
 const CUT: u8 = 11;
 const OTHER_WAY: u8 = 13;
@@ -17,15 +17,15 @@ const NOT_ON_SIDE: u8 = 15;
 const BUFFER: u8 = 16;
 
 pub fn judge(bytes: &[u8], report: &[u8], lent: &mut Buffers, answer: &mut [u64]) -> u8 {
-    if answer.len() < 8 {
+    if answer.len() < ANSWER_LEN {
         zero(lent);
-        return 255;
+        return ANSWER_TOO_SHORT;
     }
     let judged = decide(bytes, report, lent);
     zero(lent);
     match judged {
         Ok(entries) => {
-            answer[..8].copy_from_slice(&entries);
+            answer[..entries.len()].copy_from_slice(&entries);
             0
         }
         Err(refusal) => refusal.give(answer),

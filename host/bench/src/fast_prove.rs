@@ -3,7 +3,7 @@
 use crate::fast_proof::{self, Stored};
 use crate::fast_refusal::Refusal;
 use crate::lent::Buffers;
-use pellet::{MAX_ENTRIES, NOT_STANDING};
+use pellet::{ANSWER_LEN, ANSWER_TOO_SHORT, MAX_ENTRIES, NOT_STANDING};
 
 pub fn prove(
     report: &[u8],
@@ -13,8 +13,8 @@ pub fn prove(
     lent: &mut Buffers,
     answer: &mut [u64],
 ) -> u8 {
-    if answer.len() < 8 {
-        return 255;
+    if answer.len() < ANSWER_LEN {
+        return ANSWER_TOO_SHORT;
     }
     let words_len = lent.words.len().min(MAX_ENTRIES);
     let starts_len = lent.starts.len().min(MAX_ENTRIES);

@@ -5,6 +5,7 @@ use crate::fast_header::Header;
 use crate::fast_machine::{End, Machine, Unwatched};
 use crate::fast_refusal::Refusal;
 use crate::fast_word::reduce;
+use pellet::{ANSWER_LEN, ANSWER_TOO_SHORT};
 
 const INPUT_COUNT: u8 = 9;
 const INPUT_RANGE: u8 = 10;
@@ -17,8 +18,8 @@ pub fn run(
     trail: &mut [u8],
     answer: &mut [u64],
 ) -> u8 {
-    if answer.len() < 8 {
-        return 255;
+    if answer.len() < ANSWER_LEN {
+        return ANSWER_TOO_SHORT;
     }
     match carry_out(bytes, inputs, values, trail) {
         Ok(End::Stopped { access, index }) => {

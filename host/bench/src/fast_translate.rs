@@ -5,7 +5,7 @@ use crate::fast_refusal::Refusal;
 use crate::fast_sink::Counter;
 use crate::fast_walk::walk;
 use crate::fast_writer::Writer;
-use pellet::MAX_ENTRIES;
+use pellet::{ANSWER_LEN, ANSWER_TOO_SHORT, MAX_ENTRIES};
 
 const LEAD_LENGTH: u8 = 11;
 const LEAD_RANGE: u8 = 12;
@@ -34,8 +34,8 @@ pub fn translate(
     starts: &mut [u32],
     answer: &mut [u64],
 ) -> u8 {
-    if answer.len() < 8 {
-        return 255;
+    if answer.len() < ANSWER_LEN {
+        return ANSWER_TOO_SHORT;
     }
     let fitted = check(bytes).and_then(|routine| {
         admit(&routine, claim)?;

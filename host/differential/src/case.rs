@@ -158,8 +158,8 @@ pub(crate) fn draw_len(rng: &mut Rng, needed: usize) -> usize {
 
 pub(crate) fn draw_answer_len(rng: &mut Rng) -> usize {
     match rng.below(25) {
-        0 => rng.below(ANSWER_LEN),
-        1..=9 => ANSWER_LEN + rng.within(1, 4),
+        0..=1 => rng.below(ANSWER_LEN),
+        2..=9 => ANSWER_LEN + rng.within(1, 4),
         _ => ANSWER_LEN,
     }
 }

@@ -1,6 +1,8 @@
 //! The worked examples, with their results written out: these hold of the
 //! library whatever the oracle says.
 
+use pellet::ANSWER_LEN;
+
 const UNTOUCHED: u64 = 0xA5A5_A5A5_A5A5_A5A5;
 const UNTOUCHED_VALUE: u32 = 0xA5A5_A5A5;
 const UNTOUCHED_BYTE: u8 = 0xA5;
@@ -10,15 +12,15 @@ const WRITE_AT_PARAMETER: &[u8] = &[1, 1, 8, 1, 1, 100, 0, 0x0A, 0, 0, 0, 0];
 /// One 1-bit variable set to 1, then a write at it into an array of 1.
 const WRITE_AT_ONE_BIT: &[u8] = &[1, 1, 1, 0, 1, 1, 0, 0x01, 0, 1, 0, 0, 0, 0x0A, 0, 0, 0, 0];
 
-fn check(routine: &[u8]) -> (u8, [u64; 8]) {
-    let mut answer = [UNTOUCHED; 8];
+fn check(routine: &[u8]) -> (u8, [u64; ANSWER_LEN]) {
+    let mut answer = [UNTOUCHED; ANSWER_LEN];
     let status = pellet::check(routine, &mut answer);
     (status, answer)
 }
 
 struct Ran {
     status: u8,
-    answer: [u64; 8],
+    answer: [u64; ANSWER_LEN],
     values: [u32; 4],
     trail: [u8; 4],
 }
@@ -26,7 +28,7 @@ struct Ran {
 fn run(routine: &[u8], inputs: &[u32]) -> Ran {
     let mut ran = Ran {
         status: 0,
-        answer: [UNTOUCHED; 8],
+        answer: [UNTOUCHED; ANSWER_LEN],
         values: [UNTOUCHED_VALUE; 4],
         trail: [UNTOUCHED_BYTE; 4],
     };
@@ -41,8 +43,8 @@ fn run(routine: &[u8], inputs: &[u32]) -> Ran {
 }
 
 /// An answer with these first entries and the rest left alone.
-fn answer(first: &[u64]) -> [u64; 8] {
-    let mut answer = [UNTOUCHED; 8];
+fn answer(first: &[u64]) -> [u64; ANSWER_LEN] {
+    let mut answer = [UNTOUCHED; ANSWER_LEN];
     answer[..first.len()].copy_from_slice(first);
     answer
 }
@@ -156,12 +158,12 @@ fn refusals_of_runs() {
         1, 1, 8, 1, 1, 4, 0, 0x09, 0, 0, 0, 0x0B, 0, 0, 0, 0x0C, 0x0D, 0,
     ];
     let refused = |inputs: &[u32], values_len: usize, trail_len: usize| {
-        let mut answer = [UNTOUCHED; 8];
+        let mut answer = [UNTOUCHED; ANSWER_LEN];
         let (mut values, mut trail) = ([UNTOUCHED_VALUE; 4], [UNTOUCHED_BYTE; 4]);
         let lent = (&mut values[..values_len], &mut trail[..trail_len]);
         let status = pellet::run(&routine, inputs, lent.0, lent.1, &mut answer);
         assert_eq!((values, trail), ([UNTOUCHED_VALUE; 4], [UNTOUCHED_BYTE; 4]));
-        assert_eq!(answer[1..], [UNTOUCHED; 7]);
+        assert_eq!(answer[1..], [UNTOUCHED; ANSWER_LEN - 1]);
         (status, answer[0])
     };
     assert_eq!(refused(&[256], 0, 0), (9, 1));

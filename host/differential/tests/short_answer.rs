@@ -1,7 +1,9 @@
-//! Answers of every length below 8, with buffers in which no entry is 0: each
+//! Answers of every length below 16, with buffers in which no entry is 0: each
 //! call returns 255, whether it would be done or refused otherwise. Judging
 //! zeroes its five buffers all the same, and the other calls leave everything
-//! as it was. This holds of the library whatever the oracle says.
+//! as it was. With 16 entries each call is done or refused, and leaves the
+//! entries alone that it does not name. This holds of the library whatever the
+//! oracle says.
 
 use std::fmt::Debug;
 
@@ -12,12 +14,28 @@ const REPORT: &[u8] = &[0, 0, 2, 0, 0, 0, 0, 2, 2, 0, 0, 0, 3, 0];
 /// No more entries of a buffer are used.
 const USED: usize = 16_777_216;
 
+/// Every call needs so many entries in `answer`.
+const NEEDED: usize = 16;
+
 /// Makes the call with each answer that is too short.
 fn with_short_answers(mut call: impl FnMut(&mut [u64]) -> u8) {
-    for len in 0..8 {
-        let mut answer = [9; 8];
+    for len in 0..NEEDED {
+        let mut answer = [9; NEEDED + 4];
         assert_eq!(call(&mut answer[..len]), 255, "an answer of {len}");
-        assert_eq!(answer, [9; 8], "an answer of {len}");
+        assert_eq!(answer, [9; NEEDED + 4], "an answer of {len}");
+    }
+}
+
+/// Makes the call with an answer that just suffices and with a longer one: it
+/// returns this status and tells these entries. All behind them stay as they
+/// were, those that are lent and those that are not.
+fn with_long_answers(status: u8, told: &[u64], mut call: impl FnMut(&mut [u64]) -> u8) {
+    for len in [NEEDED, NEEDED + 1] {
+        let mut answer = [9; NEEDED + 4];
+        assert_eq!(call(&mut answer[..len]), status, "an answer of {len}");
+        let (first, others) = answer.split_at(told.len());
+        assert_eq!(first, told, "an answer of {len}");
+        assert!(others.iter().all(|&entry| entry == 9), "{answer:?}");
     }
 }
 
@@ -52,20 +70,28 @@ fn translate_changes_nothing() {
     }
 }
 
-/// With the clauses of the bench's report, and with more variables than there
-/// are marks for, which is 254 otherwise.
+/// The clauses of the bench's report, and entries behind them.
+const WORDS: [u32; 8] = [1, 2, 1, 2, 1, 3, 9, 9];
+const STARTS: [u32; 5] = [0, 2, 4, 9, 9];
+
+/// Checks the report's proof against these clauses of so many variables; unless
+/// that is done, everything lent stays as it was.
+fn prove(variables: u32, answer: &mut [u64]) -> u8 {
+    let (mut words, mut starts, mut marks) = (WORDS, STARTS, [9; 4]);
+    let lent = (&mut words, &mut starts, &mut marks);
+    let status = pellet::prove(REPORT, 2, 3, variables, lent.0, lent.1, lent.2, answer);
+    if status != 0 {
+        assert_eq!((words, starts, marks), (WORDS, STARTS, [9; 4]));
+    }
+    status
+}
+
+/// Of one variable, and of more than there are marks for, which is 254
+/// otherwise.
 #[test]
 fn prove_changes_nothing() {
-    const WORDS: [u32; 8] = [1, 2, 1, 2, 1, 3, 9, 9];
-    const STARTS: [u32; 5] = [0, 2, 4, 9, 9];
     for variables in [1, 4] {
-        with_short_answers(|answer| {
-            let (mut words, mut starts, mut marks) = (WORDS, STARTS, [9; 4]);
-            let lent = (&mut words, &mut starts, &mut marks);
-            let status = pellet::prove(REPORT, 2, 3, variables, lent.0, lent.1, lent.2, answer);
-            assert_eq!((words, starts, marks), (WORDS, STARTS, [9; 4]));
-            status
-        });
+        with_short_answers(|answer| prove(variables, answer));
     }
 }
 
@@ -121,4 +147,43 @@ fn judge_zeroes() {
 #[test]
 fn judge_zeroes_to_the_limit() {
     with_short_answers(|answer| judge(ROUTINE, REPORT, [USED + 3; 5], answer));
+}
+
+#[test]
+fn sixteen_entries_suffice() {
+    with_long_answers(0, &[1, 0, 1, 0, 1, 0, 7], |answer| {
+        pellet::check(ROUTINE, answer)
+    });
+    with_long_answers(0, &[1, 0, 0, 1, 1], |answer| {
+        pellet::run(ROUTINE, &[], &mut [9; 4], &mut [9; 4], answer)
+    });
+    with_long_answers(0, &[3, 6, 1], |answer| {
+        pellet::translate(ROUTINE, 0, 0, &[], &mut [9; 8], &mut [9; 5], answer)
+    });
+    with_long_answers(0, &[1, 2], |answer| prove(1, answer));
+    with_long_answers(0, &[0, 0, 0, 1, 1, 1, 1, 2], |answer| {
+        judge(ROUTINE, REPORT, [16, 16, 16, 4, 4], answer)
+    });
+    with_long_answers(0, &[1], |answer| {
+        pellet::alike(ROUTINE, REPORT, REPORT, answer)
+    });
+}
+
+/// Each call with a refusal, and the proof's with 254, which tells nothing.
+#[test]
+fn sixteen_entries_suffice_to_refuse() {
+    with_long_answers(1, &[0], |answer| pellet::check(&[], answer));
+    with_long_answers(9, &[1], |answer| {
+        pellet::run(ROUTINE, &[0], &mut [9; 4], &mut [9; 4], answer)
+    });
+    with_long_answers(12, &[1], |answer| {
+        pellet::translate(ROUTINE, 0, 9, &[], &mut [9; 8], &mut [9; 5], answer)
+    });
+    with_long_answers(254, &[], |answer| prove(4, answer));
+    with_long_answers(16, &[2], |answer| {
+        judge(ROUTINE, REPORT, [16, 16, 0, 4, 4], answer)
+    });
+    with_long_answers(11, &[0], |answer| {
+        pellet::alike(ROUTINE, &[], REPORT, answer)
+    });
 }

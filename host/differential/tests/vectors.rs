@@ -6,6 +6,7 @@ use differential::translation_compare::read_clauses;
 use oracle::arithmetic::{holds, operate, resize, Operation, Resize, RELATIONS};
 use oracle::propagation::propagate;
 use oracle::Outcome;
+use pellet::ANSWER_LEN;
 
 const VECTORS: &str = include_str!("../../vectors/bitvectors.txt");
 
@@ -195,7 +196,7 @@ fn runs_agree() {
             let by_oracle = vector.result_of(&run.values, &trail);
             assert_eq!(by_oracle, vector.result, "{}", vector.line);
 
-            let (mut values, mut trail, mut answer) = ([0; 4], [9; 1], [9; 8]);
+            let (mut values, mut trail, mut answer) = ([0; 4], [9; 1], [9; ANSWER_LEN]);
             let status = pellet::run(&routine, inputs, &mut values, &mut trail, &mut answer);
             assert_eq!((status, answer[0]), (0, 0), "{}", vector.line);
             let by_library = vector.result_of(&values, &trail);
@@ -226,7 +227,7 @@ fn arrival(routine: &[u8], inputs: &[u32]) -> Option<bool> {
     decisions[parsed.ifs - 1] = 0;
     let needed = oracle::measure(routine, 0, 0, &decisions).expect("a valid lead");
     let (mut words, mut starts) = (vec![0; needed.words], vec![0; needed.clauses]);
-    let mut answer = [0; 8];
+    let mut answer = [0; ANSWER_LEN];
     let lent = (&mut words, &mut starts);
     let status = pellet::translate(routine, 0, 0, &decisions, lent.0, lent.1, &mut answer);
     assert_eq!(status, 0);

@@ -6,7 +6,7 @@
 //! `include/pelletperiod.h`.
 
 /// How many entries every call needs in `answer`.
-pub const ANSWER_LEN: usize = 8;
+pub const ANSWER_LEN: usize = 16;
 
 /// Returned when `answer` has fewer than [`ANSWER_LEN`] entries. Nothing is
 /// changed then, except that [`judge`] zeroes its five buffers on every return.

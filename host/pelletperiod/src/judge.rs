@@ -48,7 +48,7 @@ fn judge_with(routine: &[u8], report: &[u8], entries: usize) -> Result<String, R
         &mut answer,
     );
     accepted(code, &answer)?;
-    let [access, side, array, size, negative, magnitude, steps, hints] = answer;
+    let [access, side, array, size, negative, magnitude, steps, hints, ..] = answer;
     let (side, index) = (side_name(side), index(negative, magnitude));
     Ok(format!(
         "accepted access {access} side {side} array {array} size {size} \

@@ -10,7 +10,7 @@ use pelletperiod::{dimacs, Claim, Refused};
 pub fn check(routine: &[u8]) -> Result<String, Refused> {
     let mut answer = [0; pellet::ANSWER_LEN];
     accepted(pellet::check(routine, &mut answer), &answer)?;
-    let [variables, parameters, arrays, ifs, accesses, reads, first, _] = answer;
+    let [variables, parameters, arrays, ifs, accesses, reads, first, ..] = answer;
     Ok(format!(
         "variables {variables} parameters {parameters} arrays {arrays} \
          ifs {ifs} accesses {accesses} reads {reads} first command {first}"
