@@ -8,8 +8,8 @@ use lib.Seq.{length-take-le}
 use Rattle.io.specs.Counts.{Counts}
 use Rattle.judgement.specs.Judging.{judgement}
 use Rattle.judgement.specs.declared.Judged.{Judged}
-use Rattle.putting.specs.Text.{bytes}
-use Rattle.line.specs.Line.{lineOf}
+use Rattle.judge_line.specs.Text.{bytes}
+use Rattle.judge_line.specs.Line.{lineOf}
 use Rattle.judging.specs.Printed.{lent, printed}
 
 pub too-long : (routine report : List ℕ) → 65536 < length report → bytes "too long\n" ≡ printed routine report

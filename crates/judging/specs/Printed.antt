@@ -6,9 +6,9 @@ use lib.ListN.{length}
 use lib.Dec.{ltb}
 use Rattle.proving.specs.Proving.{Room}
 use Rattle.judgement.specs.Judging.{judgement}
-use Rattle.putting.specs.Text.{bytes}
-use Rattle.line.specs.Line.{lineOf}
-use Rattle.putting.specs.Puts.{Puts}
+use Rattle.judge_line.specs.Text.{bytes}
+use Rattle.judge_line.specs.Line.{lineOf}
+use Rattle.judge_line.specs.Writes.{Writes}
 
 -- how much is lent to the judging
 abbrev pub lent : Room
@@ -22,7 +22,7 @@ printed routine report = cond (ltb 65536 (length report)) (bytes "too long\n") (
 pub record SaysOf (report out out₁ : List ℕ) (r : ℕ) : Type 0 where
   pub routine : List ℕ
   pub few : length routine ≤ 4097
-  pub puts : Puts out 0 (printed routine report) out₁ r
+  pub writes : Writes out 0 (printed routine report) out₁ r
 
 -- the same of a report, whatever bytes its file gave, of which 65,537 are read at most
 pub record Says (out out₁ : List ℕ) (r : ℕ) : Type 0 where

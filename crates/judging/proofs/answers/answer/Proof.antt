@@ -1,7 +1,7 @@
 -- What is printed, where the report is too long and where it is judged.
 use native.Mathlib.Omega.{arith}
-use Rattle.putting.specs.Text.{bytes}
-use Rattle.putting.proofs.Laid.{said}
+use Rattle.judge_line.specs.Text.{bytes}
+use Rattle.judge_line.proofs.Laid.{said}
 use Rattle.judging.proofs.Printing.{too-long, judged, counted}
 use borrow.Author.Needs.{needs}
 use Rattle.judging.proofs.answers.answer.Statement.{statement}
@@ -11,7 +11,7 @@ returns : tie.Need-returns
 unfolding bytes
 returns c =
     let w = c .before .before in
-    (said (w .put-text .ensures) (too-long _ _ (w .before .before .before .if1 .taken)), counted _ _ (omega (arith, w .put-text .ensures .ends, w .put-text .kept .1 .0)))
+    (said (w .write-text .ensures) (too-long _ _ (w .before .before .before .if1 .taken)), counted _ _ (omega (arith, w .write-text .ensures .ends, w .write-text .kept .1 .0)))
 
 returns-2 : tie.Need-returns-2
 returns-2 c =

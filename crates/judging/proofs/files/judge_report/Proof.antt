@@ -9,7 +9,7 @@ returns : tie.Need-returns
 returns c =
     let f = c .before .before .before .before .before .before .read-file in
     let a = c .before .before .answer in
-    (record { routine = take (f .result) (f .last .1 .0); few = omega (arith, f .ensures .0, f .ensures .1, f .kept .1 .0); puts = a .ensures .0 }, a .ensures .1)
+    (record { routine = take (f .result) (f .last .1 .0); few = omega (arith, f .ensures .0, f .ensures .1, f .kept .1 .0); writes = a .ensures .0 }, a .ensures .1)
 
 pub judge-report-spec : {M : Type 1} → statement M
 judge-report-spec =

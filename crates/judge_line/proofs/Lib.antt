@@ -1,0 +1,4 @@
+-- What the proofs of several functions use, and the laws for the layers above.
+pub mod Digits
+pub mod Laid
+mod Bench

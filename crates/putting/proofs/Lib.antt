@@ -1,3 +1,0 @@
--- What the proofs of several functions use, and the laws for the layers above.
-pub mod Digits
-pub mod Laid
