@@ -1,6 +1,6 @@
 // Judges cases that are not accepted, one after the other, and prints a line for each. The last three are the bench's report as document 01 changes it.
-use judging::files::judge_files;
-use judging::judge_given;
+use judge_files::files::judge_files;
+use judge_files::judge_given;
 
 fn main() {
     let mut line = [0u8; 200];

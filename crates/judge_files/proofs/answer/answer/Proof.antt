@@ -2,10 +2,10 @@
 use native.Mathlib.Omega.{arith}
 use Rattle.judge_line.specs.Text.{bytes}
 use Rattle.judge_line.proofs.Laid.{said}
-use Rattle.judging.proofs.Printing.{too-long, judged, counted}
+use Rattle.judge_files.proofs.Printing.{too-long, judged, counted}
 use borrow.Author.Needs.{needs}
-use Rattle.judging.proofs.answers.answer.Statement.{statement}
-use Rattle.judging.proofs.answers.answer.Tie as tie
+use Rattle.judge_files.proofs.answer.answer.Statement.{statement}
+use Rattle.judge_files.proofs.answer.answer.Tie as tie
 
 returns : tie.Need-returns
 unfolding bytes

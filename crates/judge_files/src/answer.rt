@@ -9,7 +9,7 @@ ghost use lib.ListN.{length};
 ghost use Rattle.io.specs.Counts.{Counts};
 ghost use Rattle.judgement.specs.Judging.{judgement};
 ghost use Rattle.judge_line.specs.Writes.{Writes};
-ghost use Rattle.judging.specs.Printed.{lent, printed};
+ghost use Rattle.judge_files.specs.Printed.{lent, printed};
 
 // Judges with buffers of its own.
 fn judge_lent(routine: &[u8], report: &[u8]) -> Judged

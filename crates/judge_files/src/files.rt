@@ -1,9 +1,9 @@
 // Judging the files: what is printed of the bytes that they hold.
-use crate::answers::answer;
+use crate::answer::answer;
 ghost use Prim.Native.Nat.{_≤_};
 ghost use lib.ListN.{length};
 ghost use Rattle.io.specs.Counts.{Counts};
-ghost use Rattle.judging.specs.Printed.{SaysOf, Says};
+ghost use Rattle.judge_files.specs.Printed.{SaysOf, Says};
 
 // Reads a file into `bytes`, as far as it fits, and returns how many bytes there are. A file that cannot be opened is empty.
 fn read_file(name: &[u8], bytes: &mut [u8]) -> usize

@@ -10,7 +10,7 @@ use Rattle.judgement.specs.Judging.{judgement}
 use Rattle.judgement.specs.declared.Judged.{Judged}
 use Rattle.judge_line.specs.Text.{bytes}
 use Rattle.judge_line.specs.Line.{lineOf}
-use Rattle.judging.specs.Printed.{lent, printed}
+use Rattle.judge_files.specs.Printed.{lent, printed}
 
 pub too-long : (routine report : List ℕ) → 65536 < length report → bytes "too long\n" ≡ printed routine report
 unfolding printed

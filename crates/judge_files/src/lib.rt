@@ -1,13 +1,13 @@
 // The judging of the files that a program is given. What is printed for the bytes of the two files is proved; that these are the files' bytes is only tested,
 // since no contract speaks of what the C library reads.
-mod answers;
+mod answer;
 pub mod files;
 
 use files::judge_files;
 ghost use Prim.Native.Nat.{_≤_};
 ghost use lib.ListN.{length};
 ghost use Rattle.io.specs.Counts.{Counts};
-ghost use Rattle.judging.specs.Printed.{Says};
+ghost use Rattle.judge_files.specs.Printed.{Says};
 
 // Judges the report in report.bin on the routine in routine.bin, in the working folder. Of two arguments the first names the routine's file and the second the
 // report's; any other number of arguments counts as none. Writes what is to be printed at the beginning of `out`, and returns its length.
