@@ -1,36 +1,25 @@
-// The judging of the files that a program is given. What is printed for the bytes of the two files is proved; that these are the files' bytes is only tested,
-// since no contract speaks of what the C library reads.
+// What is printed of the files that a program is given. It is proved for whatever bytes the files give; that these are the files' bytes is only tested.
 mod answer;
-pub mod files;
+pub mod arguments;
+mod reading;
 
-use files::judge_files;
+use answer::answer;
+use reading::read_file;
 ghost use Prim.Native.Nat.{_≤_};
 ghost use lib.ListN.{length};
 ghost use Rattle.io.specs.Counts.{Counts};
 ghost use Rattle.judge_files.specs.Printed.{Says};
 
-// Judges the report in report.bin on the routine in routine.bin, in the working folder. Of two arguments the first names the routine's file and the second the
-// report's; any other number of arguments counts as none. Writes what is to be printed at the beginning of `out`, and returns its length.
-pub fn judge_given(out: &mut [u8]) -> usize
+// Writes what is printed of the report in one file on the routine in another at the beginning of `out`, and returns its length. One byte more than a routine and
+// a report have is read, so that a longer file is told and not cut short.
+pub fn judge_files(routine_name: &[u8], report_name: &[u8], out: &mut [u8]) -> usize
     requires { ⌜ 200 ≤ length (now out) ⌝ }
     ensures { λ r. ⌜ Says (now (out .entry)) (now (out .exit)) r ⌝ }
     ensures { λ r. ⌜ Counts r (now (out .exit)) ⌝ }
 {
-    if os::arg_count() == 3 {
-        judge_named(out)
-    } else {
-        judge_files(b"routine.bin", b"report.bin", out)
-    }
-}
-
-fn judge_named(out: &mut [u8]) -> usize
-    requires { ⌜ 200 ≤ length (now out) ⌝ }
-    ensures { λ r. ⌜ Says (now (out .entry)) (now (out .exit)) r ⌝ }
-    ensures { λ r. ⌜ Counts r (now (out .exit)) ⌝ }
-{
-    let mut routine = io::buffer();
-    let n = os::arg(1, &mut routine);
-    let mut report = io::buffer();
-    let m = os::arg(2, &mut report);
-    judge_files(&routine[..n], &report[..m], out)
+    let mut first = [0u8; 4097];
+    let routine = read_file(routine_name, &mut first);
+    let mut second = [0u8; 65537];
+    let report = read_file(report_name, &mut second);
+    answer(routine, &first, report, &second, out)
 }
