@@ -3,7 +3,7 @@ use Prim.Native.Nat.{ℕ, zero, suc}
 use Prim.Native.String.{String}
 use mathlib.Core.List.{List, _++_}
 use Rattle.bitvec.specs.declared.Whole.{Whole}
-use Rattle.refusals.specs.Report.{rowOf}
+use Rattle.refusals.specs.Table.{reportRow}
 use Rattle.proving.specs.declared.Refusal.{Refusal}
 use Rattle.judgement.specs.declared.Finding.{Finding}
 use Rattle.judgement.specs.declared.Judged.{Judged}
@@ -34,7 +34,7 @@ shown f = bytes " index " ++ signed (f .index) ++ named " steps " (f .steps) ++ 
 
 -- a refusal, by its number and its place
 unfoldable pub refused : Refusal → List ℕ
-refused refusal = named "refused " (rowOf refusal .number) ++ named " place " (rowOf refusal .place) ++ bytes "\n"
+refused refusal = named "refused " (reportRow refusal .number) ++ named " place " (reportRow refusal .place) ++ bytes "\n"
 
 -- the whole line
 unfoldable pub lineOf : Judged → List ℕ

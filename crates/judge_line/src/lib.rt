@@ -8,7 +8,7 @@ use accepted::write_shown;
 use decimal::write_named;
 use judgement::Judged;
 use proving::Refusal;
-use refusals::of_report::row_of;
+use refusals::row_of_report;
 use text::write_text;
 ghost use Prim.Native.Nat.{_≤_};
 ghost use lib.ListN.{length};
@@ -36,7 +36,7 @@ fn write_refused(refusal: Refusal, out: &mut [u8]) -> usize
     ensures { λ r. ⌜ Writes (now (out .entry)) 0 (refused refusal) (now (out .exit)) r ⌝ }
     ensures { λ r. ⌜ r ≤ 200 ⌝ }
 {
-    let row = row_of(refusal);
+    let row = row_of_report(refusal);
     let next = write_named(b"refused ", row.number as usize, out, 0);
     let next = write_named(b" place ", row.place, out, next);
     write_text(b"\n", out, next)

@@ -13,7 +13,7 @@ returns c =
     let end = c .before .before in
     let place = end .before .before .before .before .before in
     let number = place .before .before .before .before .before in
-    (said (onward (onward (number .write-named .ensures .0) (place .write-named2 .ensures .0)) (end .write-text .ensures)) (rw (number .before .before .before .before .row-of .ensures) refl), omega (arith, end .write-text .ensures .ends))
+    (said (onward (onward (number .write-named .ensures .0) (place .write-named2 .ensures .0)) (end .write-text .ensures)) (rw (number .before .before .before .before .row-of-report .ensures) refl), omega (arith, end .write-text .ensures .ends))
 
 pub write-refused-spec : {M : Type 1} → statement M
 write-refused-spec =
