@@ -104,7 +104,7 @@ module _ (bs r : List ℕ) (h : Header) (a : Arm) (k : Counts) (d : decode bs �
   x = translationOf bs t ds h a
 
   admitted : claimAdmission bs t ds ≡ translates h a k
-  admitted = admission-by bs t ds h a k d (lets r h k t _ (sym (s .opens)) refl .admits a)
+  admitted = admission-by bs t ds h a k d (lets r h k t _ (sym (s .opens)) refl .admits)
 
   claim : Faithful bs t ds h a k
   claim = translated .holds h a k admitted

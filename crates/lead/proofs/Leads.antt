@@ -1,5 +1,5 @@
 -- Whether there is a claim to translate, from what the parts answered. Assumes nothing.
-use mathlib.Core.Path.{_≡_, refl, sym, ap, subst, _∙_}
+use mathlib.Core.Path.{_≡_, refl, sym, subst, _∙_}
 use mathlib.Core.List.{List}
 use mathlib.Core.Bool.{Bool, true, false, cond}
 use Prim.Native.Nat.{ℕ, zero, suc, _+_, _*_, _<_, _≤_}
@@ -8,21 +8,21 @@ use lib.ListN.{length, List·getD-eq-default}
 use lib.Dec.{ltb, leb, eqb, lit<}
 use borrow.Author.Tests.{ltb-true, ltb-false, leb-true, eqb-true}
 use Rattle.slices.specs.Bytes.{entry}
-use Rattle.slices.specs.Guard.{unless}
 use Rattle.routine_header.specs.Header.{firstBad}
 use Rattle.routine_header.specs.declared.Header.{Header}
 use Rattle.routine_faults.specs.Step.{accesses}
 use Rattle.routine_faults.specs.declared.Counts.{Counts}
 use Rattle.routine_faults.proofs.Fine.{all-ok}
-use Rattle.routine.specs.Routine.{Arm, done}
+use Rattle.routine.specs.Routine.{Arm}
 use Rattle.routine.specs.Decode.{Decoded, rejected, routine, decode, checked, IsRoutine}
 use Rattle.routine.specs.declared.Checked.{Checked}
 use Rattle.routine.specs.declared.Refusal as declared
 use Rattle.routine.proofs.Accepted.{accepted, refused-by}
-use Rattle.lead.specs.Lead.{ClaimAdmission, refused, translates, firstOdd, byLead, claimByRoutine, claimAdmission, claimWithoutTree, admittedLead}
-use Rattle.lead.specs.Inner.Admitted.{claimAdmitted}
+use Rattle.lead.specs.Lead.{ClaimAdmission, refused, translates, firstOdd, admittedLead, byLead, claimByRoutine, claimAdmission}
+use Rattle.lead.specs.Inner.Admitted.{claimWithoutTree, claimAdmitted}
 use Rattle.lead.specs.declared.Refusal.{Refusal}
 use Rattle.lead.specs.declared.Target.{Target}
+use Rattle.lead.specs.declared.AdmittedLead.{AdmittedLead}
 use Rattle.lead.specs.declared.AdmittedClaim.{AdmittedClaim}
 
 -- ---- the decisions
@@ -67,64 +67,42 @@ pub record InRange (t : Target) (ds : List ℕ) (k : Counts) : Type 0 where
   pub side : t .side ≤ 1
   pub decisions : (n : ℕ) → entry ds n ≤ 2
 
-passed : (b : Bool) (refusal : Refusal) (x : ClaimAdmission) (h : Header) → claimWithoutTree (unless b (refused refusal) x) ≡ AdmittedClaim.Translates h
-    → (b ≡ true) × (claimWithoutTree x ≡ AdmittedClaim.Translates h)
-unfolding unless
-passed true refusal x h e = (refl, e)
-passed false refusal x h e = let z : _≡_ {A = ℕ} 0 1 = cc in absurd (omega arith)
+passed : (b : Bool) (refusal : Refusal) (x : AdmittedLead) → cond b x (AdmittedLead.Refused refusal) ≡ AdmittedLead.Passes → (b ≡ true) × (x ≡ AdmittedLead.Passes)
+passed true refusal x e = (refl, e)
+passed false refusal x e = let z : _≡_ {A = ℕ} 0 1 = cc in absurd (omega arith)
 
-module _ (t : Target) (ds : List ℕ) (h : Header) (a : Arm) (k : Counts) (h₁ : Header) where
-  pub lead-range : claimWithoutTree (byLead t ds h a k) ≡ AdmittedClaim.Translates h₁ → InRange t ds k
-  lead-range e =
-      let p = passed (eqb (length ds) (k .ifs)) _ _ h₁ e in
-      let q = passed (ltb (t .access) (accesses k)) _ _ h₁ (p .1) in
-      let s = passed (leb (t .side) 1) _ _ h₁ (q .1) in
-      let u = passed (eqb (firstOdd ds) (length ds)) _ _ h₁ (s .1) in
-      record {
-        counted = eqb-true _ _ (p .0);
-        access = ltb-true _ _ (q .0);
-        side = leb-true _ _ (s .0);
-        decisions = decisions-fine ds (eqb-true _ _ (u .0));
-      }
-
--- the tree does not matter to 11 and 12
-pub lead-admits : (t : Target) (ds : List ℕ) (h : Header) (k : Counts) (r : AdmittedClaim) → r ≡ admittedLead t ds h k → (h₁ : Header) → r ≡ AdmittedClaim.Translates h₁
-    → (a : Arm) → byLead t ds h a k ≡ translates h a k
-unfolding admittedLead unless
-lead-admits t ds h k r is h₁ e a =
-    let p = passed (eqb (length ds) (k .ifs)) _ _ h₁ (sym is ∙ e) in
-    let q = passed (ltb (t .access) (accesses k)) _ _ h₁ (p .1) in
-    let s = passed (leb (t .side) 1) _ _ h₁ (q .1) in
-    let u = passed (eqb (firstOdd ds) (length ds)) _ _ h₁ (s .1) in
-    rw (p .0, q .0, s .0, u .0) refl
+pub lead-range : (t : Target) (ds : List ℕ) (k : Counts) → admittedLead t ds k ≡ AdmittedLead.Passes → InRange t ds k
+unfolding admittedLead
+lead-range t ds k e =
+    let p = passed (eqb (length ds) (k .ifs)) _ _ e in
+    let q = passed (ltb (t .access) (accesses k)) _ _ (p .1) in
+    let s = passed (leb (t .side) 1) _ _ (q .1) in
+    let u = passed (eqb (firstOdd ds) (length ds)) _ _ (s .1) in
+    record {
+      counted = eqb-true _ _ (p .0);
+      access = ltb-true _ _ (q .0);
+      side = leb-true _ _ (s .0);
+      decisions = decisions-fine ds (eqb-true _ _ (u .0));
+    }
 
 -- ---- what `admit` answers
 
--- a test that two admissions have in common hides no difference of their trees
-same-unless : (b : Bool) (refusal : Refusal) (x y : ClaimAdmission) → claimWithoutTree x ≡ claimWithoutTree y
-    → claimWithoutTree (unless b (refused refusal) x) ≡ claimWithoutTree (unless b (refused refusal) y)
-unfolding unless
-same-unless true refusal x y e = e
-same-unless false refusal x y e = refl
-
 module _ (bs : List ℕ) (t : Target) (ds : List ℕ) where
-  lead-alone : (h : Header) (a : Arm) (k : Counts) → claimWithoutTree (byLead t ds h done k) ≡ claimWithoutTree (byLead t ds h a k)
-  lead-alone h a k =
-      same-unless (eqb (length ds) (k .ifs)) _ _ _
-      (same-unless (ltb (t .access) (accesses k)) _ _ _
-      (same-unless (leb (t .side) 1) _ _ _
-      (same-unless (eqb (firstOdd ds) (length ds)) _ (translates h done k) (translates h a k) refl)))
-
   pub no-routine : (refusal : declared.Refusal) (r : Checked) → r ≡ checked bs → r ≡ Checked.Refused refusal
       → AdmittedClaim.Refused (Refusal.Routine refusal) ≡ claimAdmitted bs t ds
   unfolding claimAdmitted claimAdmission
   no-routine refusal r is e = rw (refused-by bs refusal r is e)
 
-  pub by-lead : (h : Header) (k : Counts) (r : Checked) → r ≡ checked bs → r ≡ Checked.Accepted h k → admittedLead t ds h k ≡ claimAdmitted bs t ds
-  unfolding claimAdmitted claimAdmission admittedLead
-  by-lead h k r is e = let x = accepted bs h k r is e in rw (x .decodes) (lead-alone h (x .arm) k)
+  module _ (h : Header) (k : Counts) (r : Checked) (is : r ≡ checked bs) (e : r ≡ Checked.Accepted h k) (x : AdmittedLead) (by : x ≡ admittedLead t ds k) where
+    pub lead-refused : (refusal : Refusal) → x ≡ AdmittedLead.Refused refusal → AdmittedClaim.Refused refusal ≡ claimAdmitted bs t ds
+    unfolding claimAdmitted claimAdmission
+    lead-refused refusal q = rw (accepted bs h k r is e .decodes, ← by, q) refl
 
--- ---- what an admitted translation has
+    pub lead-passes : x ≡ AdmittedLead.Passes → AdmittedClaim.Translates h ≡ claimAdmitted bs t ds
+    unfolding claimAdmitted claimAdmission
+    lead-passes q = rw (accepted bs h k r is e .decodes, ← by, q) refl
+
+-- ---- what an admitted claim has
 
 -- the tree
 pub record Admits (bs : List ℕ) (t : Target) (ds : List ℕ) (h : Header) : Type 0 where
@@ -134,22 +112,18 @@ pub record Admits (bs : List ℕ) (t : Target) (ds : List ℕ) (h : Header) : Ty
   pub admits : claimAdmission bs t ds ≡ translates h commands counts
 
 module _ (bs : List ℕ) (t : Target) (ds : List ℕ) where
+  -- an admission is of the routine that the bytes are, and 11 and 12 let the lead through
   abbrev Of : ClaimAdmission → Type 0
   Of (refused refusal) = Unit {0}
-  Of (translates h a k) = decode bs ≡ routine h a k
+  Of (translates h a k) = (decode bs ≡ routine h a k) × (admittedLead t ds k ≡ AdmittedLead.Passes)
 
-  of-unless : (b : Bool) (refusal : Refusal) (x : ClaimAdmission) → Of x → Of (unless b (refused refusal) x)
-  unfolding unless
-  of-unless true refusal x o = o
-  of-unless false refusal x o = tt
+  of-lead : (h : Header) (a : Arm) (k : Counts) → decode bs ≡ routine h a k → (x : AdmittedLead) → admittedLead t ds k ≡ x → Of (byLead h a k x)
+  of-lead h a k d (AdmittedLead.Refused refusal) e = tt
+  of-lead h a k d AdmittedLead.Passes e = (d, e)
 
   of-routine : (d : Decoded) → decode bs ≡ d → Of (claimByRoutine t ds d)
   of-routine (rejected refusal) e = tt
-  of-routine (routine h a k) e =
-      of-unless (eqb (length ds) (k .ifs)) _ _
-      (of-unless (ltb (t .access) (accesses k)) _ _
-      (of-unless (leb (t .side) 1) _ _
-      (of-unless (eqb (firstOdd ds) (length ds)) _ (translates h a k) e)))
+  of-routine (routine h a k) e = of-lead h a k e (admittedLead t ds k) refl
 
   of-admission : Of (claimAdmission bs t ds)
   unfolding claimAdmission
@@ -157,21 +131,18 @@ module _ (bs : List ℕ) (t : Target) (ds : List ℕ) where
 
   -- the routine of an admitted claim, and its range
   pub admitted-range : (h : Header) (a : Arm) (k : Counts) → claimAdmission bs t ds ≡ translates h a k → (decode bs ≡ routine h a k) × InRange t ds k
-  unfolding claimAdmission
-  admitted-range h a k e =
-      let d : decode bs ≡ routine h a k = subst Of e of-admission in
-      (d, lead-range t ds h a k h (ap claimWithoutTree (rw d at e)))
+  admitted-range h a k e = let o = subst Of e of-admission in (o .0, lead-range t ds k (o .1))
 
-  -- a claim on a routine is admitted where 11 and 12 let it through
-  pub admission-by : (h : Header) (a : Arm) (k : Counts) → decode bs ≡ routine h a k → byLead t ds h a k ≡ translates h a k → claimAdmission bs t ds ≡ translates h a k
+  -- a claim on a routine is admitted where 11 and 12 let its lead through
+  pub admission-by : (h : Header) (a : Arm) (k : Counts) → decode bs ≡ routine h a k → admittedLead t ds k ≡ AdmittedLead.Passes → claimAdmission bs t ds ≡ translates h a k
   unfolding claimAdmission
-  admission-by h a k d e = rw d e
+  admission-by h a k d e = rw (d, e) refl
 
   admits-by : (h : Header) (x : ClaimAdmission) → claimAdmission bs t ds ≡ x → Of x → claimWithoutTree x ≡ AdmittedClaim.Translates h → Admits bs t ds h
   admits-by h (refused refusal) e o q = let z : _≡_ {A = ℕ} 0 1 = cc in absurd (omega arith)
   admits-by h (translates h₁ a k) e o q =
       let x : h₁ ≡ h = cc in
-      rw (← x) (record { commands = a; counts = k; decodes = o; admits = e })
+      rw (← x) (record { commands = a; counts = k; decodes = o .0; admits = e })
 
   pub admits : (r : AdmittedClaim) → r ≡ claimAdmitted bs t ds → (h : Header) → r ≡ AdmittedClaim.Translates h → Admits bs t ds h
   unfolding claimAdmitted

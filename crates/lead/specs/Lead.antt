@@ -9,50 +9,45 @@ use Rattle.routine_header.specs.Header.{firstBad}
 use Rattle.routine_header.specs.declared.Header.{Header}
 use Rattle.routine_faults.specs.Step.{accesses}
 use Rattle.routine_faults.specs.declared.Counts.{Counts}
-use Rattle.routine.specs.Routine.{Arm, done}
+use Rattle.routine.specs.Routine.{Arm}
 use Rattle.routine.specs.Decode.{Decoded, rejected, routine, decode}
 use Rattle.lead.specs.declared.Target.{Target}
 use Rattle.lead.specs.declared.Refusal.{Refusal}
-use Rattle.lead.specs.declared.AdmittedClaim.{AdmittedClaim}
+use Rattle.lead.specs.declared.AdmittedLead.{AdmittedLead}
 
 -- the named access and side
 abbrev pub targetOf : (access side : ℕ) → Target
 targetOf access side = record { access = access; side = side }
+
+-- the number of the first decision above 2, or how many there are
+unfoldable pub firstOdd : List ℕ → ℕ
+firstOdd ds = firstBad (λ i. leb (entry ds i) 2) 1 (length ds) 0
+
+-- 11, then 12, for a routine with these counts: the access at offset 0, the side at 1, the decision of if n at 2 + n
+unfoldable pub admittedLead : Target → (ds : List ℕ) → Counts → AdmittedLead
+unfolding unless
+admittedLead t ds k =
+    unless (eqb (length ds) (k .ifs)) (AdmittedLead.Refused (Refusal.DecisionCount (length ds)))
+    (unless (ltb (t .access) (accesses k)) (AdmittedLead.Refused (Refusal.OutOfRange 0))
+    (unless (leb (t .side) 1) (AdmittedLead.Refused (Refusal.OutOfRange 1))
+    (unless (eqb (firstOdd ds) (length ds)) (AdmittedLead.Refused (Refusal.OutOfRange (2 + firstOdd ds)))
+    AdmittedLead.Passes)))
 
 -- whether there is a claim to translate: the refusal, or the routine
 pub data ClaimAdmission : Type 0 where
   refused : Refusal → ClaimAdmission
   translates : Header → Arm → Counts → ClaimAdmission
 
--- the number of the first decision above 2, or how many there are
-unfoldable pub firstOdd : List ℕ → ℕ
-firstOdd ds = firstBad (λ i. leb (entry ds i) 2) 1 (length ds) 0
-
--- 11, then 12: the access at offset 0, the side at 1, the decision of if n at 2 + n
-abbrev pub byLead : Target → (ds : List ℕ) → Header → Arm → Counts → ClaimAdmission
-byLead t ds h a k =
-    unless (eqb (length ds) (k .ifs)) (refused (Refusal.DecisionCount (length ds)))
-    (unless (ltb (t .access) (accesses k)) (refused (Refusal.OutOfRange 0))
-    (unless (leb (t .side) 1) (refused (Refusal.OutOfRange 1))
-    (unless (eqb (firstOdd ds) (length ds)) (refused (Refusal.OutOfRange (2 + firstOdd ds)))
-    (translates h a k))))
+-- 11 and 12, then the routine
+abbrev pub byLead : Header → Arm → Counts → AdmittedLead → ClaimAdmission
+byLead h a k (AdmittedLead.Refused refusal) = refused refusal
+byLead h a k AdmittedLead.Passes = translates h a k
 
 -- 1 to 8, then 11 and 12
 abbrev pub claimByRoutine : Target → (ds : List ℕ) → Decoded → ClaimAdmission
 claimByRoutine t ds (rejected refusal) = refused (Refusal.Routine refusal)
-claimByRoutine t ds (routine h a k) = byLead t ds h a k
+claimByRoutine t ds (routine h a k) = byLead h a k (admittedLead t ds k)
 
 -- whether there is a claim to translate
 unfoldable pub claimAdmission : (bs : List ℕ) → Target → (ds : List ℕ) → ClaimAdmission
-unfolding unless
 claimAdmission bs t ds = claimByRoutine t ds (decode bs)
-
--- the same without the tree
-abbrev pub claimWithoutTree : ClaimAdmission → AdmittedClaim
-claimWithoutTree (refused refusal) = AdmittedClaim.Refused refusal
-claimWithoutTree (translates h a k) = AdmittedClaim.Translates h
-
--- what 11 and 12 say to a routine with these counts
-unfoldable pub admittedLead : Target → (ds : List ℕ) → Header → Counts → AdmittedClaim
-unfolding unless
-admittedLead t ds h k = claimWithoutTree (byLead t ds h done k)

@@ -24,6 +24,12 @@ pub enum Refusal {
     OutOfRange(usize),
 }
 
+// What 11 and 12 say of a lead.
+pub enum AdmittedLead {
+    Refused(Refusal),
+    Passes,
+}
+
 // Whether there is such a claim.
 pub enum AdmittedClaim {
     Refused(Refusal),
@@ -47,23 +53,23 @@ fn odd_decision(decisions: &[u8]) -> usize
 }
 
 // 11, then 12, for a routine with these counts.
-pub fn admit_lead(h: Header, k: Counts, t: Target, decisions: &[u8]) -> AdmittedClaim
-    ensures { λ r. ⌜ r ≡ admittedLead t (now (decisions .entry)) h k ⌝ }
+pub fn admit_lead(k: Counts, t: Target, decisions: &[u8]) -> AdmittedLead
+    ensures { λ r. ⌜ r ≡ admittedLead t (now (decisions .entry)) k ⌝ }
 {
     if decisions.len() != k.ifs as usize {
-        return AdmittedClaim::Refused(Refusal::DecisionCount(decisions.len()));
+        return AdmittedLead::Refused(Refusal::DecisionCount(decisions.len()));
     }
     if accesses_of(k) <= wide(t.access) {
-        return AdmittedClaim::Refused(Refusal::OutOfRange(0));
+        return AdmittedLead::Refused(Refusal::OutOfRange(0));
     }
     if 1 < t.side {
-        return AdmittedClaim::Refused(Refusal::OutOfRange(1));
+        return AdmittedLead::Refused(Refusal::OutOfRange(1));
     }
     let odd = odd_decision(decisions);
     if odd != decisions.len() {
-        return AdmittedClaim::Refused(Refusal::OutOfRange(2 + odd));
+        return AdmittedLead::Refused(Refusal::OutOfRange(2 + odd));
     }
-    AdmittedClaim::Translates(h)
+    AdmittedLead::Passes
 }
 
 // Whether there is a claim to translate.
@@ -72,6 +78,9 @@ pub fn admit(routine: &[u8], t: Target, decisions: &[u8]) -> AdmittedClaim
 {
     match routine::check(routine) {
         Checked::Refused(refusal) => AdmittedClaim::Refused(Refusal::Routine(refusal)),
-        Checked::Accepted { header, counts } => admit_lead(header, counts, t, decisions),
+        Checked::Accepted { header, counts } => match admit_lead(counts, t, decisions) {
+            AdmittedLead::Refused(refusal) => AdmittedClaim::Refused(refusal),
+            AdmittedLead::Passes => AdmittedClaim::Translates(header),
+        },
     }
 }

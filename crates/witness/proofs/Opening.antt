@@ -9,11 +9,9 @@ use lib.Dec.{leb}
 use borrow.Author.Tests.{le-leb, leb-true}
 use Rattle.routine_header.specs.declared.Header.{Header}
 use Rattle.routine_faults.specs.declared.Counts.{Counts}
-use Rattle.lead.specs.Lead.{translates, byLead, admittedLead}
-use Rattle.lead.specs.declared.AdmittedClaim.{AdmittedClaim}
+use Rattle.lead.specs.Lead.{admittedLead}
+use Rattle.lead.specs.declared.AdmittedLead.{AdmittedLead}
 use Rattle.lead.specs.declared.Target.{Target}
-use Rattle.lead.proofs.Leads.{lead-admits}
-use Rattle.routine.specs.Routine.{Arm}
 use Rattle.routine.specs.Decode.{IsRoutine}
 use Rattle.routine.specs.Inner.Known.{IsRoutineWith}
 use Rattle.routine.proofs.Accepted.{decoded}
@@ -30,12 +28,12 @@ decisions-part r n = let e : 2 + n - 2 ≡ n = omega arith in ap (λ (m : ℕ). 
 
 module _ (r : List ℕ) (h : Header) (k : Counts) (short : length r ≤ 16777216) (long : proofAt h k ≤ length r) where
   -- what 12 says, once 11 is past
-  pub opened-by : (ds : List ℕ) → ds ≡ decisionsIn r k → (x : AdmittedClaim) → x ≡ admittedLead (targetIn r) ds h k → (y : AdmittedClaim) → x ≡ y
+  pub opened-by : (ds : List ℕ) → ds ≡ decisionsIn r k → (x : AdmittedLead) → x ≡ admittedLead (targetIn r) ds k → (y : AdmittedLead) → x ≡ y
       → byAdmitted (targetIn r) y ≡ leadOf r h k
   unfolding leadOf
   opened-by ds same x is y e =
       rw (le-leb _ _ short, le-leb _ _ long)
-      (ap (byAdmitted (targetIn r)) (sym e ∙ is ∙ ap (λ (z : List ℕ). admittedLead (targetIn r) z h k) same))
+      (ap (byAdmitted (targetIn r)) (sym e ∙ is ∙ ap (λ (z : List ℕ). admittedLead (targetIn r) z k) same))
 
 -- ---- a lead that was let through
 
@@ -44,19 +42,19 @@ pub record Lets (r : List ℕ) (h : Header) (k : Counts) (t : Target) : Type 0 w
   pub short : length r ≤ 16777216
   pub long : proofAt h k ≤ length r
   pub target : t ≡ targetIn r
-  pub admits : (a : Arm) → byLead t (decisionsIn r k) h a k ≡ translates h a k
+  pub admits : admittedLead t (decisionsIn r k) k ≡ AdmittedLead.Passes
 
 module _ (r : List ℕ) (h : Header) (k : Counts) (t : Target) where
-  admitted-by : (x : AdmittedClaim) → x ≡ admittedLead (targetIn r) (decisionsIn r k) h k → byAdmitted (targetIn r) x ≡ Opened.Opens t
-      → (t ≡ targetIn r) × ((a : Arm) → byLead (targetIn r) (decisionsIn r k) h a k ≡ translates h a k)
-  admitted-by (AdmittedClaim.Refused refusal) is e = let z : _≡_ {A = ℕ} 0 1 = cc in absurd (omega arith)
-  admitted-by (AdmittedClaim.Translates h₁) is e = (cc, lead-admits (targetIn r) (decisionsIn r k) h k (AdmittedClaim.Translates h₁) is h₁ refl)
+  admitted-by : (x : AdmittedLead) → x ≡ admittedLead (targetIn r) (decisionsIn r k) k → byAdmitted (targetIn r) x ≡ Opened.Opens t
+      → (t ≡ targetIn r) × (admittedLead (targetIn r) (decisionsIn r k) k ≡ AdmittedLead.Passes)
+  admitted-by (AdmittedLead.Refused refusal) is e = let z : _≡_ {A = ℕ} 0 1 = cc in absurd (omega arith)
+  admitted-by AdmittedLead.Passes is e = (cc, sym is)
 
   let-by : (b c : Bool) → leb (length r) 16777216 ≡ b → leb (proofAt h k) (length r) ≡ c
-      → cond b (cond c (byAdmitted (targetIn r) (admittedLead (targetIn r) (decisionsIn r k) h k)) (Opened.Refused (Refusal.Cut (length r)))) (Opened.Refused (Refusal.Cut (length r))) ≡ Opened.Opens t
+      → cond b (cond c (byAdmitted (targetIn r) (admittedLead (targetIn r) (decisionsIn r k) k)) (Opened.Refused (Refusal.Cut (length r)))) (Opened.Refused (Refusal.Cut (length r))) ≡ Opened.Opens t
       → Lets r h k t
   let-by true true p q e =
-      let x = admitted-by (admittedLead (targetIn r) (decisionsIn r k) h k) refl e in
+      let x = admitted-by (admittedLead (targetIn r) (decisionsIn r k) k) refl e in
       record { short = leb-true _ _ p; long = leb-true _ _ q; target = x .0; admits = rw (x .0) (x .1) }
   let-by true false p q e = let z : _≡_ {A = ℕ} 0 1 = cc in absurd (omega arith)
   let-by false c p q e = let z : _≡_ {A = ℕ} 0 1 = cc in absurd (omega arith)

@@ -10,7 +10,7 @@ use Rattle.routine_faults.specs.declared.Counts.{Counts}
 use Rattle.routine_faults.specs.Inputs.{inputCount}
 use Rattle.lead.specs.Lead.{targetOf, admittedLead}
 use Rattle.lead.specs.declared.Target.{Target}
-use Rattle.lead.specs.declared.AdmittedClaim.{AdmittedClaim}
+use Rattle.lead.specs.declared.AdmittedLead.{AdmittedLead}
 use Rattle.witness.specs.declared.Refusal.{Refusal}
 use Rattle.witness.specs.declared.Opened.{Opened}
 
@@ -36,9 +36,9 @@ abbrev pub proofAt : Header → Counts → ℕ
 proofAt h k = 2 + k .ifs + 4 * inputCount h k
 
 -- what 12 says
-abbrev pub byAdmitted : Target → AdmittedClaim → Opened
-byAdmitted t (AdmittedClaim.Refused refusal) = Opened.Refused (Refusal.Lead refusal)
-byAdmitted t (AdmittedClaim.Translates h) = Opened.Opens t
+abbrev pub byAdmitted : Target → AdmittedLead → Opened
+byAdmitted t (AdmittedLead.Refused refusal) = Opened.Refused (Refusal.Lead refusal)
+byAdmitted t AdmittedLead.Passes = Opened.Opens t
 
 -- 11: the report is over 16,777,216, or the lead is cut short; then 12
 unfoldable pub leadOf : List ℕ → Header → Counts → Opened
@@ -46,4 +46,4 @@ unfolding unless
 leadOf r h k =
     unless (leb (length r) 16777216) (Opened.Refused (Refusal.Cut (length r)))
     (unless (leb (proofAt h k) (length r)) (Opened.Refused (Refusal.Cut (length r)))
-    (byAdmitted (targetIn r) (admittedLead (targetIn r) (decisionsIn r k) h k)))
+    (byAdmitted (targetIn r) (admittedLead (targetIn r) (decisionsIn r k) k)))

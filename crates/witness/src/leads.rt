@@ -1,7 +1,7 @@
 // The lead of a report: 11, then 12.
 use crate::Opened;
 use crate::Refusal;
-use lead::AdmittedClaim;
+use lead::AdmittedLead;
 use lead::Target;
 use lead::admit_lead;
 use routine_faults::Counts;
@@ -33,8 +33,8 @@ pub fn open(report: &[u8], h: Header, k: Counts) -> Opened
         side: report[1],
     };
     let end = 2 + k.ifs as usize;
-    match admit_lead(h, k, t, &report[2..end]) {
-        AdmittedClaim::Refused(refusal) => Opened::Refused(Refusal::Lead(refusal)),
-        AdmittedClaim::Translates(_) => Opened::Opens(t),
+    match admit_lead(k, t, &report[2..end]) {
+        AdmittedLead::Refused(refusal) => Opened::Refused(Refusal::Lead(refusal)),
+        AdmittedLead::Passes => Opened::Opens(t),
     }
 }

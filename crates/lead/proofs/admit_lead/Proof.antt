@@ -26,8 +26,8 @@ returns-3 c =
     let l : q .before .before .before .before .args .t .access < accesses (q .before .before .before .before .args .k) = omega arith in
     rw (eq-eqb _ _ (q .before .if1 .left), lt-ltb _ _ l, lt-leb _ _ (c .if3 .taken))
 
-add-t15 : tie.Need-add-t15
-add-t15 c = let l = first-odd-le (c .before .before .before .before .before .before .before .before .before .before .args .decisions .now) in omega arith
+add-t14 : tie.Need-add-t14
+add-t14 c = let l = first-odd-le (c .before .before .before .before .before .before .before .before .before .before .args .decisions .now) in omega arith
 
 returns-4 : tie.Need-returns-4
 unfolding admittedLead
@@ -54,6 +54,6 @@ admit-lead-spec =
     returns-2
     returns-3
     (λ c κs. search needs)
-    add-t15
+    add-t14
     returns-4
     returns-5)
