@@ -13,7 +13,7 @@ use Rattle.routine_command.specs.Command.{commandBy, commandAt}
 use Rattle.routine_faults.specs.Step.{inRange, widthsFit, tooMany, simpleStep, stepOf}
 use Rattle.routine.specs.Routine.{textOf, armBy}
 use Rattle.routine.specs.Decode.{decode}
-use Rattle.run_inputs.specs.Inputs.{variablesFrom, readVariables, firstGreat, listed}
+use Rattle.run_inputs.specs.Inputs.{variablesFrom, readVariables, firstGreat, wordsFit, listed}
 use Rattle.run_state.specs.State.{over, initial, indexOf, lies, executed}
 use Rattle.run_state.specs.Run.{runArm, runOf}
 use Rattle.run.specs.Answer.{RunAnswer, runAdmission, runAnswer}
@@ -46,5 +46,5 @@ pub bench :
     × (cut 8 500 ≡ 244)
     × (relates 6 8 128 127 ≡ true)
     × (relates 2 8 128 127 ≡ false)
-unfolding runAnswer runAdmission decode headerOf within sizeOk firstBad armBy commandAt commandBy half stepOf simpleStep inRange widthsFit tooMany textOf listed firstGreat variablesFrom readVariables runOf runArm initial over executed indexOf lies signed less encode signExtend add subtract multiply relates
+unfolding runAnswer runAdmission decode headerOf within sizeOk firstBad armBy commandAt commandBy half stepOf simpleStep inRange widthsFit tooMany textOf listed wordsFit firstGreat variablesFrom readVariables runOf runArm initial over executed indexOf lies signed less encode signExtend add subtract multiply relates
 bench = (refl, refl, refl, refl, refl, refl, refl, refl, refl, refl, refl, refl, refl)

@@ -22,7 +22,8 @@ use Rattle.routine_command.specs.Command.{touches}
 use Rattle.routine_command.specs.declared.Simple.{Simple}
 use Rattle.routine.proofs.Accepted.{decoded}
 use Rattle.routine.proofs.Views.{induction}
-use Rattle.run_inputs.specs.Inputs.{variablesFrom, readFirst, readVariables, firstGreat, listed}
+use Rattle.run_inputs.specs.Inputs.{variablesFrom, readFirst, readVariables, firstGreat, wordsFit, byWords, listed}
+use Rattle.run_inputs.specs.declared.Words.{Words}
 use Rattle.run_inputs.specs.declared.Listed.{Listed}
 
 -- the words of a text's reads, and then those of another's
@@ -35,32 +36,33 @@ reads-append (Simple.Compute op d s t ∷ xs) ys = reads-append xs ys
 reads-append (Simple.Read d array i ∷ xs) ys = ap (λ (z : List ℕ). d ∷ z) (reads-append xs ys)
 reads-append (Simple.Write array i s ∷ xs) ys = reads-append xs ys
 
-accepted-cond : (b : Bool) (x : Listed) (n : ℕ) → cond b x (Listed.TooGreat n) ≡ Listed.Accepted → (b ≡ true) × (x ≡ Listed.Accepted)
-accepted-cond true x n e = (refl, e)
-accepted-cond false x n e = let z : _≡_ {A = ℕ} 0 1 = cc in absurd (omega arith)
+fit-cond : (b : Bool) (x : Words) (n : ℕ) → cond b x (Words.TooGreat n) ≡ Words.Fit → (b ≡ true) × (x ≡ Words.Fit)
+fit-cond true x n e = (refl, e)
+fit-cond false x n e = let z : _≡_ {A = ℕ} 0 1 = cc in absurd (omega arith)
 
-counted-cond : (b : Bool) (x : Listed) → cond b x Listed.Miscounted ≡ Listed.Accepted → x ≡ Listed.Accepted
-counted-cond true x e = e
-counted-cond false x e = let z : _≡_ {A = ℕ} 0 1 = cc in absurd (omega arith)
+listed-cond : (b : Bool) (x : Words) → cond b (byWords x) Listed.Miscounted ≡ Listed.Accepted → x ≡ Words.Fit
+listed-cond true Words.Fit e = refl
+listed-cond true (Words.TooGreat n) e = let z : _≡_ {A = ℕ} 0 1 = cc in absurd (omega arith)
+listed-cond false x e = let z : _≡_ {A = ℕ} 0 1 = cc in absurd (omega arith)
 
 module _ (bs ins : List ℕ) where
-  one-word : (n v : ℕ) (vs : List ℕ) → firstGreat bs ins n (v ∷ vs) ≡ Listed.Accepted
-      → (entry ins n < 2 ^ width bs v) × (firstGreat bs ins (n + 1) vs ≡ Listed.Accepted)
+  one-word : (n v : ℕ) (vs : List ℕ) → firstGreat bs ins n (v ∷ vs) ≡ Words.Fit
+      → (entry ins n < 2 ^ width bs v) × (firstGreat bs ins (n + 1) vs ≡ Words.Fit)
   unfolding firstGreat
   one-word n v vs e =
-      let p = accepted-cond (ltb (entry ins n) (2 ^ width bs v)) (firstGreat bs ins (n + 1) vs) n e in
+      let p = fit-cond (ltb (entry ins n) (2 ^ width bs v)) (firstGreat bs ins (n + 1) vs) n e in
       (ltb-true _ _ (p .0), p .1)
 
   -- the words of n variables from v on
-  words-fit : (n v : ℕ) (ys : List ℕ) → firstGreat bs ins v (variablesFrom v n ++ ys) ≡ Listed.Accepted
-      → ((i : ℕ) → v ≤ i → i < v + n → entry ins i < 2 ^ width bs i) × (firstGreat bs ins (v + n) ys ≡ Listed.Accepted)
+  words-fit : (n v : ℕ) (ys : List ℕ) → firstGreat bs ins v (variablesFrom v n ++ ys) ≡ Words.Fit
+      → ((i : ℕ) → v ≤ i → i < v + n → entry ins i < 2 ^ width bs i) × (firstGreat bs ins (v + n) ys ≡ Words.Fit)
   unfolding variablesFrom
-  words-fit zero v ys e = ((λ i l m. absurd (omega arith)), subst (λ (m : ℕ). firstGreat bs ins m ys ≡ Listed.Accepted) (sym (add-zero v)) e)
+  words-fit zero v ys e = ((λ i l m. absurd (omega arith)), subst (λ (m : ℕ). firstGreat bs ins m ys ≡ Words.Fit) (sym (add-zero v)) e)
   words-fit (suc n) v ys e =
       let p = one-word v v (variablesFrom (v + 1) n ++ ys) e in
       let q = words-fit n (v + 1) ys (p .1) in
       let z : v + 1 + n ≡ v + suc n = omega arith in
-      ((λ i l m. pick i (p .0) (q .0) m (eq-or-lt-of-le {n = v} {m = i} l)), subst (λ (m : ℕ). firstGreat bs ins m ys ≡ Listed.Accepted) z (q .1))
+      ((λ i l m. pick i (p .0) (q .0) m (eq-or-lt-of-le {n = v} {m = i} l)), subst (λ (m : ℕ). firstGreat bs ins m ys ≡ Words.Fit) z (q .1))
     where
       pick : (i : ℕ) → entry ins v < 2 ^ width bs v → ((j : ℕ) → v + 1 ≤ j → j < v + 1 + n → entry ins j < 2 ^ width bs j) → i < v + suc n
           → (v ≡ i) ⊎ (v < i) → entry ins i < 2 ^ width bs i
@@ -84,7 +86,7 @@ module _ (bs ins : List ℕ) where
 
     -- from the counts k on, the words for vs are accepted
     abbrev Good : Counts → List ℕ → Type 0
-    Good k vs = firstGreat bs ins (inputNumber h k) vs ≡ Listed.Accepted
+    Good k vs = firstGreat bs ins (inputNumber h k) vs ≡ Words.Fit
 
     simple-fit : (c : Simple) (k : Counts) (vs : List ℕ) → Good k (readFirst (touches c) vs) → FitSimple c k × Good (countsAfter c k) vs
     simple-fit (Simple.Set d c) k vs e = (tt, e)
@@ -92,7 +94,7 @@ module _ (bs ins : List ℕ) where
     simple-fit (Simple.Compute op d s t) k vs e = (tt, e)
     simple-fit (Simple.Read d array i) k vs e =
         let p = one-word (inputNumber h k) d vs e in
-        (p .0, subst (λ (m : ℕ). firstGreat bs ins m vs ≡ Listed.Accepted) (add-assoc (given h) (k .reads) 1) (p .1))
+        (p .0, subst (λ (m : ℕ). firstGreat bs ins m vs ≡ Words.Fit) (add-assoc (given h) (k .reads) 1) (p .1))
     simple-fit (Simple.Write array i s) k vs e = (tt, e)
 
     before-append : (c : Simple) (xs ys : List ℕ) → readFirst (touches c) xs ++ ys ≡ readFirst (touches c) (xs ++ ys)
@@ -130,11 +132,11 @@ module _ (bs ins : List ℕ) where
       pub reads : Fit a
 
     pub fitting : (a : Arm) (k : Counts) → decode bs ≡ routine h a k → listed bs ins h a k ≡ Listed.Accepted → Fitting a
-    unfolding listed
+    unfolding listed wordsFit
     fitting a k e f =
         let vs = readVariables (textOf a) in
-        let p = words-fit (given h) 0 vs (counted-cond (eqb (length ins) (inputCount h k)) _ f) in
+        let p = words-fit (given h) 0 vs (listed-cond (eqb (length ins) (inputCount h k)) _ f) in
         let z : 0 + given h ≡ given h + 0 = omega arith in
-        let q : firstGreat bs ins (given h + 0) (vs ++ []) ≡ Listed.Accepted = rw (append-nil vs) (subst (λ (m : ℕ). firstGreat bs ins m vs ≡ Listed.Accepted) z (p .1)) in
+        let q : firstGreat bs ins (given h + 0) (vs ++ []) ≡ Words.Fit = rw (append-nil vs) (subst (λ (m : ℕ). firstGreat bs ins m vs ≡ Words.Fit) z (p .1)) in
         let r = arm-fit a 0 0 _ noCounts (length bs) k (decoded bs h a k e .stands) [] q in
         record { parameters = λ v l. p .0 v (omega arith) (omega arith); reads = r .0 }

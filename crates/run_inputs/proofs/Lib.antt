@@ -1,5 +1,5 @@
 -- What the proofs of several functions use, and the laws for the layers above.
 mod Lists
 mod Scan
-mod Counted
+pub mod Counted
 pub mod Fitting

@@ -10,7 +10,7 @@ use lib.Dec.{ltb}
 use Rattle.slices.specs.Bytes.{entry}
 use Rattle.routine_header.specs.Header.{width}
 use Rattle.run_inputs.specs.Inputs.{variablesFrom, firstGreat}
-use Rattle.run_inputs.specs.declared.Listed.{Listed}
+use Rattle.run_inputs.specs.declared.Words.{Words}
 
 -- ---- one word
 
@@ -19,7 +19,7 @@ module _ (bs ins : List ℕ) (n v : ℕ) (vs : List ℕ) where
   unfolding firstGreat
   great-next e = rw e
 
-  pub great-here : ltb (entry ins n) (2 ^ width bs v) ≡ false → Listed.TooGreat n ≡ firstGreat bs ins n (v ∷ vs)
+  pub great-here : ltb (entry ins n) (2 ^ width bs v) ≡ false → Words.TooGreat n ≡ firstGreat bs ins n (v ∷ vs)
   unfolding firstGreat
   great-here e = rw e
 
@@ -44,21 +44,20 @@ module _ (bs ins : List ℕ) (p : ℕ) where
     pub given-next : v < p → ltb (entry ins v) (2 ^ width bs v) ≡ true → Left (v + 1)
     given-next k e = great-next bs ins v v (variablesFrom (v + 1) (p - (v + 1))) e ∙ left-more k
 
-    pub given-great : v < p → ltb (entry ins v) (2 ^ width bs v) ≡ false → Listed.TooGreat v ≡ firstGreat bs ins 0 (variablesFrom 0 p)
+    pub given-great : v < p → ltb (entry ins v) (2 ^ width bs v) ≡ false → Words.TooGreat v ≡ firstGreat bs ins 0 (variablesFrom 0 p)
     given-great k e = great-here bs ins v v (variablesFrom (v + 1) (p - (v + 1))) e ∙ left-more k
 
-    pub given-over : p ≤ v → Listed.Accepted ≡ firstGreat bs ins 0 (variablesFrom 0 p)
+    pub given-over : p ≤ v → Words.Fit ≡ firstGreat bs ins 0 (variablesFrom 0 p)
     unfolding firstGreat variablesFrom
     given-over k = let z : p - v ≡ 0 = omega arith in rw z at l
 
 -- ---- one list after another
 
-abbrev thenGreat : Listed → Listed → Listed
-thenGreat Listed.Accepted y = y
-thenGreat Listed.Miscounted y = Listed.Miscounted
-thenGreat (Listed.TooGreat m) y = Listed.TooGreat m
+abbrev thenGreat : Words → Words → Words
+thenGreat Words.Fit y = y
+thenGreat (Words.TooGreat m) y = Words.TooGreat m
 
-then-cond : (b : Bool) (x y : Listed) (m : ℕ) → cond b (thenGreat x y) (Listed.TooGreat m) ≡ thenGreat (cond b x (Listed.TooGreat m)) y
+then-cond : (b : Bool) (x y : Words) (m : ℕ) → cond b (thenGreat x y) (Words.TooGreat m) ≡ thenGreat (cond b x (Words.TooGreat m)) y
 then-cond true x y m = refl
 then-cond false x y m = refl
 
@@ -75,25 +74,14 @@ unfolding variablesFrom
 variables-length zero v = refl
 variables-length (suc n) v = ap suc (variables-length n (v + 1))
 
-module _ (bs ins : List ℕ) (p : ℕ) (ys : List ℕ) (r : Listed) (is : r ≡ firstGreat bs ins 0 (variablesFrom 0 p)) where
+module _ (bs ins : List ℕ) (p : ℕ) (ys : List ℕ) (r : Words) (is : r ≡ firstGreat bs ins 0 (variablesFrom 0 p)) where
   both-lists : firstGreat bs ins 0 (variablesFrom 0 p ++ ys) ≡ thenGreat r (firstGreat bs ins p ys)
   both-lists =
       let e : 0 + length (variablesFrom 0 p) ≡ p = omega (arith, variables-length p 0) in
       rw is (rw (great-append bs ins (variablesFrom 0 p) ys 0, e))
 
-  pub reads-decide : r ≡ Listed.Accepted → (q : Listed) → q ≡ firstGreat bs ins p ys → q ≡ firstGreat bs ins 0 (variablesFrom 0 p ++ ys)
-  reads-decide a q e = e ∙ sym (both-lists ∙ ap (λ (x : Listed). thenGreat x (firstGreat bs ins p ys)) a)
+  pub reads-decide : r ≡ Words.Fit → (q : Words) → q ≡ firstGreat bs ins p ys → q ≡ firstGreat bs ins 0 (variablesFrom 0 p ++ ys)
+  reads-decide a q e = e ∙ sym (both-lists ∙ ap (λ (x : Words). thenGreat x (firstGreat bs ins p ys)) a)
 
-  pub given-decides : (m : ℕ) → r ≡ Listed.TooGreat m → Listed.TooGreat m ≡ firstGreat bs ins 0 (variablesFrom 0 p ++ ys)
-  given-decides m a = sym (both-lists ∙ ap (λ (x : Listed). thenGreat x (firstGreat bs ins p ys)) a)
-
--- one word after the other is never miscounted
-never-cond : (b : Bool) (x : Listed) (m : ℕ) → (x ≡ Listed.Miscounted → ⊥) → cond b x (Listed.TooGreat m) ≡ Listed.Miscounted → ⊥
-never-cond true x m f e = f e
-never-cond false x m f e = let z : _≡_ {A = ℕ} 0 1 = cc in omega arith
-
-pub never-miscounted : (bs ins : List ℕ) (vs : List ℕ) (n : ℕ) → firstGreat bs ins n vs ≡ Listed.Miscounted → ⊥
-unfolding firstGreat
-never-miscounted bs ins [] n e = let z : _≡_ {A = ℕ} 0 1 = cc in omega arith
-never-miscounted bs ins (v ∷ vs) n e =
-    never-cond (ltb (entry ins n) (2 ^ width bs v)) (firstGreat bs ins (n + 1) vs) n (never-miscounted bs ins vs (n + 1)) e
+  pub given-decides : (m : ℕ) → r ≡ Words.TooGreat m → Words.TooGreat m ≡ firstGreat bs ins 0 (variablesFrom 0 p ++ ys)
+  given-decides m a = sym (both-lists ∙ ap (λ (x : Words). thenGreat x (firstGreat bs ins p ys)) a)

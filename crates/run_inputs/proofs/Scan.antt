@@ -25,7 +25,7 @@ use Rattle.routine.proofs.Accepted.{decoded, commands-are}
 use Rattle.routine.proofs.Text.{Text, over, closes, forks, steps, text}
 use Rattle.routine.proofs.Views.{induction}
 use Rattle.run_inputs.specs.Inputs.{readFirst, readVariables, firstGreat}
-use Rattle.run_inputs.specs.declared.Listed.{Listed}
+use Rattle.run_inputs.specs.declared.Words.{Words}
 use Rattle.run_inputs.proofs.Lists.{great-next, great-here}
 use Rattle.run_inputs.proofs.Fitting.{reads-append}
 
@@ -120,11 +120,11 @@ onward bs at cs l (steps {cs = rest} c e r t) = found bs at rest (Command.Simple
 
 module _ (bs ins : List ℕ) (cs₀ : List Simple) (n₀ end at n : ℕ) (x : LeftOf bs ins cs₀ n₀ end at n) where
   -- after the last read nothing is left to look at
-  pub scan-over : end ≤ n → Listed.Accepted ≡ firstGreat bs ins n₀ (readVariables cs₀)
+  pub scan-over : end ≤ n → Words.Fit ≡ firstGreat bs ins n₀ (readVariables cs₀)
   unfolding firstGreat
   scan-over l = go (readVariables (x .commands)) (omega (arith, x .count)) (x .same)
     where
-      go : (vs : List ℕ) → length vs ≡ 0 → firstGreat bs ins n vs ≡ firstGreat bs ins n₀ (readVariables cs₀) → Listed.Accepted ≡ firstGreat bs ins n₀ (readVariables cs₀)
+      go : (vs : List ℕ) → length vs ≡ 0 → firstGreat bs ins n vs ≡ firstGreat bs ins n₀ (readVariables cs₀) → Words.Fit ≡ firstGreat bs ins n₀ (readVariables cs₀)
       go [] e q = q
       go (v ∷ vs) e q = absurd (omega arith)
 
@@ -168,7 +168,7 @@ module _ (bs ins : List ℕ) (cs₀ : List Simple) (n₀ end at n : ℕ) (x : Le
             count = omega (arith, ap length read-here, x .count);
           }
 
-      pub scan-great : ltb (entry ins n) (2 ^ width bs v) ≡ false → Listed.TooGreat n ≡ firstGreat bs ins n₀ (readVariables cs₀)
+      pub scan-great : ltb (entry ins n) (2 ^ width bs v) ≡ false → Words.TooGreat n ≡ firstGreat bs ins n₀ (readVariables cs₀)
       scan-great e = great-here bs ins n v (readVariables (next .rest)) e ∙ ap (firstGreat bs ins n) (sym read-here) ∙ x .same
 
 -- ---- the reads of a routine

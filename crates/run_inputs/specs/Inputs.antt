@@ -13,6 +13,7 @@ use Rattle.routine_faults.specs.Inputs.{given, inputCount}
 use Rattle.routine_command.specs.Command.{touches}
 use Rattle.routine_command.specs.declared.Simple.{Simple}
 use Rattle.routine_command.specs.declared.Touch.{Touch}
+use Rattle.run_inputs.specs.declared.Words.{Words}
 use Rattle.run_inputs.specs.declared.Listed.{Listed}
 
 -- n variables from v on
@@ -36,14 +37,21 @@ abbrev pub inputVariables : Header → Arm → List ℕ
 inputVariables h a = variablesFrom 0 (given h) ++ readVariables (textOf a)
 
 -- the first word, from number n on, that is too great for its variable
-unfoldable pub firstGreat : (bs ins : List ℕ) (n : ℕ) → List ℕ → Listed
+unfoldable pub firstGreat : (bs ins : List ℕ) (n : ℕ) → List ℕ → Words
 unfolding unless
-firstGreat bs ins n [] = Listed.Accepted
-firstGreat bs ins n (v ∷ vs) = unless (ltb (entry ins n) (2 ^ width bs v)) (Listed.TooGreat n) (firstGreat bs ins (n + 1) vs)
+firstGreat bs ins n [] = Words.Fit
+firstGreat bs ins n (v ∷ vs) = unless (ltb (entry ins n) (2 ^ width bs v)) (Words.TooGreat n) (firstGreat bs ins (n + 1) vs)
+
+-- 10: whether each word of an input list fits its variable
+unfoldable pub wordsFit : (bs ins : List ℕ) → Header → Arm → Words
+wordsFit bs ins h a = firstGreat bs ins 0 (inputVariables h a)
+
+-- what is said of an input list that is not miscounted
+abbrev pub byWords : Words → Listed
+byWords Words.Fit = Listed.Accepted
+byWords (Words.TooGreat n) = Listed.TooGreat n
 
 -- what is said of an input list: 9, then 10. It is accepted when it passes both.
 unfoldable pub listed : (bs ins : List ℕ) → Header → Arm → Counts → Listed
 unfolding unless
-listed bs ins h a k =
-    unless (eqb (length ins) (inputCount h k)) Listed.Miscounted
-    (firstGreat bs ins 0 (inputVariables h a))
+listed bs ins h a k = unless (eqb (length ins) (inputCount h k)) Listed.Miscounted (byWords (wordsFit bs ins h a))

@@ -18,7 +18,14 @@ ghost use Rattle.routine_faults.specs.Inputs.{given};
 ghost use Rattle.routine.specs.Routine.{textOf};
 ghost use Rattle.routine.specs.Decode.{commandsIn};
 ghost use Rattle.routine.specs.Inner.Known.{IsRoutineWith};
-ghost use Rattle.run_inputs.specs.Inputs.{variablesFrom, readVariables, firstGreat, listed};
+ghost use Rattle.run_inputs.specs.Inputs.{variablesFrom, readVariables, firstGreat, wordsFit, listed};
+
+// What 10 says of the words of an input list.
+pub enum Words {
+    Fit,
+    // this word is too great for its variable
+    TooGreat(usize),
+}
 
 // What is said of an input list.
 pub enum Listed {
@@ -37,22 +44,22 @@ fn fits(bytes: &[u8], inputs: &[u32], n: usize, v: u8) -> bool
 }
 
 // The first of the variables that begin with an input word whose word is too great.
-fn check_given(bytes: &[u8], inputs: &[u32], count: u8) -> Listed
+fn check_given(bytes: &[u8], inputs: &[u32], count: u8) -> Words
     ensures { λ r. ⌜ r ≡ firstGreat (now (bytes .entry)) (now (inputs .entry)) 0 (variablesFrom 0 count) ⌝ }
 {
     let mut v: u8 = 0;
     while v < count {
         let n = v as usize;
         if !fits(bytes, inputs, n, v) {
-            return Listed::TooGreat(n);
+            return Words::TooGreat(n);
         }
         v += 1;
     }
-    Listed::Accepted
+    Words::Fit
 }
 
 // The first read, in text order, whose word is too great. The bytes after the last read are not looked at.
-fn check_reads(bytes: &[u8], inputs: &[u32], h: Header, k: Counts) -> Listed
+fn check_reads(bytes: &[u8], inputs: &[u32], h: Header, k: Counts) -> Words
     requires { ⌜ IsRoutineWith (now bytes) h k ⌝ }
     ensures { λ r. ⌜ r ≡ firstGreat (now (bytes .entry)) (now (inputs .entry)) (given h) (readVariables (textOf (commandsIn (now (bytes .entry))))) ⌝ }
 {
@@ -63,7 +70,7 @@ fn check_reads(bytes: &[u8], inputs: &[u32], h: Header, k: Counts) -> Listed
         let op = byte_at(bytes, at);
         if op == 0x09 {
             if !fits(bytes, inputs, n, byte_at(bytes, at + 1)) {
-                return Listed::TooGreat(n);
+                return Words::TooGreat(n);
             }
             at += 4;
             n += 1;
@@ -71,7 +78,18 @@ fn check_reads(bytes: &[u8], inputs: &[u32], h: Header, k: Counts) -> Listed
             at += size_by_op(op);
         }
     }
-    Listed::Accepted
+    Words::Fit
+}
+
+// 10: no word is too great.
+pub fn check_words(bytes: &[u8], inputs: &[u32], h: Header, k: Counts) -> Words
+    requires { ⌜ IsRoutineWith (now bytes) h k ⌝ }
+    ensures { λ r. ⌜ r ≡ wordsFit (now (bytes .entry)) (now (inputs .entry)) h (commandsIn (now (bytes .entry))) ⌝ }
+{
+    match check_given(bytes, inputs, given_of(h)) {
+        Words::Fit => check_reads(bytes, inputs, h, k),
+        Words::TooGreat(n) => Words::TooGreat(n),
+    }
 }
 
 // 9 and 10: one word for each parameter and each read, and none too great.
@@ -82,9 +100,8 @@ pub fn check_inputs(bytes: &[u8], inputs: &[u32], h: Header, k: Counts) -> Liste
     if inputs.len() != input_count(h, k) {
         return Listed::Miscounted;
     }
-    match check_given(bytes, inputs, given_of(h)) {
-        Listed::Accepted => check_reads(bytes, inputs, h, k),
-        Listed::Miscounted => Listed::Miscounted,
-        Listed::TooGreat(n) => Listed::TooGreat(n),
+    match check_words(bytes, inputs, h, k) {
+        Words::Fit => Listed::Accepted,
+        Words::TooGreat(n) => Listed::TooGreat(n),
     }
 }
