@@ -8,28 +8,26 @@ use Rattle.routine_faults.specs.declared.Counts.{Counts}
 use Rattle.routine.specs.Decode.{Decoded, rejected, routine, decode}
 use Rattle.lead.specs.declared.Refusal as lead
 use Rattle.lead.specs.declared.Target.{Target}
-use Rattle.witness.specs.Lead.{leadOf}
-use Rattle.witness.specs.declared.Refusal as witness
-use Rattle.witness.specs.declared.Opened.{Opened}
+use Rattle.report_witness.specs.Lead.{opened}
+use Rattle.report_witness.specs.declared.Refusal as witness
+use Rattle.report_witness.specs.declared.Opening.{Opening}
 use Rattle.comparing.specs.declared.Compared.{Compared}
 
 -- the same access and the same side
 unfoldable pub sameTarget : Target → Target → Bool
 sameTarget t u = eqb (t .access) (u .access) && eqb (t .side) (u .side)
 
--- 11 and 12 of the second
-abbrev pub bySecond : Target → Opened → Compared
-bySecond t (Opened.Refused refusal) = Compared.Refused refusal
-bySecond t (Opened.Opens u) = Compared.Alike (sameTarget t u)
+-- the refusal of a lead, or what goes on
+abbrev pub ifWhole : Opening → Compared → Compared
+ifWhole (Opening.Refused refusal) go = Compared.Refused refusal
+ifWhole Opening.Whole go = go
 
--- 11 and 12 of the first, then the second
-abbrev pub byFirst : Opened → Opened → Compared
-byFirst (Opened.Refused refusal) second = Compared.Refused refusal
-byFirst (Opened.Opens t) second = bySecond t second
-
--- what is said of two leads on a routine with these counts
+-- 11 and 12 of the first, then of the second, then what they name
 unfoldable pub compared : (first second : List ℕ) → Header → Counts → Compared
-compared first second h k = byFirst (leadOf first h k) (leadOf second h k)
+compared first second h k =
+    ifWhole (opened first h k .verdict)
+    (ifWhole (opened second h k .verdict)
+    (Compared.Alike (sameTarget (opened first h k .lead .target) (opened second h k .lead .target))))
 
 -- 1 to 8, then the leads
 abbrev pub byRoutine : (first second : List ℕ) → Decoded → Compared

@@ -1,12 +1,13 @@
 // Whether two reports on one routine are alike.
 use lead::Target;
+use report_witness::Opening;
+use report_witness::Refusal;
+use report_witness::leads::open;
 use routine::Checked;
 use routine_faults::Counts;
 use routine_header::Header;
-use witness::Opened;
-use witness::Refusal;
-use witness::leads::open;
 ghost use mathlib.Core.Path.{_≡_};
+ghost use Rattle.report_witness.specs.Inner.Fits.{Fits};
 ghost use Rattle.comparing.specs.Alike.{sameTarget, compared, alike};
 
 // Whether two reports are alike.
@@ -23,13 +24,18 @@ fn same_target(t: Target, u: Target) -> bool
 
 // 11 and 12 of the first, then of the second.
 fn compare(first: &[u8], second: &[u8], h: Header, k: Counts) -> Compared
+    requires { ⌜ Fits h k ⌝ }
     ensures { λ r. ⌜ r ≡ compared (now (first .entry)) (now (second .entry)) h k ⌝ }
 {
-    match open(first, h, k) {
-        Opened::Refused(refusal) => Compared::Refused(refusal),
-        Opened::Opens(t) => match open(second, h, k) {
-            Opened::Refused(refusal) => Compared::Refused(refusal),
-            Opened::Opens(u) => Compared::Alike(same_target(t, u)),
+    let one = open(first, h, k);
+    let other = open(second, h, k);
+    let of_one = one.verdict;
+    let of_other = other.verdict;
+    match of_one {
+        Opening::Refused(refusal) => Compared::Refused(refusal),
+        Opening::Whole => match of_other {
+            Opening::Refused(refusal) => Compared::Refused(refusal),
+            Opening::Whole => Compared::Alike(same_target(one.lead.target, other.lead.target)),
         },
     }
 }

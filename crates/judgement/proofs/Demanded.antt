@@ -18,7 +18,9 @@ use Rattle.run_state.proofs.Sides.{on-side}
 use Rattle.run.specs.Answer.{ranBy}
 use Rattle.run_inputs.specs.Inputs.{listed}
 use Rattle.run_state.specs.Run.{runOf}
+use Rattle.run_inputs.specs.declared.Words.{Words}
 use Rattle.run_inputs.specs.declared.Listed.{Listed}
+use Rattle.run_inputs.proofs.Counted.{counted}
 use Rattle.run_state.proofs.Outside.{Ends, ends-at, ends}
 use Rattle.run_state.specs.Goes.{goesWay, Comes}
 use Rattle.run_state.proofs.Arriving.{arrival}
@@ -40,16 +42,18 @@ use Rattle.proof.proofs.Soundness.{sound}
 use Rattle.step.specs.declared.Verdict.{Verdict}
 use Rattle.translation_command.specs.Command.{Encoding}
 use Rattle.translation_state.specs.declared.Claim.{Claim}
-use Rattle.witness.specs.Lead.{targetIn, decisionsIn, witnessIn, proofAt}
-use Rattle.witness.specs.Witness.{witnessOf}
-use Rattle.witness.specs.declared.Witness.{Witness}
-use Rattle.witness.proofs.Opening.{lets}
-use Rattle.witness.proofs.Standing.{Stood, stood}
+use Rattle.report_witness.specs.Lead.{proofAt, leadIn, decisionsOf, inputsOf, opened}
+use Rattle.report_witness.specs.Witness.{witnessOf}
+use Rattle.report_witness.specs.declared.Lead.{Lead}
+use Rattle.report_witness.specs.declared.Opening.{Opening}
+use Rattle.report_witness.specs.declared.Witness.{Witness}
+use Rattle.report_witness.proofs.Reading.{inputs-counted, Lets, lets}
+use Rattle.report_witness.proofs.Standing.{Stood, stood}
 use Rattle.proving.specs.Proving.{Room, byVerdict, limitsIn, provedBy}
 use Rattle.proving.specs.declared.Proved.{Proved}
 use Rattle.proving.specs.declared.Refusal.{Refusal}
 use Rattle.judgement.specs.Demand.{StopsOutside, Overflows, Found, Demand3}
-use Rattle.judgement.specs.Judging.{byProof, byWitness, byRoutine, judgement}
+use Rattle.judgement.specs.Judging.{byProof, byWitness, byOpening, byRoutine, judgement}
 use Rattle.judgement.specs.declared.Finding.{Finding}
 use Rattle.judgement.specs.declared.Judged.{Judged}
 
@@ -93,18 +97,24 @@ module _ (steps hints : ℕ) where
 
 -- ---- what an accepted report says of the runs
 
-module _ (bs r : List ℕ) (h : Header) (a : Arm) (k : Counts) (d : decode bs ≡ routine h a k) (t : Target) (array : ℕ) (index : Whole)
-    (s : Stood bs r h a k t array index)
-    (translated : Demand2 bs t (decisionsIn r k)) (v : Verdict) (refuted : Refutes (clausesOfAll (translationOf bs t (decisionsIn r k) h a)) v)
+module _ (bs r : List ℕ) (h : Header) (a : Arm) (k : Counts) (d : decode bs ≡ routine h a k) (p : Lets r h k) (array : ℕ) (index : Whole)
+    (s : Stood bs (leadIn r h k) h a k array index) (translated : Demand2 bs (leadIn r h k .target) (decisionsOf (leadIn r h k) k))
+    (v : Verdict) (refuted : Refutes (clausesOfAll (translationOf bs (leadIn r h k .target) (decisionsOf (leadIn r h k) k) h a)) v)
     (steps hints : ℕ) (closed : v ≡ Verdict.Accepted steps hints) where
+  abbrev t : Target
+  t = leadIn r h k .target
+
   abbrev ds : List ℕ
-  ds = decisionsIn r k
+  ds = decisionsOf (leadIn r h k) k
+
+  abbrev witness : List ℕ
+  witness = inputsOf (leadIn r h k) h k
 
   abbrev x : Encoding
   x = translationOf bs t ds h a
 
   admitted : claimAdmission bs t ds ≡ translates h a k
-  admitted = admission-by bs t ds h a k d (lets r h k t _ (sym (s .opens)) refl .admits)
+  admitted = admission-by bs t ds h a k d (p .admits)
 
   claim : Faithful bs t ds h a k
   claim = translated .holds h a k admitted
@@ -124,13 +134,13 @@ module _ (bs r : List ℕ) (h : Header) (a : Arm) (k : Counts) (d : decode bs �
   abbrev found : Finding
   found = record { access = t .access; side = t .side; array = array; size = arraySize bs h array; index = index; steps = steps; hints = hints }
 
-  overflows : Overflows bs ds (witnessIn r h k) h a k found
+  overflows : Overflows bs ds witness h a k found
   overflows =
-      let witness = arrival bs (witnessIn r h k) ds h a k d (t .access) (admitted-range bs t ds h a k admitted .1 .access) array index .0 (s .arrived) in
+      let there = arrival bs witness ds h a k d (t .access) (admitted-range bs t ds h a k admitted .1 .access) array index .0 (s .arrived) in
       record {
-        accepted = s .accepted;
-        goes = witness .0;
-        comes = witness .1;
+        accepted = sym (counted bs witness h a k (inputs-counted r h k) Words.Fit (sym (s .fits)));
+        goes = there .0;
+        comes = there .1;
         every = λ ins ok way array₁ index₁ there. stops ins ok way array₁ index₁ there;
       }
     where
@@ -144,18 +154,14 @@ module _ (bs r : List ℕ) (h : Header) (a : Arm) (k : Counts) (d : decode bs �
           let n = ends-at bs h (there .before) (t .access) array₁ index₁ (there .after) (runOf bs ins h a .state .outcome) e (o .on) (o .outside) in
           record { on = o .on; named = o .named; stops = ap ranBy (n .1); outside = l }
 
-  -- the lead that was opened is the report's
-  named : t ≡ targetIn r
-  named = lets r h k t _ (sym (s .opens)) refl .target
-
   pub finds : Found bs r found
   finds = record {
     header = h;
     commands = a;
     counts = k;
     decodes = d;
-    access = ap (λ (u : Target). u .access) named;
-    side = ap (λ (u : Target). u .side) named;
+    access = refl;
+    side = refl;
     size = refl;
     overflows = overflows;
   }
@@ -167,25 +173,37 @@ module _ (bs r : List ℕ) (m : Room) (translated : (t : Target) (ds : List ℕ)
   abbrev Says : Judged → Type 0
   Says j = j ≡ Judged.Accepted f
 
-  module _ (h : Header) (a : Arm) (k : Counts) (d : decode bs ≡ routine h a k) where
-    by-proof : (t : Target) (array : ℕ) (index : Whole) → witnessOf bs r h a k ≡ Witness.Stands t array index
-        → (p : Proved) → provedBy r (proofAt h k) m h k (translationOf bs t (decisionsIn r k) h a) ≡ p → Says (byProof bs h t array index p) → Found bs r f
-    by-proof t array index is (Proved.Refused refusal) w e = let z : _≡_ {A = ℕ} 0 1 = cc in absurd (omega arith)
-    by-proof t array index is (Proved.Closed steps hints) w e =
-        let x = translationOf bs t (decisionsIn r k) h a in
-        let v = verdict-was steps hints r (proofAt h k) m h k x w in
-        let q : found bs r h a k d t array index (stood bs r h a k t array index is) (translated t (decisionsIn r k)) _ (refuted (clausesOfAll x) (limitsIn m x) (proofAt h k)) steps hints v ≡ f = cc in
-        subst (Found bs r) q
-        (finds bs r h a k d t array index (stood bs r h a k t array index is) (translated t (decisionsIn r k)) _
-        (refuted (clausesOfAll x) (limitsIn m x) (proofAt h k)) steps hints v)
+  module _ (h : Header) (a : Arm) (k : Counts) (d : decode bs ≡ routine h a k) (w : Lets r h k) where
+    abbrev l : Lead
+    l = leadIn r h k
 
-    by-witness : (w : Witness) → witnessOf bs r h a k ≡ w → Says (byWitness bs r m h a k w) → Found bs r f
+    abbrev y : Encoding
+    y = translationOf bs (l .target) (decisionsOf l k) h a
+
+    by-proof : (array : ℕ) (index : Whole) → witnessOf bs l h a k ≡ Witness.Stands array index
+        → (p : Proved) → provedBy r (proofAt h k) m h k y ≡ p → Says (byProof bs h (l .target) array index p) → Found bs r f
+    by-proof array index is (Proved.Refused refusal) q e = let z : _≡_ {A = ℕ} 0 1 = cc in absurd (omega arith)
+    by-proof array index is (Proved.Closed steps hints) q e =
+        let v = verdict-was steps hints r (proofAt h k) m h k y q in
+        let s = stood bs l h a k array index is in
+        let o : found bs r h a k d w array index s (translated (l .target) (decisionsOf l k)) _ (refuted (clausesOfAll y) (limitsIn m y) (proofAt h k)) steps hints v ≡ f = cc in
+        subst (Found bs r) o
+        (finds bs r h a k d w array index s (translated (l .target) (decisionsOf l k)) _ (refuted (clausesOfAll y) (limitsIn m y) (proofAt h k)) steps hints v)
+
+    by-witness : (x : Witness) → witnessOf bs l h a k ≡ x → Says (byWitness bs r m h a k l x) → Found bs r f
     by-witness (Witness.Refused refusal) is e = let z : _≡_ {A = ℕ} 0 1 = cc in absurd (omega arith)
-    by-witness (Witness.Stands t array index) is e = by-proof t array index is (provedBy r (proofAt h k) m h k (translationOf bs t (decisionsIn r k) h a)) refl e
+    by-witness (Witness.Stands array index) is e = by-proof array index is (provedBy r (proofAt h k) m h k y) refl e
+
+  by-lead : (h : Header) (a : Arm) (k : Counts) → decode bs ≡ routine h a k → (x : Opening) → opened r h k .verdict ≡ x
+      → Says (byOpening bs r m h a k (opened r h k .lead) x) → Found bs r f
+  by-lead h a k d (Opening.Refused refusal) is e = let z : _≡_ {A = ℕ} 0 1 = cc in absurd (omega arith)
+  by-lead h a k d Opening.Whole is e =
+      let w = lets r h k is in
+      by-witness h a k d w (witnessOf bs (leadIn r h k) h a k) refl (subst (λ (l : Lead). Says (byWitness bs r m h a k l (witnessOf bs l h a k))) (w .lead) e)
 
   by-decoded : (x : Decoded) → decode bs ≡ x → Says (byRoutine bs r m x) → Found bs r f
   by-decoded (rejected refusal) d e = let z : _≡_ {A = ℕ} 0 1 = cc in absurd (omega arith)
-  by-decoded (routine h a k) d e = by-witness h a k d (witnessOf bs r h a k) refl e
+  by-decoded (routine h a k) d e = by-lead h a k d (opened r h k .verdict) refl e
 
   holds : Says (judgement bs r m) → Found bs r f
   unfolding judgement

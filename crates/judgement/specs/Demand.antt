@@ -20,7 +20,7 @@ use Rattle.run_state.specs.Run.{Execution, runOf}
 use Rattle.run_inputs.specs.declared.Listed.{Listed}
 use Rattle.run.specs.declared.Ran.{Ran}
 use Rattle.run_state.specs.Goes.{goesWay, Comes}
-use Rattle.witness.specs.Lead.{decisionsIn, witnessIn}
+use Rattle.report_witness.specs.Lead.{leadIn, decisionsOf, inputsOf}
 use Rattle.judgement.specs.declared.Finding.{Finding}
 use Rattle.judgement.specs.declared.Judged.{Judged}
 
@@ -40,7 +40,8 @@ pub record Overflows (bs ds witness : List ℕ) (h : Header) (a : Arm) (k : Coun
       → (array : ℕ) (index : Whole) → Comes (f .access) array index (runOf bs ins h a .events)
       → StopsOutside bs h (f .access) (f .side) array index (runOf bs ins h a)
 
--- the bytes are a routine; the report names the access and the side of the finding, whose size is that of its array; and that access overflows
+-- the bytes are a routine; the report names the access and the side of the finding, whose size is that of its array; and that access overflows on the way
+-- of the decisions in the report's bytes, where the inputs in the report's bytes go
 pub record Found (bs r : List ℕ) (f : Finding) : Type 0 where
   pub header : Header
   pub commands : Arm
@@ -49,7 +50,7 @@ pub record Found (bs r : List ℕ) (f : Finding) : Type 0 where
   pub access : f .access ≡ entry r 0
   pub side : f .side ≡ entry r 1
   pub size : f .size ≡ arraySize bs header (f .array)
-  pub overflows : Overflows bs (decisionsIn r counts) (witnessIn r header counts) header commands counts f
+  pub overflows : Overflows bs (decisionsOf (leadIn r header counts) counts) (inputsOf (leadIn r header counts) header counts) header commands counts f
 
 -- Whatever the report holds: if it is accepted, the witness's run goes the report's way and comes to the named access; and every run, of the witness or of
 -- any other accepted input list, that goes that way and comes to it stops there, its index outside the array that it reaches there, on the side named.

@@ -9,10 +9,12 @@ use Rattle.routine.specs.Routine.{Arm}
 use Rattle.routine.specs.Decode.{Decoded, rejected, routine, decode}
 use Rattle.lead.specs.declared.Refusal as lead
 use Rattle.lead.specs.declared.Target.{Target}
-use Rattle.witness.specs.Lead.{decisionsIn, proofAt}
-use Rattle.witness.specs.Witness.{witnessOf}
-use Rattle.witness.specs.declared.Refusal as witness
-use Rattle.witness.specs.declared.Witness.{Witness}
+use Rattle.report_witness.specs.Lead.{proofAt, decisionsOf, opened}
+use Rattle.report_witness.specs.Witness.{witnessOf}
+use Rattle.report_witness.specs.declared.Refusal as witness
+use Rattle.report_witness.specs.declared.Lead.{Lead}
+use Rattle.report_witness.specs.declared.Opening.{Opening}
+use Rattle.report_witness.specs.declared.Witness.{Witness}
 use Rattle.translation_meaning.specs.Translation.{translationOf}
 use Rattle.proving.specs.Proving.{Room, provedBy}
 use Rattle.proving.specs.declared.Refusal.{Refusal}
@@ -33,16 +35,21 @@ byProof bs h t array index (Proved.Closed steps hints) =
       hints = hints;
     })
 
--- the witness, then 16 and the proof
-abbrev pub byWitness : (bs r : List ℕ) → Room → Header → Arm → Counts → Witness → Judged
-byWitness bs r m h a k (Witness.Refused refusal) = Judged.Refused (Refusal.Witness refusal)
-byWitness bs r m h a k (Witness.Stands t array index) =
-    byProof bs h t array index (provedBy r (proofAt h k) m h k (translationOf bs t (decisionsIn r k) h a))
+-- the witness of a lead, then 16 and the proof
+abbrev pub byWitness : (bs r : List ℕ) → Room → Header → Arm → Counts → Lead → Witness → Judged
+byWitness bs r m h a k l (Witness.Refused refusal) = Judged.Refused (Refusal.Witness refusal)
+byWitness bs r m h a k l (Witness.Stands array index) =
+    byProof bs h (l .target) array index (provedBy r (proofAt h k) m h k (translationOf bs (l .target) (decisionsOf l k) h a))
 
--- 1 to 8, then the rest
+-- 11 and 12, then the witness
+abbrev pub byOpening : (bs r : List ℕ) → Room → Header → Arm → Counts → Lead → Opening → Judged
+byOpening bs r m h a k l (Opening.Refused refusal) = Judged.Refused (Refusal.Witness refusal)
+byOpening bs r m h a k l Opening.Whole = byWitness bs r m h a k l (witnessOf bs l h a k)
+
+-- 1 to 8, then the lead
 abbrev pub byRoutine : (bs r : List ℕ) → Room → Decoded → Judged
 byRoutine bs r m (rejected refusal) = Judged.Refused (Refusal.Witness (witness.Refusal.Lead (lead.Refusal.Routine refusal)))
-byRoutine bs r m (routine h a k) = byWitness bs r m h a k (witnessOf bs r h a k)
+byRoutine bs r m (routine h a k) = byOpening bs r m h a k (opened r h k .lead) (opened r h k .verdict)
 
 -- what `judge` answers to a report on a routine
 unfoldable pub judgement : (bs r : List ℕ) → Room → Judged

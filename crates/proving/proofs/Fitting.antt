@@ -14,11 +14,11 @@ use Rattle.slices.specs.declared.Buffer.{Buffer}
 use Rattle.routine_header.specs.declared.Header.{Header}
 use Rattle.routine_faults.specs.declared.Counts.{Counts}
 use Rattle.routine.specs.Routine.{Arm}
-use Rattle.routine.specs.Decode.{routine, decode}
+use Rattle.routine.specs.Decode.{routine, decode, commandsIn}
 use Rattle.routine.specs.Inner.Known.{IsRoutineWith}
+use Rattle.routine.proofs.Accepted.{commands-are}
 use Rattle.cnf.specs.Clause.{Clause, flatten, offsets}
 use Rattle.translation_command.specs.Command.{Encoding}
-use Rattle.lead.specs.declared.Target.{Target}
 use Rattle.translation.specs.Answer.{TranslationAnswer, fitted}
 use Rattle.translation.specs.Inner.Fitted.{Fitted}
 use Rattle.translation_meaning.specs.Translation.{translationOf, clausesOfAll, translationSize}
@@ -32,9 +32,10 @@ use Rattle.progress.specs.Lent.{limitsOf}
 use Rattle.progress.specs.Check.{checkProof}
 use Rattle.proof.proofs.Laying.{Proper, begins-laid, clauses-laid}
 use Rattle.step.specs.declared.Verdict.{Verdict}
-use Rattle.witness.specs.Lead.{decisionsIn, proofAt}
+use Rattle.report_witness.specs.Lead.{proofAt, decisionsOf}
+use Rattle.report_witness.specs.declared.Lead.{Lead}
 use Rattle.proving.specs.Proving.{Room, byVerdict, provedBy}
-use Rattle.proving.specs.Inner.Parts.{roomOf, byTranslation, Proves}
+use Rattle.proving.specs.Inner.Parts.{roomOf, byTranslation}
 use Rattle.proving.specs.declared.Refusal.{Refusal}
 use Rattle.proving.specs.declared.Proved.{Proved}
 use Rattle.proving.proofs.Proper.{whole-proper}
@@ -137,90 +138,73 @@ verdict-same : (r : List ℕ) (cs cs₁ : List Clause) (v v₁ w w₁ s s₁ fro
     ≡ byVerdict (checkProof cs₁ (record { variables = v₁; words = w₁; starts = s₁ }) r from₁ .verdict)
 verdict-same r cs cs₁ v v₁ w w₁ s s₁ from from₁ p q x y z = rw (p, q, x, y, z) refl
 
-module _ (bs r : List ℕ) (h : Header) (k : Counts) (t : Target) (words starts marks : List ℕ) (values trail : ℕ)
+module _ (bs r : List ℕ) (h : Header) (k : Counts) (i : IsRoutineWith bs h k) (lead : Lead) (words starts marks : List ℕ) (values trail : ℕ)
     (short : length words ≤ 16777216) (few : length starts ≤ 16777216)
-    (ds : List ℕ) (same : ds ≡ decisionsIn r k) (words₁ starts₁ : List ℕ) (z : Translated) (fit : Fitted bs h t ds words starts words₁ starts₁ z) where
+    (words₁ starts₁ : List ℕ) (z : Translated) (fit : Fitted bs h (lead .target) (decisionsOf lead k) words starts words₁ starts₁ z) where
   abbrev room : Room
   room = roomOf words starts marks values trail
 
-  abbrev Of : Arm → Encoding
-  Of a = translationOf bs t (decisionsIn r k) h a
+  -- the translation of the claim
+  abbrev x : Encoding
+  x = translationOf bs (lead .target) (decisionsOf lead k) h (commandsIn bs)
 
-  fitted-of : (a : Arm) → decode bs ≡ routine h a k
-      → _≡_ {A = TranslationAnswer} (record { translated = z; words = words₁; starts = starts₁ }) (fitted words starts (Of a))
-  fitted-of a d = fit .tells a k d ∙ ap (λ (y : List ℕ). fitted words starts (translationOf bs t y h a)) same
+  d : decode bs ≡ routine h (commandsIn bs) k
+  d = i .decodes ∙ ap (λ (a : Arm). routine h a k) (sym (commands-are bs h (i .commands) k (i .decodes)))
 
-  pub prove-refused : (refusal : translating.Refusal) → z ≡ Translated.Refused refusal → (x : Refusal) → x ≡ byTranslation refusal
-      → Proves bs r h k t room (Proved.Refused x)
-  prove-refused refusal is x by = record {
-    tells = λ a d.
-        ap Proved.Refused by ∙ not-made words starts words₁ starts₁ short few z (Of a) (fitted-of a d) r (proofAt h k) room h k refl refl refusal is;
-  }
+  -- what is answered
+  abbrev Answer : Proved → Type 0
+  Answer p = p ≡ provedBy r (proofAt h k) room h k x
+
+  pub prove-refused : (refusal : translating.Refusal) → z ≡ Translated.Refused refusal → (why : Refusal) → why ≡ byTranslation refusal → Answer (Proved.Refused why)
+  prove-refused refusal is why by =
+      ap Proved.Refused by ∙ not-made words starts words₁ starts₁ short few z x (fit .tells (commandsIn bs) k d) r (proofAt h k) room h k refl refl refusal is
 
   module _ (size : Size) (is : z ≡ Translated.Clauses size) where
-    of-made : (a : Arm) → decode bs ≡ routine h a k → Made words starts words₁ starts₁ size (Of a)
-    of-made a d = made words starts words₁ starts₁ short few z (Of a) (fitted-of a d) size is
+    y : Made words starts words₁ starts₁ size x
+    y = made words starts words₁ starts₁ short few z x (fit .tells (commandsIn bs) k d) size is
 
-    variables-are : (a : Arm) → decode bs ≡ routine h a k → size .variables ≡ translationSize (Of a) .variables
-    variables-are a d = ap (λ (y : Size). y .variables) (of-made a d .sized)
+    variables-are : size .variables ≡ translationSize x .variables
+    variables-are = ap (λ (v : Size). v .variables) (y .sized)
 
     -- the clauses that stand in the buffers
-    clauses-are : (a : Arm) → decode bs ≡ routine h a k → clausesOf words₁ starts₁ (size .clauses) ≡ clausesOfAll (Of a)
-    clauses-are a d =
-        let y = of-made a d in
+    clauses-are : clausesOf words₁ starts₁ (size .clauses) ≡ clausesOfAll x
+    clauses-are =
         clauses-same _ words₁ _ starts₁ _ (size .clauses) (y .words-are) (y .starts-are) (ap (λ (v : Size). v .clauses) (y .sized))
-        ∙ clauses-laid words starts (clausesOfAll (Of a)) (y .words-room) (y .starts-room)
+        ∙ clauses-laid words starts (clausesOfAll x) (y .words-room) (y .starts-room)
 
-    pub prove-marks : length marks < size .variables + 1 → Proves bs r h k t room (Proved.Refused (Refusal.TooSmall Buffer.Marks))
+    pub prove-marks : length marks < size .variables + 1 → Answer (Proved.Refused (Refusal.TooSmall Buffer.Marks))
     unfolding provedBy
-    prove-marks l = record {
-      tells = λ a d.
-          let y = of-made a d in
-          rw (le-leb _ _ (y .words-room), le-leb _ _ (y .starts-room), lt-leb _ _ (rw (variables-are a d) at l)) refl;
-    }
+    prove-marks l = rw (le-leb _ _ (y .words-room), le-leb _ _ (y .starts-room), lt-leb _ _ (rw variables-are at l)) refl
 
     module _ (enough : size .variables + 1 ≤ length marks) where
-      pub prove-values : values < h .variables → Proves bs r h k t room (Proved.Refused (Refusal.TooSmall Buffer.Values))
+      pub prove-values : values < h .variables → Answer (Proved.Refused (Refusal.TooSmall Buffer.Values))
       unfolding provedBy
-      prove-values l = record {
-        tells = λ a d.
-            let y = of-made a d in
-            rw (le-leb _ _ (y .words-room), le-leb _ _ (y .starts-room), le-leb _ _ (rw (variables-are a d) at enough), lt-leb _ _ l) refl;
-      }
+      prove-values l = rw (le-leb _ _ (y .words-room), le-leb _ _ (y .starts-room), le-leb _ _ (rw variables-are at enough), lt-leb _ _ l) refl
 
       module _ (valued : h .variables ≤ values) where
-        pub prove-trail : trail < k .ifs → Proves bs r h k t room (Proved.Refused (Refusal.TooSmall Buffer.Trail))
+        pub prove-trail : trail < k .ifs → Answer (Proved.Refused (Refusal.TooSmall Buffer.Trail))
         unfolding provedBy
-        prove-trail l = record {
-          tells = λ a d.
-              let y = of-made a d in
-              rw (le-leb _ _ (y .words-room), le-leb _ _ (y .starts-room), le-leb _ _ (rw (variables-are a d) at enough), le-leb _ _ valued, lt-leb _ _ l) refl;
-        }
+        prove-trail l =
+            rw (le-leb _ _ (y .words-room), le-leb _ _ (y .starts-room), le-leb _ _ (rw variables-are at enough), le-leb _ _ valued, lt-leb _ _ l) refl
 
         -- the clauses are laid out as the check asks
-        pub prove-begins : IsRoutineWith bs h k → proofAt h k ≤ length r → length r ≤ 16777216 → (from : ℕ) → from ≡ proofAt h k
+        pub prove-begins : proofAt h k ≤ length r → length r ≤ 16777216 → (from : ℕ) → from ≡ proofAt h k
             → Begins words₁ starts₁ (replicate (length (take (size .variables + 1) marks)) 0) r from (size .clauses) (size .words)
-        prove-begins i within limit from at =
-            let a = i .commands in
-            let d = i .decodes in
-            let y = of-made a d in
+        prove-begins within limit from at =
             let n : ℕ = length (take (size .variables + 1) marks) in
-            let l : n ≡ 1 + length (Of a .nodes) = length-take-le (size .variables + 1) marks enough ∙ omega (arith, variables-are a d) in
+            let l : n ≡ 1 + length (x .nodes) = length-take-le (size .variables + 1) marks enough ∙ omega (arith, variables-are) in
             begins-same _ words₁ _ starts₁ (replicate n 0) r (proofAt h k) from _ (size .clauses) _ (size .words) (y .words-are) (y .starts-are) at
             (ap (λ (v : Size). v .clauses) (y .sized)) (ap (λ (v : Size). v .words) (y .sized))
-            (begins-laid words starts (clausesOfAll (Of a)) (y .words-room) (y .starts-room) (replicate n 0) r (proofAt h k)
-            (subst (λ (v : ℕ). Proper v (clausesOfAll (Of a))) (sym (length-replicate n 0 ∙ l)) (whole-proper bs t (decisionsIn r k) h a k d))
+            (begins-laid words starts (clausesOfAll x) (y .words-room) (y .starts-room) (replicate n 0) r (proofAt h k)
+            (subst (λ (v : ℕ). Proper v (clausesOfAll x)) (sym (length-replicate n 0 ∙ l)) (whole-proper bs (lead .target) (decisionsOf lead k) h (commandsIn bs) k d))
             (omega (arith, length-replicate {A = ℕ} n 0)) short (ap (λ (v : ℕ). replicate v 0) (sym (length-replicate n 0))) within limit)
 
         pub proved : k .ifs ≤ trail → (from : ℕ) → from ≡ proofAt h k → (p : Proved)
             → p ≡ byVerdict (checkProof (clausesOf words₁ starts₁ (size .clauses)) (limitsOf words₁ starts₁ (take (size .variables + 1) marks)) r from .verdict)
-            → Proves bs r h k t room p
+            → Answer p
         unfolding provedBy
-        proved trailed from at p by = record {
-          tells = λ a d.
-              let y = of-made a d in
-              let l : length (take (size .variables + 1) marks) ≡ size .variables + 1 = length-take-le (size .variables + 1) marks enough in
-              rw (le-leb _ _ (y .words-room), le-leb _ _ (y .starts-room), le-leb _ _ (rw (variables-are a d) at enough), le-leb _ _ valued, le-leb _ _ trailed)
-              (by ∙ verdict-same r _ _ _ _ _ _ _ _ from (proofAt h k) (clauses-are a d) (omega (arith, variables-are a d)) (ap length (y .words-are) ∙ length-sets words 0 (flatten (clausesOfAll (Of a))))
-              (ap length (y .starts-are) ∙ length-sets starts 0 (offsets 0 (clausesOfAll (Of a)))) at);
-        }
+        proved trailed from at p by =
+            let l : length (take (size .variables + 1) marks) ≡ size .variables + 1 = length-take-le (size .variables + 1) marks enough in
+            rw (le-leb _ _ (y .words-room), le-leb _ _ (y .starts-room), le-leb _ _ (rw variables-are at enough), le-leb _ _ valued, le-leb _ _ trailed)
+            (by ∙ verdict-same r _ _ _ _ _ _ _ _ from (proofAt h k) clauses-are (omega (arith, variables-are)) (ap length (y .words-are) ∙ length-sets words 0 (flatten (clausesOfAll x)))
+            (ap length (y .starts-are) ∙ length-sets starts 0 (offsets 0 (clausesOfAll x))) at)

@@ -1,7 +1,8 @@
 // The claim of a report, proved: 16, then the proof.
 
-use lead::Target;
 use proof::check_proof;
+use report_witness::Lead;
+use report_witness::leads::proof_at;
 use routine_faults::Counts;
 use routine_header::Header;
 use slices::Buffer;
@@ -10,23 +11,24 @@ use step::Verdict;
 use translation::Translated;
 use translation::fitting::fit;
 use translation_meaning::Size;
-use witness::leads::proof_at;
 ghost use mathlib.Core.Path.{_≡_};
 ghost use Prim.Native.Nat.{_≤_};
 ghost use lib.ListN.{length, replicate};
+ghost use Rattle.routine.specs.Decode.{commandsIn};
 ghost use Rattle.routine.specs.Inner.Known.{IsRoutineWith};
+ghost use Rattle.translation_meaning.specs.Translation.{translationOf};
 ghost use Rattle.proof.specs.Inner.Begins.{Begins};
 ghost use Rattle.progress.specs.Lent.{limitsOf};
 ghost use Rattle.progress.specs.Check.{checkProof};
 ghost use Rattle.propagation.specs.Stored.{clausesOf};
-ghost use Rattle.witness.specs.Lead.{proofAt};
-ghost use Rattle.proving.specs.Proving.{byVerdict};
-ghost use Rattle.proving.specs.Inner.Parts.{roomOf, Proves, byTranslation};
+ghost use Rattle.report_witness.specs.Lead.{proofAt, decisionsOf};
+ghost use Rattle.proving.specs.Proving.{byVerdict, provedBy};
+ghost use Rattle.proving.specs.Inner.Parts.{roomOf, byTranslation};
 
 // Why a report is turned down.
 pub enum Refusal {
     // 1 to 8, the lead or the witness
-    Witness(witness::Refusal),
+    Witness(report_witness::Refusal),
     TooSmall(Buffer),
     Proof(step::Refusal),
 }
@@ -51,7 +53,7 @@ fn by_translation(refusal: translation::Refusal) -> Refusal
     ensures { λ r. ⌜ r ≡ byTranslation refusal ⌝ }
 {
     match refusal {
-        translation::Refusal::Lead(inner) => Refusal::Witness(witness::Refusal::Lead(inner)),
+        translation::Refusal::Lead(inner) => Refusal::Witness(report_witness::Refusal::Lead(inner)),
         translation::Refusal::TooSmall(buffer) => Refusal::TooSmall(buffer),
     }
 }
@@ -86,7 +88,7 @@ pub fn prove(
     report: &[u8],
     h: Header,
     k: Counts,
-    t: Target,
+    lead: Lead,
     words: &mut [u32],
     starts: &mut [u32],
     marks: &mut [u8],
@@ -94,10 +96,11 @@ pub fn prove(
     trail: usize,
 ) -> Proved
     requires { ⌜ IsRoutineWith (now routine) h k × (proofAt h k ≤ length (now report)) × (length (now report) ≤ 16777216) × (length (now words) ≤ 16777216) × (length (now starts) ≤ 16777216) ⌝ }
-    ensures { λ r. ⌜ Proves (now (routine .entry)) (now (report .entry)) h k t (roomOf (now (words .entry)) (now (starts .entry)) (now (marks .entry)) values trail) r ⌝ }
+    ensures { λ r. ⌜ r ≡ provedBy (now (report .entry)) (proofAt h k) (roomOf (now (words .entry)) (now (starts .entry)) (now (marks .entry)) values trail) h k (translationOf (now (routine .entry)) (lead .target) (decisionsOf lead k) h (commandsIn (now (routine .entry)))) ⌝ }
 {
-    let end = 2 + k.ifs as usize;
-    match fit(routine, h, t, &report[2..end], words, starts) {
+    let decisions = lead.decisions;
+    let ifs = k.ifs as usize;
+    match fit(routine, h, lead.target, &decisions[..ifs], words, starts) {
         Translated::Refused(refusal) => Proved::Refused(by_translation(refusal)),
         Translated::Clauses(size) => {
             let m = size.variables as usize + 1;
@@ -107,7 +110,7 @@ pub fn prove(
             if values < h.variables as usize {
                 return Proved::Refused(Refusal::TooSmall(Buffer::Values));
             }
-            if trail < k.ifs as usize {
+            if trail < ifs {
                 return Proved::Refused(Refusal::TooSmall(Buffer::Trail));
             }
             check(report, proof_at(h, k), size, words, starts, &mut marks[..m])

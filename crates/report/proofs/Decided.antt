@@ -1,31 +1,29 @@
 -- What is said of a report, from what the parts answered. Assumes nothing.
 use mathlib.Core.Path.{_≡_, refl, sym, ap, _∙_}
 use mathlib.Core.List.{List}
-use Prim.Native.Nat.{ℕ, _≤_}
-use lib.ListN.{length}
+use Prim.Native.Nat.{ℕ}
 use Rattle.bitvec.specs.declared.Whole.{Whole}
 use Rattle.routine_header.specs.declared.Header.{Header}
 use Rattle.routine_faults.specs.declared.Counts.{Counts}
-use Rattle.routine.specs.Routine.{Arm}
-use Rattle.routine.specs.Decode.{routine, decode, commandsIn, checked}
+use Rattle.routine.specs.Decode.{commandsIn, checked}
 use Rattle.routine.specs.Inner.Known.{IsRoutineWith}
 use Rattle.routine.specs.declared.Checked.{Checked}
 use Rattle.routine.specs.declared.Refusal as declared
 use Rattle.routine.proofs.Accepted.{accepted, refused-by, commands-are}
 use Rattle.lead.specs.declared.Refusal as lead
-use Rattle.lead.specs.declared.Target.{Target}
-use Rattle.witness.specs.Lead.{proofAt}
-use Rattle.witness.specs.Witness.{witnessOf}
-use Rattle.witness.specs.declared.Refusal as witness
-use Rattle.witness.specs.declared.Witness.{Witness}
-use Rattle.witness.proofs.Opening.{Lets, lets}
-use Rattle.witness.proofs.Standing.{stood}
-use Rattle.proving.specs.Proving.{Room}
-use Rattle.proving.specs.Inner.Parts.{Proves}
+use Rattle.report_witness.specs.Lead.{proofAt, decisionsOf, opened}
+use Rattle.report_witness.specs.Witness.{witnessOf}
+use Rattle.report_witness.specs.declared.Refusal as witness
+use Rattle.report_witness.specs.declared.Lead.{Lead}
+use Rattle.report_witness.specs.declared.Opening.{Opening}
+use Rattle.report_witness.specs.declared.Opened.{Opened}
+use Rattle.report_witness.specs.declared.Witness.{Witness}
+use Rattle.report_witness.proofs.Reading.{Lets, lets}
+use Rattle.translation_meaning.specs.Translation.{translationOf}
+use Rattle.proving.specs.Proving.{Room, provedBy}
 use Rattle.proving.specs.declared.Proved.{Proved}
 use Rattle.proving.specs.declared.Refusal.{Refusal}
-use Rattle.judgement.specs.Judging.{byProof, byWitness, judgement}
-use Rattle.report.specs.Inner.Parts.{Claims}
+use Rattle.judgement.specs.Judging.{byProof, byWitness, byOpening, judgement}
 use Rattle.judgement.specs.declared.Judged.{Judged}
 
 -- ---- what `check` of routine answered
@@ -36,31 +34,33 @@ module _ (bs : List ℕ) (h : Header) (k : Counts) (x : Checked) (is : x ≡ che
 
 -- ---- the witness, then the proof
 
--- what is said of the witness is said of the tree that was decoded
-witnessed : (bs r : List ℕ) (h : Header) (a : Arm) (k : Counts) (w : Witness) → w ≡ witnessOf bs r h (commandsIn bs) k → decode bs ≡ routine h a k → w ≡ witnessOf bs r h a k
-witnessed bs r h a k w said d = said ∙ ap (λ (c : Arm). witnessOf bs r h c k) (commands-are bs h a k d)
+module _ (bs r : List ℕ) (h : Header) (k : Counts) (m : Room) (l : Lead) (w : Witness) (said : w ≡ witnessOf bs l h (commandsIn bs) k) where
+  pub lead-refused : (refusal : witness.Refusal) → w ≡ Witness.Refused refusal
+      → Judged.Refused (Refusal.Witness refusal) ≡ byOpening bs r m h (commandsIn bs) k l Opening.Whole
+  lead-refused refusal e = ap (byWitness bs r m h (commandsIn bs) k l) (sym e ∙ said)
 
-module _ (bs r : List ℕ) (h : Header) (k : Counts) (m : Room) (w : Witness) (said : w ≡ witnessOf bs r h (commandsIn bs) k) where
-  pub claim-refused : (refusal : witness.Refusal) → w ≡ Witness.Refused refusal → Claims bs r h k m (Judged.Refused (Refusal.Witness refusal))
-  claim-refused refusal e = record { tells = λ a d. ap (byWitness bs r m h a k) (sym e ∙ witnessed bs r h a k w said d) }
+  pub lead-proved : (array : ℕ) (index : Whole) → w ≡ Witness.Stands array index
+      → (p : Proved) → p ≡ provedBy r (proofAt h k) m h k (translationOf bs (l .target) (decisionsOf l k) h (commandsIn bs))
+      → (j : Judged) → j ≡ byProof bs h (l .target) array index p → j ≡ byOpening bs r m h (commandsIn bs) k l Opening.Whole
+  lead-proved array index e p proves j is =
+      is ∙ ap (byProof bs h (l .target) array index) proves ∙ ap (byWitness bs r m h (commandsIn bs) k l) (sym e ∙ said)
 
-  module _ (t : Target) (array : ℕ) (index : Whole) (e : w ≡ Witness.Stands t array index) where
-    pub claim-proved : (p : Proved) → Proves bs r h k t m p → (j : Judged) → j ≡ byProof bs h t array index p → Claims bs r h k m j
-    claim-proved p proves j is = record {
-      tells = λ a d. is ∙ ap (byProof bs h t array index) (proves .tells a d) ∙ ap (byWitness bs r m h a k) (sym e ∙ witnessed bs r h a k w said d);
-    }
+-- ---- the lead, then the rest
 
--- a report whose witness stands is long enough for its lead, and not too long
-module _ (bs r : List ℕ) (h : Header) (k : Counts) (w : Witness) (said : w ≡ witnessOf bs r h (commandsIn bs) k) (t : Target) (array : ℕ) (index : Whole)
-    (e : w ≡ Witness.Stands t array index) (i : IsRoutineWith bs h k) where
-  let-through : Lets r h k t
-  let-through = lets r h k t _ (sym (stood bs r h (i .commands) k t array index (sym (witnessed bs r h (i .commands) k w said (i .decodes)) ∙ e) .opens)) refl
+module _ (bs r : List ℕ) (h : Header) (k : Counts) (m : Room) (x : Opened) (is : x ≡ opened r h k) where
+  -- what is answered
+  abbrev Answer : Judged → Type 0
+  Answer j = j ≡ byOpening bs r m h (commandsIn bs) k (opened r h k .lead) (opened r h k .verdict)
 
-  pub claim-long : proofAt h k ≤ length r
-  claim-long = let-through .long
+  pub claim-refused : (refusal : witness.Refusal) → x .verdict ≡ Opening.Refused refusal → Answer (Judged.Refused (Refusal.Witness refusal))
+  claim-refused refusal e = rw (← is, e) refl
 
-  pub claim-short : length r ≤ 16777216
-  claim-short = let-through .short
+  pub claim-decided : x .verdict ≡ Opening.Whole → (j : Judged) → j ≡ byOpening bs r m h (commandsIn bs) k (x .lead) Opening.Whole → Answer j
+  claim-decided e j by = rw (← is, e) by
+
+-- a report whose lead is whole is long enough for it, and not too long
+pub claim-lets : (r : List ℕ) (h : Header) (k : Counts) (x : Opened) → x ≡ opened r h k → x .verdict ≡ Opening.Whole → Lets r h k
+claim-lets r h k x is e = lets r h k (ap (λ (y : Opened). y .verdict) (sym is) ∙ e)
 
 -- ---- the whole
 
@@ -70,6 +70,7 @@ module _ (bs : List ℕ) (x : Checked) (is : x ≡ checked bs) where
   unfolding judgement
   no-routine r m refusal e = rw (refused-by bs refusal x is e) refl
 
-  pub decided : (r : List ℕ) (m : Room) (h : Header) (k : Counts) → x ≡ Checked.Accepted h k → (j : Judged) → Claims bs r h k m j → j ≡ judgement bs r m
+  pub decided : (r : List ℕ) (m : Room) (h : Header) (k : Counts) → x ≡ Checked.Accepted h k
+      → (j : Judged) → j ≡ byOpening bs r m h (commandsIn bs) k (opened r h k .lead) (opened r h k .verdict) → j ≡ judgement bs r m
   unfolding judgement
-  decided r m h k e j c = let y = accepted bs h k x is e in rw (y .decodes) (c .tells (y .arm) (y .decodes))
+  decided r m h k e j by = let y = accepted bs h k x is e in rw (y .decodes, ← commands-are bs h (y .arm) k (y .decodes)) by

@@ -1,4 +1,4 @@
-use Rattle.comparing.proofs.Paired.{no-pair, paired}
+use Rattle.comparing.proofs.Paired.{no-pair, fits-leads, paired}
 use borrow.Author.Needs.{needs}
 use Rattle.comparing.proofs.alike.Statement.{statement}
 use Rattle.comparing.proofs.alike.Tie as tie
@@ -9,6 +9,9 @@ returns c = no-pair _ _ (c .before .before .before .check .ensures) _ _ _ (c .be
 returns-2 : tie.Need-returns-2
 returns-2 c = paired _ _ (c .before .before .before .before .check .ensures) _ _ _ _ (c .before .before .header .given .1) _ (c .compare .ensures)
 
+compare-requires : tie.Need-compare-requires
+compare-requires c κs = fits-leads _ _ (c .before .before .before .check .ensures) _ _ (c .before .header .given .1)
+
 pub alike-spec : {M : Type 1} → statement M
 alike-spec =
     tie.close
@@ -16,6 +19,6 @@ alike-spec =
     (λ c κs. search needs)
     (λ c. search needs)
     (λ c. search needs)
-    (λ c κs. search needs)
+    compare-requires
     returns
     returns-2)

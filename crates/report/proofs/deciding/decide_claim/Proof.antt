@@ -1,35 +1,32 @@
-use Rattle.report.proofs.Decided.{claim-refused, claim-proved, claim-long, claim-short}
 use borrow.Author.Needs.{needs}
+use Rattle.report_witness.proofs.Reading.{fits}
+use Rattle.report.proofs.Decided.{claim-refused, claim-decided, claim-lets}
 use Rattle.report.proofs.deciding.decide_claim.Statement.{statement}
 use Rattle.report.proofs.deciding.decide_claim.Tie as tie
 
-prove-requires : tie.Need-prove-requires
-prove-requires c κs =
-    let a = c .before .before .before .before .before .before .before .before .before .before .before .before .args in
-    let p = c .before .before .before .before .before .before .before .before .before .before .before .before .pre in
-    let w = c .before .before .before .before .before .before .run-witness in (
-      p .0,
-      claim-long (a .routine .now) (a .report .now) (a .h) (a .k) (w .result) (w .ensures) _ _ _ (c .before .before .before .before .target .given .1) (p .0),
-      claim-short (a .routine .now) (a .report .now) (a .h) (a .k) (w .result) (w .ensures) _ _ _ (c .before .before .before .before .target .given .1) (p .0),
-      p .1,
-      p .2,
-    )
+open-requires : tie.Need-open-requires
+open-requires c κs = fits _ _ _ (c .before .before .before .before .before .pre .0)
+
+decide-lead-requires : tie.Need-decide-lead-requires
+decide-lead-requires c κs =
+    let s = c .before .before .before .before .before .before .before .before .before .before .before .before in
+    let l = claim-lets (s .args .report .now) (s .args .h) (s .args .k) _ (c .before .before .before .before .before .before .«open» .ensures) (c .before .before .before .enum-told .given .1) in
+    (s .pre .0, l .long, l .short, s .pre .1, s .pre .2)
 
 returns : tie.Need-returns
-returns c = claim-refused _ _ _ _ _ _ (c .before .before .before .run-witness .ensures) _ (c .before .refusal .given .1)
+returns c = claim-refused _ _ _ _ _ _ (c .before .before .before .before .«open» .ensures) _ (c .before .verdict .given .1)
 
 returns-2 : tie.Need-returns-2
-returns-2 c = claim-proved _ _ _ _ _ _ (c .before .before .before .before .before .before .before .before .before .before .before .before .before .before .run-witness .ensures) _ _ _ (c .before .before .before .before .before .before .before .before .before .before .before .before .target .given .1) _ (c .before .before .before .before .before .before .before .prove .ensures) _ (c .by-proof .ensures)
+returns-2 c = claim-decided _ _ _ _ _ _ (c .before .before .before .before .before .before .before .before .before .before .before .before .before .«open» .ensures) (c .before .before .before .before .before .before .before .before .before .before .enum-told .given .1) _ (c .before .before .before .before .before .before .decide-lead .ensures)
 
 pub decide-claim-spec : {M : Type 1} → statement M
 decide-claim-spec =
     tie.close
     (tie.spec
-    (λ c κs. search needs)
+    open-requires
     (λ c. search needs)
     (λ c. search needs)
-    prove-requires
-    (λ c κs. search needs)
+    decide-lead-requires
     returns
     (λ c. search needs)
     (λ c. search needs)
