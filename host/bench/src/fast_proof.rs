@@ -13,6 +13,11 @@ const OUT_OF_PLACE: u8 = 23;
 const TRAILING: u8 = 24;
 const FULL: u8 = 25;
 
+/// Fewer words than these lie in the caches.
+const MANY_WORDS: usize = 4_194_304;
+/// Hints that are looked at beforehand.
+const AHEAD: usize = 32;
+
 enum Command {
     Literal(u32),
     Hint(u32),
@@ -40,7 +45,11 @@ pub fn check(
     let (mut steps, mut hints) = (0, 0);
     let mut decided = Vec::new();
     let mut at = from;
+    let mut ahead = from;
     loop {
+        if words.len() >= MANY_WORDS && ahead <= at {
+            ahead = look_ahead(report, at, words, &starts[..stored.clauses]);
+        }
         let used = stored.words;
         let literals = read_literals(report, &mut at, used, words, marks)?;
         let clauses = Clauses {
@@ -63,6 +72,29 @@ pub fn check(
             return expect_end(report, at).map(|()| (steps, hints));
         }
     }
+}
+
+/// Has the clauses of the next hints fetched all at once, since each of them has
+/// to be waited for otherwise; hands back the offset as far as it looked.
+#[inline(never)]
+fn look_ahead(report: &[u8], mut at: usize, words: &[u32], starts: &[u32]) -> usize {
+    let mut cited = [0; AHEAD];
+    let mut count = 0;
+    while count < AHEAD {
+        match read(report, at) {
+            Ok(Command::Hint(number)) => {
+                cited[count] = starts.get(number as usize).copied().unwrap_or(0);
+                count += 1;
+                at += 5;
+            }
+            Ok(Command::Literal(_)) => at += 5,
+            Ok(Command::Close) => at += 1,
+            Ok(Command::End) | Err(_) => break,
+        }
+    }
+    let words = cited[..count].iter().map(|&start| words[start as usize]);
+    std::hint::black_box(words.fold(0, |sum, word| sum ^ word));
+    at
 }
 
 /// The mark of a variable where this literal is false: 1 where the variable is
@@ -163,9 +195,25 @@ fn follow_hints(
 }
 
 /// The one distinct literal that is not false, or 0 where all are; none where
-/// there are several.
+/// there are several. How many are not false and the last of them tell it, but
+/// for doubled literals; no jump depends on which are.
 #[inline]
 fn scan(clause: &[u32], marks: &[u8]) -> Option<u32> {
+    let (mut left, mut found) = (0, 0);
+    for &literal in clause {
+        let is_left = marks[literal as usize / 2] != false_mark(literal);
+        left += u32::from(is_left);
+        found = if is_left { literal } else { found };
+    }
+    if left < 2 {
+        Some(found)
+    } else {
+        compare(clause, marks)
+    }
+}
+
+/// The same, where several literals are not false.
+fn compare(clause: &[u32], marks: &[u8]) -> Option<u32> {
     let mut found = 0;
     for &literal in clause {
         if marks[literal as usize / 2] != false_mark(literal) {

@@ -30,7 +30,22 @@ pub fn negative(rounds: usize) -> Vec<u8> {
     routines.find(below).expect("about every second one is")
 }
 
+/// So many rounds, and an index beside them that is always below.
+pub fn beside(rounds: usize) -> Vec<u8> {
+    let mut bytes = rounded(rounds, 1);
+    bytes.extend([0x01, FACTOR, 0, 0, 0, 0x80]);
+    bytes.extend([0x0A, 0, FACTOR, ASIDE, 0x00]);
+    bytes
+}
+
 fn routine(rounds: usize, seed: u32) -> Vec<u8> {
+    let mut bytes = rounded(rounds, seed);
+    bytes.extend([0x0A, 0, NUMBER, ASIDE, 0x00]);
+    bytes
+}
+
+/// A routine as far as its access.
+fn rounded(rounds: usize, seed: u32) -> Vec<u8> {
     // Four variables of 32 bits, no parameters, one array of 4,096.
     let mut bytes = vec![1, 4, 32, 32, 32, 32, 0, 1, 0x00, 0x10];
     bytes.extend([0x03, ASIDE, ASIDE, ASIDE]);
@@ -46,6 +61,5 @@ fn routine(rounds: usize, seed: u32) -> Vec<u8> {
         bytes.extend([0x05, NUMBER, NUMBER, FACTOR]);
         bytes.extend([0x03, NUMBER, NUMBER, SUMMAND]);
     }
-    bytes.extend([0x0A, 0, NUMBER, ASIDE, 0x00]);
     bytes
 }

@@ -1,7 +1,7 @@
-//! A report of any number of short steps, over few clauses: what it takes grows
-//! with the steps and with nothing else.
+//! Reports of any number of short steps: over few clauses, so that what it takes
+//! grows with the steps and with nothing else, and over very many.
 
-use crate::generator::{negative, ASIDE_VARIABLES};
+use crate::generator::{beside, negative, ASIDE_VARIABLES};
 use crate::settled::{settle, Settled};
 use differential::proof_draft::{Command, Refutation};
 use differential::rng::Rng;
@@ -17,6 +17,36 @@ pub fn report(seed: u64, steps: usize) -> (Vec<u8>, Refutation) {
     let routine = negative(0);
     let settled = settle(&routine);
     let commands = commands(&settled, &mut Rng::for_case(seed, 1), steps);
+    let refutation = Refutation {
+        clauses: settled.clauses,
+        variables: settled.variables,
+        commands,
+        lead: vec![0, 0],
+    };
+    (routine, refutation)
+}
+
+/// So many steps over the clauses of so many rounds: each is one of these
+/// clauses, drawn from all, and cites it. What it takes is waiting for memory.
+pub fn scattered(seed: u64, rounds: usize, steps: usize) -> (Vec<u8>, Refutation) {
+    let routine = beside(rounds);
+    let settled = settle(&routine);
+    let mut rng = Rng::for_case(seed, 2);
+    let mut commands = Vec::new();
+    for _ in 1..steps {
+        let (number, clause) = loop {
+            let number = rng.below(settled.clauses.len());
+            let clause = &settled.clauses[number];
+            let variables: BTreeSet<u32> = clause.iter().map(|literal| literal / 2).collect();
+            if variables.len() == clause.len() {
+                break (number as u32, clause);
+            }
+        };
+        commands.extend(clause.iter().map(|&literal| Command::Literal(literal)));
+        commands.extend([Command::Hint(number), Command::Close]);
+    }
+    commands.extend([Command::Hint(0), Command::Hint(settled.conflict)]);
+    commands.extend([Command::Close, Command::End]);
     let refutation = Refutation {
         clauses: settled.clauses,
         variables: settled.variables,

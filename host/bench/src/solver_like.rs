@@ -2,9 +2,10 @@
 //! literals, and its steps have long chains of hints.
 //!
 //! Every gate gets a clause: its true literal, and false literals of gates that
-//! nothing depends on, more and more of them as the proof goes on. A step cites
-//! the gates' own clauses for some of the gates before, and the clauses of
-//! earlier steps for what those are made of.
+//! nothing depends on, more and more of them as the proof goes on, in any order,
+//! so that which of them is not false cannot be foretold. A step cites the
+//! gates' own clauses for some of the gates before, and the clauses of earlier
+//! steps for what those are made of.
 
 use crate::generator::{negative, ASIDE_VARIABLES};
 use crate::settled::{settle, Settled};
@@ -64,11 +65,10 @@ impl<'a> Draft<'a> {
     fn step(&mut self, variable: u32) {
         let settled = self.settled;
         let span = (EXTRA.1 - EXTRA.0) * variable as usize / settled.variables as usize;
-        let extra = self.extra[..EXTRA.0 + span].iter();
-        self.commands
-            .push(Command::Literal(settled.literals[variable as usize]));
-        self.commands
-            .extend(extra.map(|&literal| Command::Literal(literal)));
+        let mut clause = self.extra[..EXTRA.0 + span].to_vec();
+        clause.push(settled.literals[variable as usize]);
+        self.rng.shuffle(&mut clause);
+        self.commands.extend(clause.into_iter().map(Command::Literal));
         let (inner, outer) = self.chain(variable);
         let cited = outer.iter().map(|&outer| self.numbers[outer as usize]);
         self.commands.extend(cited.map(Command::Hint));

@@ -10,6 +10,10 @@ use examples::long_report::{bytes, long_report};
 use oracle::Room;
 use pellet::ANSWER_LEN;
 
+/// Rounds whose translation is almost as long as a buffer may be.
+const SCATTERED_ROUNDS: usize = 250;
+const SCATTERED_STEPS: usize = 100_001;
+
 pub struct Judging {
     routine: Vec<u8>,
     report: Vec<u8>,
@@ -96,6 +100,8 @@ pub fn measure() {
     Judging::new(routine, &report).measure("judge the long report", 80);
     let (routine, report) = solver_like::report(1);
     Judging::new(routine, &report).measure("judge a solver-like report", 80);
+    let (routine, report) = short_steps::scattered(1, SCATTERED_ROUNDS, SCATTERED_STEPS);
+    Judging::new(routine, &report).measure("judge short steps over many clauses", 10);
 }
 
 /// Reports of so many short steps, for the cost of a step.

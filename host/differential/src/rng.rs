@@ -36,6 +36,13 @@ impl Rng {
         self.below(100) < percent
     }
 
+    /// Puts the entries into any order.
+    pub fn shuffle<T>(&mut self, entries: &mut [T]) {
+        for last in (1..entries.len()).rev() {
+            entries.swap(last, self.below(last + 1));
+        }
+    }
+
     pub fn pick<T: Copy>(&mut self, from: &[T]) -> T {
         from[self.below(from.len())]
     }
