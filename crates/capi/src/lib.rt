@@ -69,18 +69,18 @@ pub extern "C" fn pellet_prove(
     from: usize,
     clauses: u32,
     variables: u32,
-    words: &mut [u32],
+    words: &[u32],
     starts: &mut [u32],
     marks: &mut [u8],
     answer: &mut [u64],
 ) -> u8
-    ensures { λ r. ⌜ Leaves (proveLeaves (now (report .entry)) from clauses variables (now (words .entry)) (now (starts .entry)) (now (marks .entry)) (now (answer .entry))) (now (words .exit) ∷ now (starts .exit) ∷ now (marks .exit) ∷ []) (now (answer .exit)) r ⌝ }
+    ensures { λ r. ⌜ Leaves (proveLeaves (now (report .entry)) from clauses variables (now (words .entry)) (now (starts .entry)) (now (marks .entry)) (now (answer .entry))) (now (starts .exit) ∷ now (marks .exit) ∷ []) (now (answer .exit)) r ⌝ }
 {
     if answer.len() < ANSWER_ENTRIES {
         return 255;
     }
     fill_prove(
-        checker::check(report, from, clauses, variables, words, starts, marks),
+        proof::prove(report, from, clauses, variables, words, starts, marks),
         answer,
     )
 }

@@ -14,8 +14,8 @@ use Rattle.run.specs.declared.Ran.{Ran}
 use Rattle.lead.specs.Lead.{targetOf}
 use Rattle.translation.specs.Answer.{TranslationAnswer, TranslationAnswers}
 use Rattle.translation.specs.declared.Translated.{Translated}
-use Rattle.checker.specs.Checking.{Checking, Checks}
-use Rattle.checker.specs.declared.Checked.{Checked}
+use Rattle.proof.specs.Checking.{Checking, Checks}
+use Rattle.proof.specs.declared.Checked.{Checked}
 use Rattle.report.specs.Zeroed.{Judges}
 use Rattle.judgement.specs.declared.Judged.{Judged}
 use Rattle.capi_answer.specs.Entry.{answerEntries}
@@ -60,12 +60,12 @@ unfolding translateLeaves
 translate-leaves bs access side ds words starts ans words₁ starts₁ ans₁ r f x e =
     subst (λ (y : TranslationAnswer). Leaves (translatedLeft words starts ans y) (words₁ ∷ starts₁ ∷ []) ans₁ r) (x .equal) (filled _ _ ans _ ans₁ r f e)
 
-pub prove-leaves : (r : List ℕ) (from clauses variables : ℕ) (words starts marks ans words₁ starts₁ marks₁ ans₁ : List ℕ) (code : ℕ) {c : Checked}
-    → Fills (proveFills c ans) ans₁ code → Checks words starts marks r from clauses variables words₁ starts₁ marks₁ c → Long ans
-    → Leaves (proveLeaves r from clauses variables words starts marks ans) (words₁ ∷ starts₁ ∷ marks₁ ∷ []) ans₁ code
+pub prove-leaves : (r : List ℕ) (from clauses variables : ℕ) (words starts marks ans starts₁ marks₁ ans₁ : List ℕ) (code : ℕ) {c : Checked}
+    → Fills (proveFills c ans) ans₁ code → Checks words starts marks r from clauses variables starts₁ marks₁ c → Long ans
+    → Leaves (proveLeaves r from clauses variables words starts marks ans) (starts₁ ∷ marks₁ ∷ []) ans₁ code
 unfolding proveLeaves
-prove-leaves r from clauses variables words starts marks ans words₁ starts₁ marks₁ ans₁ code f x e =
-    subst (λ (y : Checking). Leaves (provedLeft words starts marks ans y) (words₁ ∷ starts₁ ∷ marks₁ ∷ []) ans₁ code) (x .equal) (filled _ _ ans _ ans₁ code f e)
+prove-leaves r from clauses variables words starts marks ans starts₁ marks₁ ans₁ code f x e =
+    subst (λ (y : Checking). Leaves (provedLeft starts marks ans y) (starts₁ ∷ marks₁ ∷ []) ans₁ code) (x .equal) (filled _ _ ans _ ans₁ code f e)
 
 module _ (bs r words starts marks values trail ans words₁ starts₁ marks₁ values₁ trail₁ : List ℕ) {j : Judged} where
   pub judge-short : Judges bs r words starts marks values trail words₁ starts₁ marks₁ values₁ trail₁ j → Short ans

@@ -6,8 +6,8 @@ use native.Mathlib.Omega.{arith}
 use Rattle.routine_faults.specs.declared.Fault.{Fault}
 use Rattle.routine.specs.declared.Refusal as routine
 use Rattle.lead.specs.declared.Refusal as lead
-use Rattle.witness.specs.declared.Refusal as witness
-use Rattle.step.specs.declared.Refusal as proof
+use Rattle.report_witness.specs.declared.Refusal as witness
+use Rattle.proof_check.specs.declared.Refusal as proof
 use Rattle.proving.specs.declared.Refusal as report
 use Rattle.refusals.specs.Table.{numberOfFault, routineRow, leadRow, witnessRow, proofRow, reportRow}
 use Rattle.judgement.specs.Demand.{Demand3}

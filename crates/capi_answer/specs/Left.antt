@@ -11,9 +11,10 @@ use Rattle.routine.specs.Decode.{checked}
 use Rattle.run.specs.Answer.{RunAnswer, runAnswer}
 use Rattle.lead.specs.Lead.{targetOf}
 use Rattle.translation.specs.Answer.{TranslationAnswer, translationAnswer}
-use Rattle.checker.specs.Checking.{Checking, checking}
+use Rattle.proof.specs.Checking.{Checking, checking}
 use Rattle.judgement.specs.Judging.{judgement}
-use Rattle.report.specs.Zeroed.{zeroed, roomIn}
+use Rattle.slices.specs.Lent.{zeroed}
+use Rattle.report.specs.Zeroed.{roomIn}
 use Rattle.judgement.specs.Demand.{Found}
 use Rattle.comparing.specs.Alike.{alike}
 use Rattle.judgement.specs.declared.Finding.{Finding}
@@ -57,14 +58,13 @@ translatedLeft words starts ans x = unlessShort (words ∷ starts ∷ []) ans (x
 unfoldable pub translateLeaves : (bs : List ℕ) → (access side : ℕ) → (ds words starts ans : List ℕ) → Left
 translateLeaves bs access side ds words starts ans = translatedLeft words starts ans (translationAnswer bs (targetOf access side) ds words starts)
 
--- the answer of a proof's check
-abbrev pub provedLeft : (words starts marks ans : List ℕ) → Checking → Left
-provedLeft words starts marks ans x =
-    unlessShort (words ∷ starts ∷ marks ∷ []) ans (x .words ∷ x .starts ∷ x .marks ∷ []) (proveFills (x .checked) ans)
+-- the answer of a proof's check, whose words are only read
+abbrev pub provedLeft : (starts marks ans : List ℕ) → Checking → Left
+provedLeft starts marks ans x = unlessShort (starts ∷ marks ∷ []) ans (x .starts ∷ x .marks ∷ []) (proveFills (x .checked) ans)
 
 -- `pellet_prove`
 unfoldable pub proveLeaves : (r : List ℕ) → (from clauses variables : ℕ) → (words starts marks ans : List ℕ) → Left
-proveLeaves r from clauses variables words starts marks ans = provedLeft words starts marks ans (checking words starts marks r from clauses variables)
+proveLeaves r from clauses variables words starts marks ans = provedLeft starts marks ans (checking words starts marks r from clauses variables)
 
 -- `pellet_judge`: the buffers are zeroed on every return, 255 too
 unfoldable pub judgeLeaves : (bs r words starts marks values trail ans : List ℕ) → Left

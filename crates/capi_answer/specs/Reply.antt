@@ -6,7 +6,7 @@ use lib.Seq.{sets}
 use Rattle.routine.specs.declared.Checked.{Checked}
 use Rattle.run.specs.declared.Ran.{Ran}
 use Rattle.translation.specs.declared.Translated.{Translated}
-use Rattle.checker.specs.declared.Checked as proof
+use Rattle.proof.specs.declared.Checked as proof
 use Rattle.judgement.specs.declared.Judged.{Judged}
 use Rattle.comparing.specs.declared.Compared.{Compared}
 use Rattle.refusals.specs.Table.{routineRow, runRow, translationRow, proofRow, witnessRow, reportRow}

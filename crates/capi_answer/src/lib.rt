@@ -88,17 +88,17 @@ pub fn fill_translate(translated: Translated, answer: &mut [u64]) -> u8
 }
 
 // What checking a proof answered.
-pub fn fill_prove(checked: checker::Checked, answer: &mut [u64]) -> u8
+pub fn fill_prove(checked: proof::Checked, answer: &mut [u64]) -> u8
     requires { ⌜ answerEntries ≤ length (now answer) ⌝ }
     ensures { λ r. ⌜ Fills (proveFills checked (now (answer .entry))) (now (answer .exit)) r ⌝ }
 {
     match checked {
-        checker::Checked::Accepted { steps, hints } => {
+        proof::Checked::Accepted { steps, hints } => {
             fill_proof(steps, hints, answer);
             0
         }
-        checker::Checked::Refused(refusal) => fill_refused(row_of_proof(refusal), answer),
-        checker::Checked::Unfit => 254,
+        proof::Checked::Refused(refusal) => fill_refused(row_of_proof(refusal), answer),
+        proof::Checked::Unfit => 254,
     }
 }
 

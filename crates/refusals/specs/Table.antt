@@ -6,8 +6,8 @@ use Rattle.routine.specs.declared.Refusal as routine
 use Rattle.run.specs.declared.Refusal as run
 use Rattle.lead.specs.declared.Refusal as lead
 use Rattle.translation.specs.declared.Refusal as translation
-use Rattle.witness.specs.declared.Refusal as witness
-use Rattle.step.specs.declared.Refusal as proof
+use Rattle.report_witness.specs.declared.Refusal as witness
+use Rattle.proof_check.specs.declared.Refusal as proof
 use Rattle.proving.specs.declared.Refusal as report
 use Rattle.refusals.specs.declared.Row.{Row}
 

@@ -79,33 +79,33 @@ pub fn row_of_translation(refusal: translation::Refusal) -> Row
 }
 
 // Refusals of a report as far as its proof.
-pub fn row_of_witness(refusal: witness::Refusal) -> Row
+pub fn row_of_witness(refusal: report_witness::Refusal) -> Row
     ensures { λ r. ⌜ r ≡ witnessRow refusal ⌝ }
 {
     match refusal {
-        witness::Refusal::Lead(inner) => row_of_lead(inner),
-        witness::Refusal::Cut(length) => Row::of(11, length),
-        witness::Refusal::Input(number) => Row::of(10, number),
-        witness::Refusal::Astray(number) => Row::of(13, number as usize),
-        witness::Refusal::Missed(access) => Row::of(14, access as usize),
-        witness::Refusal::OffSide(access) => Row::of(15, access as usize),
+        report_witness::Refusal::Lead(inner) => row_of_lead(inner),
+        report_witness::Refusal::Cut(length) => Row::of(11, length),
+        report_witness::Refusal::Input(number) => Row::of(10, number),
+        report_witness::Refusal::Astray(number) => Row::of(13, number as usize),
+        report_witness::Refusal::Missed(access) => Row::of(14, access as usize),
+        report_witness::Refusal::OffSide(access) => Row::of(15, access as usize),
     }
 }
 
 // Refusals of a proof.
-pub fn row_of_proof(refusal: step::Refusal) -> Row
+pub fn row_of_proof(refusal: proof_check::Refusal) -> Row
     ensures { λ r. ⌜ r ≡ proofRow refusal ⌝ }
 {
     match refusal {
-        step::Refusal::Unreadable(at) => Row::of(17, at),
-        step::Refusal::Literal(at) => Row::of(18, at),
-        step::Refusal::NoClause(at) => Row::of(19, at),
-        step::Refusal::Neither(at) => Row::of(20, at),
-        step::Refusal::NoConflict(at) => Row::of(21, at),
-        step::Refusal::AfterConflict(at) => Row::of(22, at),
-        step::Refusal::OutOfPlace(at) => Row::of(23, at),
-        step::Refusal::Trailing(after) => Row::of(24, after),
-        step::Refusal::Full(at) => Row::of(25, at),
+        proof_check::Refusal::Unreadable(at) => Row::of(17, at),
+        proof_check::Refusal::Literal(at) => Row::of(18, at),
+        proof_check::Refusal::NoClause(at) => Row::of(19, at),
+        proof_check::Refusal::Neither(at) => Row::of(20, at),
+        proof_check::Refusal::NoConflict(at) => Row::of(21, at),
+        proof_check::Refusal::AfterConflict(at) => Row::of(22, at),
+        proof_check::Refusal::OutOfPlace(at) => Row::of(23, at),
+        proof_check::Refusal::Trailing(after) => Row::of(24, after),
+        proof_check::Refusal::Full(at) => Row::of(25, at),
     }
 }
 
