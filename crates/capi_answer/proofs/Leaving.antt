@@ -7,8 +7,8 @@ use lib.ListN.{length}
 use lib.Dec.{ltb}
 use Rattle.routine.specs.Decode.{checked}
 use Rattle.routine.specs.declared.Checked as routine
-use Rattle.comparing.specs.Alike.{alike}
-use Rattle.comparing.specs.declared.Compared.{Compared}
+use Rattle.report.specs.Alike.{alike}
+use Rattle.report.specs.declared.Compared.{Compared}
 use Rattle.run.specs.Answer.{RunAnswer, RunAnswers}
 use Rattle.run.specs.declared.Ran.{Ran}
 use Rattle.lead.specs.Lead.{targetOf}
@@ -17,7 +17,7 @@ use Rattle.translation.specs.declared.Translated.{Translated}
 use Rattle.proof.specs.Checking.{Checking, Checks}
 use Rattle.proof.specs.declared.Checked.{Checked}
 use Rattle.report.specs.Zeroed.{Judges}
-use Rattle.judgement.specs.declared.Judged.{Judged}
+use Rattle.report_judgement.specs.declared.Judged.{Judged}
 use Rattle.capi_answer.specs.Entry.{answerEntries}
 use Rattle.capi_answer.specs.Reply.{Reply, Fills, alikeFills, checkFills, runFills, translateFills, proveFills, judgeFills}
 use Rattle.capi_answer.specs.Left.{Leaves, unlessShort, checkLeaves, alikeLeaves, ranLeft, runLeaves, translatedLeft, translateLeaves, provedLeft, proveLeaves, judgeLeaves}

@@ -8,10 +8,10 @@ use Rattle.routine.specs.declared.Refusal as routine
 use Rattle.lead.specs.declared.Refusal as lead
 use Rattle.report_witness.specs.declared.Refusal as witness
 use Rattle.proof_check.specs.declared.Refusal as proof
-use Rattle.proving.specs.declared.Refusal as report
+use Rattle.report_judgement.specs.declared.Refusal as report
 use Rattle.refusals.specs.Table.{numberOfFault, routineRow, leadRow, witnessRow, proofRow, reportRow}
-use Rattle.judgement.specs.Demand.{Demand3}
-use Rattle.judgement.specs.declared.Judged.{Judged}
+use Rattle.report_judgement.specs.Demand.{Demand3}
+use Rattle.report_judgement.specs.declared.Judged.{Judged}
 use Rattle.capi_answer.specs.Reply.{Reply, Fills, judgeFills}
 use Rattle.capi_answer.specs.Left.{Finds}
 

@@ -10,7 +10,7 @@ use Rattle.routine_faults.specs.declared.Counts.{Counts}
 use Rattle.run_state.specs.Side.{sideNumber}
 use Rattle.run_state.specs.declared.Side.{Side}
 use Rattle.translation_meaning.specs.declared.Size.{Size}
-use Rattle.judgement.specs.declared.Finding.{Finding}
+use Rattle.report_judgement.specs.declared.Finding.{Finding}
 
 -- the entries that `answer` has at least; one with fewer is short
 abbrev pub answerEntries : ℕ

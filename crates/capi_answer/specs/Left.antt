@@ -12,12 +12,12 @@ use Rattle.run.specs.Answer.{RunAnswer, runAnswer}
 use Rattle.lead.specs.Lead.{targetOf}
 use Rattle.translation.specs.Answer.{TranslationAnswer, translationAnswer}
 use Rattle.proof.specs.Checking.{Checking, checking}
-use Rattle.judgement.specs.Judging.{judgement}
+use Rattle.report_judgement.specs.Judging.{judgement}
 use Rattle.slices.specs.Lent.{zeroed}
 use Rattle.report.specs.Zeroed.{roomIn}
-use Rattle.judgement.specs.Demand.{Found}
-use Rattle.comparing.specs.Alike.{alike}
-use Rattle.judgement.specs.declared.Finding.{Finding}
+use Rattle.report_judgement.specs.Demand.{Found}
+use Rattle.report.specs.Alike.{alike}
+use Rattle.report_judgement.specs.declared.Finding.{Finding}
 use Rattle.capi_answer.specs.Entry.{answerEntries, judgedOf}
 use Rattle.capi_answer.specs.Reply.{Reply, checkFills, runFills, translateFills, proveFills, judgeFills, alikeFills}
 

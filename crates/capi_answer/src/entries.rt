@@ -1,6 +1,6 @@
 // What is told in the lent `answer`: numbers as its entries, from the first on. Those that are not named are left alone.
 use bitvec::Whole;
-use judgement::Finding;
+use report_judgement::Finding;
 use routine_faults::Counts;
 use routine_faults::steps::accesses_of;
 use routine_header::Header;

@@ -7,8 +7,8 @@ use lib.ListN.{length, take}
 use lib.Seq.{length-take-le}
 use native.Mathlib.Omega.{arith}
 use Rattle.io.specs.Counts.{Counts}
-use Rattle.judgement.specs.Judging.{judgement}
-use Rattle.judgement.specs.declared.Judged.{Judged}
+use Rattle.report_judgement.specs.Judging.{judgement}
+use Rattle.report_judgement.specs.declared.Judged.{Judged}
 use Rattle.judge_line.specs.Text.{bytes}
 use Rattle.judge_line.specs.Line.{lineOf}
 use Rattle.judge_files.specs.Inner.Read.{Within, fileOf}

@@ -4,8 +4,8 @@ use mathlib.Core.List.{List}
 use mathlib.Core.Bool.{cond}
 use lib.ListN.{length}
 use lib.Dec.{ltb}
-use Rattle.proving.specs.Proving.{Room}
-use Rattle.judgement.specs.Judging.{judgement}
+use Rattle.report_judgement.specs.Proof.{Room}
+use Rattle.report_judgement.specs.Judging.{judgement}
 use Rattle.judge_line.specs.Text.{bytes}
 use Rattle.judge_line.specs.Line.{lineOf}
 use Rattle.judge_line.specs.Writes.{Writes}

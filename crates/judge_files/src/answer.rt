@@ -2,13 +2,13 @@
 use crate::reading::Reading;
 use judge_line::text::write_text;
 use judge_line::write_line;
-use judgement::Judged;
+use report_judgement::Judged;
 use report::judge;
 ghost use mathlib.Core.Path.{_≡_};
 ghost use Prim.Native.Nat.{_≤_};
 ghost use lib.ListN.{length};
 ghost use Rattle.io.specs.Counts.{Counts};
-ghost use Rattle.judgement.specs.Judging.{judgement};
+ghost use Rattle.report_judgement.specs.Judging.{judgement};
 ghost use Rattle.judge_line.specs.Writes.{Writes};
 ghost use Rattle.judge_files.specs.Inner.Read.{Within, fileOf};
 ghost use Rattle.judge_files.specs.Printed.{readable, lent, printed};

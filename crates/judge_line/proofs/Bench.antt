@@ -2,8 +2,8 @@
 use mathlib.Core.Path.{_≡_, refl}
 use Rattle.slices.specs.declared.Buffer.{Buffer}
 use Rattle.bitvec.specs.declared.Whole.{Whole}
-use Rattle.proving.specs.declared.Refusal.{Refusal}
-use Rattle.judgement.specs.declared.Judged.{Judged}
+use Rattle.report_judgement.specs.declared.Refusal.{Refusal}
+use Rattle.report_judgement.specs.declared.Judged.{Judged}
 use Rattle.judge_line.specs.Text.{bytes, decimalBy, decimal}
 use Rattle.judge_line.specs.Line.{sideWord, signed, claimed, shown, refused, lineOf}
 

@@ -4,9 +4,9 @@ use Prim.Native.String.{String}
 use mathlib.Core.List.{List, _++_}
 use Rattle.bitvec.specs.declared.Whole.{Whole}
 use Rattle.refusals.specs.Table.{reportRow}
-use Rattle.proving.specs.declared.Refusal.{Refusal}
-use Rattle.judgement.specs.declared.Finding.{Finding}
-use Rattle.judgement.specs.declared.Judged.{Judged}
+use Rattle.report_judgement.specs.declared.Refusal.{Refusal}
+use Rattle.report_judgement.specs.declared.Finding.{Finding}
+use Rattle.report_judgement.specs.declared.Judged.{Judged}
 use Rattle.judge_line.specs.Text.{bytes, decimal}
 
 -- a word and a number

@@ -3,7 +3,7 @@ use crate::decimal::write_decimal;
 use crate::decimal::write_named;
 use crate::text::write_text;
 use bitvec::Whole;
-use judgement::Finding;
+use report_judgement::Finding;
 ghost use Prim.Native.Nat.{_+_, _≤_};
 ghost use lib.ListN.{length};
 ghost use Rattle.judge_line.specs.Line.{sideWord, signed, claimed, shown};

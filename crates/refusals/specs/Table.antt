@@ -8,7 +8,7 @@ use Rattle.lead.specs.declared.Refusal as lead
 use Rattle.translation.specs.declared.Refusal as translation
 use Rattle.report_witness.specs.declared.Refusal as witness
 use Rattle.proof_check.specs.declared.Refusal as proof
-use Rattle.proving.specs.declared.Refusal as report
+use Rattle.report_judgement.specs.declared.Refusal as report
 use Rattle.refusals.specs.declared.Row.{Row}
 
 -- the row with a number and a place

@@ -110,12 +110,12 @@ pub fn row_of_proof(refusal: proof_check::Refusal) -> Row
 }
 
 // Refusals of a report.
-pub fn row_of_report(refusal: proving::Refusal) -> Row
+pub fn row_of_report(refusal: report_judgement::Refusal) -> Row
     ensures { λ r. ⌜ r ≡ reportRow refusal ⌝ }
 {
     match refusal {
-        proving::Refusal::Witness(inner) => row_of_witness(inner),
-        proving::Refusal::TooSmall(buffer) => Row::of(16, buffer_number(buffer)),
-        proving::Refusal::Proof(inner) => row_of_proof(inner),
+        report_judgement::Refusal::Witness(inner) => row_of_witness(inner),
+        report_judgement::Refusal::TooSmall(buffer) => Row::of(16, buffer_number(buffer)),
+        report_judgement::Refusal::Proof(inner) => row_of_proof(inner),
     }
 }

@@ -20,11 +20,11 @@ use Rattle.report_witness.specs.declared.Opened.{Opened}
 use Rattle.report_witness.specs.declared.Witness.{Witness}
 use Rattle.report_witness.proofs.Reading.{Lets, lets}
 use Rattle.translation_meaning.specs.Translation.{translationOf}
-use Rattle.proving.specs.Proving.{Room, provedBy}
-use Rattle.proving.specs.declared.Proved.{Proved}
-use Rattle.proving.specs.declared.Refusal.{Refusal}
-use Rattle.judgement.specs.Judging.{byProof, byWitness, byOpening, judgement}
-use Rattle.judgement.specs.declared.Judged.{Judged}
+use Rattle.report_judgement.specs.Proof.{Room, provedBy}
+use Rattle.report_judgement.specs.declared.Proved.{Proved}
+use Rattle.report_judgement.specs.declared.Refusal.{Refusal}
+use Rattle.report_judgement.specs.Judging.{byProof, byWitness, byOpening, judgement}
+use Rattle.report_judgement.specs.declared.Judged.{Judged}
 
 -- ---- what `check` of routine answered
 
@@ -40,10 +40,10 @@ module _ (bs r : List ℕ) (h : Header) (k : Counts) (m : Room) (l : Lead) (w : 
   lead-refused refusal e = ap (byWitness bs r m h (commandsIn bs) k l) (sym e ∙ said)
 
   pub lead-proved : (array : ℕ) (index : Whole) → w ≡ Witness.Stands array index
-      → (p : Proved) → p ≡ provedBy r (proofAt h k) m h k (translationOf bs (l .target) (decisionsOf l k) h (commandsIn bs))
+      → (p : Proved) (from : ℕ) → from ≡ proofAt h k → p ≡ provedBy r from 0 m h k (translationOf bs (l .target) (decisionsOf l k) h (commandsIn bs))
       → (j : Judged) → j ≡ byProof bs h (l .target) array index p → j ≡ byOpening bs r m h (commandsIn bs) k l Opening.Whole
-  lead-proved array index e p proves j is =
-      is ∙ ap (byProof bs h (l .target) array index) proves ∙ ap (byWitness bs r m h (commandsIn bs) k l) (sym e ∙ said)
+  lead-proved array index e p from at proves j is =
+      is ∙ ap (byProof bs h (l .target) array index) (proves ∙ ap (λ (n : ℕ). provedBy r n 0 m h k (translationOf bs (l .target) (decisionsOf l k) h (commandsIn bs))) at) ∙ ap (byWitness bs r m h (commandsIn bs) k l) (sym e ∙ said)
 
 -- ---- the lead, then the rest
 

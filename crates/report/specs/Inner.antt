@@ -1,2 +1,3 @@
 -- What inner functions ask and tell each other. No promise of a public call rests on it.
 pub mod Parts
+pub mod Translation

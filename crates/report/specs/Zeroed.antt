@@ -1,16 +1,11 @@
 -- What judging leaves in the lent buffers, on every return: zeros in the first 16,777,216 entries, and what lies beyond unchanged.
 use Prim.Native.Nat.{ℕ}
 use mathlib.Core.Path.{_≡_}
-use mathlib.Core.List.{List, _++_}
-use lib.ListN.{drop, replicate}
-use Rattle.slices.specs.Lent.{usable}
-use Rattle.proving.specs.Proving.{Room}
-use Rattle.judgement.specs.Judging.{judgement}
-use Rattle.judgement.specs.declared.Judged.{Judged}
-
--- a buffer, zeroed
-abbrev pub zeroed : List ℕ → List ℕ
-zeroed xs = replicate (usable xs) 0 ++ drop (usable xs) xs
+use mathlib.Core.List.{List}
+use Rattle.slices.specs.Lent.{usable, zeroed}
+use Rattle.report_judgement.specs.Proof.{Room}
+use Rattle.report_judgement.specs.Judging.{judgement}
+use Rattle.report_judgement.specs.declared.Judged.{Judged}
 
 -- what is lent and used
 abbrev pub roomIn : (words starts marks values trail : List ℕ) → Room

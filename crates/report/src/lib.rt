@@ -1,11 +1,23 @@
-// The judging of a whole report: the lead, the witness, the translation of its claim, and the proof.
-mod deciding;
-mod parts;
+// The calls on whole reports: judging one, and whether two are alike.
+mod checks;
+mod claim_proof;
+mod lent_parts;
+mod pairs;
 
-use judgement::Judged;
+use report_judgement::Judged;
+use report_witness::Refusal;
+use routine::Checked;
 use slices::usable;
-ghost use Rattle.judgement.specs.Demand.{Demand3};
+ghost use mathlib.Core.Path.{_≡_};
+ghost use Rattle.report_judgement.specs.Demand.{Demand3};
 ghost use Rattle.report.specs.Zeroed.{Judges};
+ghost use Rattle.report.specs.Alike.{alike};
+
+// Whether two reports are alike.
+pub enum Compared {
+    Alike(bool),
+    Refused(Refusal),
+}
 
 // Judges a report on a routine. If it is accepted, every run that goes the report's way and comes to the named access stops there, its index outside the array, on
 // the side named. On every return the first 16,777,216 entries of each buffer are 0, and what lies beyond is unchanged.
@@ -26,7 +38,7 @@ pub fn judge(
     let m = usable(marks.len());
     let v = usable(values.len());
     let t = usable(trail.len());
-    parts::judge_parts(
+    lent_parts::judge_parts(
         routine,
         report,
         &mut words[..w],
@@ -35,4 +47,16 @@ pub fn judge(
         &mut values[..v],
         &mut trail[..t],
     )
+}
+
+// Whether two reports name the same access and the same side.
+pub fn alike(routine: &[u8], first: &[u8], second: &[u8]) -> Compared
+    ensures { λ r. ⌜ r ≡ alike (now (routine .entry)) (now (first .entry)) (now (second .entry)) ⌝ }
+{
+    match routine::check(routine) {
+        Checked::Refused(refusal) => Compared::Refused(Refusal::Lead(lead::Refusal::Routine(
+            refusal,
+        ))),
+        Checked::Accepted { header, counts } => pairs::compare(first, second, header, counts),
+    }
 }

@@ -1,5 +1,5 @@
 use Rattle.slices.proofs.Used.{used-length, used-short}
-use Rattle.judgement.proofs.Demanded.{demand}
+use Rattle.report_judgement.proofs.Demanded.{demand}
 use Rattle.report.proofs.Zeroes.{judged-over}
 use borrow.Author.Needs.{needs}
 use Rattle.report.proofs.judge.Statement.{statement}

@@ -3,9 +3,14 @@ use mathlib.Core.Path.{_≡_}
 use Prim.Native.Nat.{ℕ}
 use mathlib.Core.List.{List}
 use lib.ListN.{length, replicate}
-use Rattle.proving.specs.Inner.Parts.{roomOf}
-use Rattle.judgement.specs.Judging.{judgement}
-use Rattle.judgement.specs.declared.Judged.{Judged}
+use Rattle.report_judgement.specs.Proof.{Room}
+use Rattle.report_judgement.specs.Judging.{judgement}
+use Rattle.report_judgement.specs.declared.Judged.{Judged}
+
+-- what is lent
+abbrev pub roomOf : (words starts marks : List ℕ) → (values trail : ℕ) → Room
+roomOf words starts marks values trail =
+    record { words = length words; starts = length starts; marks = length marks; values = values; trail = trail }
 
 -- the answer is j, and each buffer, named with ₁, is zeroed
 pub record JudgesParts (bs r words starts marks values trail words₁ starts₁ marks₁ values₁ trail₁ : List ℕ) (j : Judged) : Type 0 where

@@ -1,0 +1,3 @@
+pub mod Proof
+pub mod Judging
+pub mod Demand
