@@ -182,15 +182,19 @@ uint8_t pellet_translate(const uint8_t *routine, size_t routine_len,
  *   answer[0]  number of steps closed
  *   answer[1]  number of hints read
  *
- * On 0 and on a refusal `words` and `starts` hold the given clauses and behind
- * them those of the steps closed; where a step was open, its literals stand in
- * `words` behind one entry left for their count, and its marks are set (1 true,
- * 2 false). All other marks up to marks[variables] are 0. What lies beyond is
- * left alone.
+ * The clause of a step stays where it stands in the report. 25 counts the words
+ * that it would take in `words` behind the clauses before it: one for the count
+ * of its literals and one for each literal.
+ *
+ * `starts` and `marks` are worked in. On 0 and on a refusal their first
+ * 16,777,216 entries are zeros, as far as they have so many, and what lies
+ * beyond is left alone.
+ *
+ * `report` and `words` are only read.
  */
 uint8_t pellet_prove(const uint8_t *report, size_t report_len, size_t from,
                      uint32_t clauses, uint32_t variables,
-                     uint32_t *words, size_t words_len,
+                     const uint32_t *words, size_t words_len,
                      uint32_t *starts, size_t starts_len,
                      uint8_t *marks, size_t marks_len,
                      uint64_t *answer, size_t answer_len);

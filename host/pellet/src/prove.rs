@@ -8,7 +8,7 @@ mod ffi {
             from: usize,
             clauses: u32,
             variables: u32,
-            words: *mut u32,
+            words: *const u32,
             words_len: usize,
             starts: *mut u32,
             starts_len: usize,
@@ -27,16 +27,15 @@ pub const NOT_STANDING: u8 = 254;
 /// Checks the proof that begins at the offset `from` of a report, against the
 /// first `clauses` clauses in `words` and `starts`, over the variables 1 to
 /// `variables`. On 0, `answer` begins with the numbers of steps and hints. On 0
-/// and on a refusal the clauses closed stand behind the given ones, the
-/// literals of an open step behind those and a word kept for their count, and
-/// `marks` holds for each variable 0, 1 where it is true or 2 where it is false.
+/// and on a refusal the first 16,777,216 entries of `starts` and `marks` are
+/// zeros.
 #[allow(clippy::too_many_arguments)] // They are those of C.
 pub fn prove(
     report: &[u8],
     from: usize,
     clauses: u32,
     variables: u32,
-    words: &mut [u32],
+    words: &[u32],
     starts: &mut [u32],
     marks: &mut [u8],
     answer: &mut [u64],
@@ -49,7 +48,7 @@ pub fn prove(
             from,
             clauses,
             variables,
-            words.as_mut_ptr(),
+            words.as_ptr(),
             words.len(),
             starts.as_mut_ptr(),
             starts.len(),
