@@ -1,6 +1,7 @@
 //! A lent buffer: a part of a larger one, with guard entries on both sides.
 
 use crate::rng::{Noise, Rng};
+use oracle::MAX_ENTRIES;
 
 const MAX_GUARD: usize = 8;
 /// The most differences that are named; a buffer can have millions.
@@ -53,6 +54,18 @@ impl<T: Noise> Lent<T> {
     /// Writes to the first entries of the lent part.
     pub fn fill(&mut self, first: &[T]) {
         self.slice_mut()[..first.len()].copy_from_slice(first);
+    }
+
+    /// The buffer after a call that zeroes it: zeros as far as buffers are used,
+    /// and the rest as it was.
+    pub fn zeroed(&self) -> Self
+    where
+        T: Default,
+    {
+        let mut zeroed = self.clone();
+        let used = self.len.min(MAX_ENTRIES);
+        zeroed.slice_mut()[..used].fill(T::default());
+        zeroed
     }
 
     /// Names the first entries, guards included, in which `got` differs. Entry 0

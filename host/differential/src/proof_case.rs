@@ -1,5 +1,5 @@
 //! A proof to be checked: a report, the clauses it is about, and the buffers
-//! that hold them and are lent for the steps.
+//! that hold them and are lent with room for the steps.
 
 use crate::case::draw_answer_len;
 use crate::compare::hex;
@@ -95,8 +95,8 @@ impl Parts {
         }
     }
 
-    /// More room, or fewer clauses than stand there: the first step then goes
-    /// over the others.
+    /// More room, or fewer clauses than stand there: the steps then have the
+    /// numbers of the others.
     fn vary(&mut self, rng: &mut Rng) {
         if rng.chance(20) {
             self.words += rng.within(1, 30);

@@ -9,15 +9,15 @@ use crate::proof_expected::{expected, Progress, ProofVerdict};
 /// description of where the library differs.
 pub fn compare_proof(case: &ProofCase) -> Result<(ProofVerdict, Progress), String> {
     let expected = expected(case);
-    let report = case.report.clone();
-    let (mut words, mut starts) = (case.words.clone(), case.starts.clone());
-    let (mut marks, mut answer) = (case.marks.clone(), case.answer.clone());
+    let (report, words) = (case.report.clone(), case.words.clone());
+    let (mut starts, mut marks) = (case.starts.clone(), case.marks.clone());
+    let mut answer = case.answer.clone();
     let status = pellet::prove(
         report.slice(),
         case.from,
         case.clauses,
         case.variables,
-        words.slice_mut(),
+        words.slice(),
         starts.slice_mut(),
         marks.slice_mut(),
         answer.slice_mut(),
@@ -25,10 +25,10 @@ pub fn compare_proof(case: &ProofCase) -> Result<(ProofVerdict, Progress), Strin
 
     let mut differences = Differences::new(expected.verdict.status(), status);
     differences.note("answer", &expected.answer, &answer);
-    differences.note("words", &expected.words, &words);
     differences.note("starts", &expected.starts, &starts);
     differences.note("marks", &expected.marks, &marks);
     differences.note("report", &case.report, &report);
+    differences.note("words", &case.words, &words);
     differences.finish("pellet_prove", case, &expected.verdict)?;
     Ok((expected.verdict, expected.progress))
 }

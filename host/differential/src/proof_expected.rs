@@ -63,11 +63,10 @@ impl Progress {
     }
 }
 
-/// The buffers after the call.
+/// The buffers after the call; what is only read is not among them.
 pub struct Expected {
     pub verdict: ProofVerdict,
     pub progress: Progress,
-    pub words: Lent<u32>,
     pub starts: Lent<u32>,
     pub marks: Lent<u8>,
     pub answer: Lent<u64>,
@@ -77,7 +76,6 @@ pub fn expected(case: &ProofCase) -> Expected {
     let mut expected = Expected {
         verdict: ProofVerdict::AnswerTooShort,
         progress: Progress::default(),
-        words: case.words.clone(),
         starts: case.starts.clone(),
         marks: case.marks.clone(),
         answer: case.answer.clone(),
@@ -97,11 +95,8 @@ impl Expected {
         let (words, starts) = (case.words.len(), case.starts.len());
         let report = case.report.slice();
         let followed = follow_proof(report, case.from, clauses, case.variables, words, starts);
-        followed.write(
-            self.words.slice_mut(),
-            self.starts.slice_mut(),
-            self.marks.slice_mut(),
-        );
+        self.starts = case.starts.zeroed();
+        self.marks = case.marks.zeroed();
         self.progress = Progress::of(&followed);
         self.verdict = match followed.verdict {
             Ok(totals) => ProofVerdict::Done(totals),

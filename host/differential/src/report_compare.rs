@@ -2,11 +2,9 @@
 
 use crate::claim::side_byte;
 use crate::compare::{Differences, Verdict};
-use crate::lent::Lent;
 use crate::report_case::ReportCase;
-use crate::rng::Noise;
 use crate::truth::confirm;
-use oracle::{Finding, MAX_ENTRIES};
+use oracle::Finding;
 
 /// What the oracle says of a case, once the claim of an accepted report was
 /// held against every input list.
@@ -46,24 +44,16 @@ pub fn compare_report(case: &ReportCase) -> Result<Verdict<Finding>, String> {
     expected_answer.fill(&entries(&verdict));
     let mut differences = Differences::new(verdict.status(), status);
     differences.note("answer", &expected_answer, &answer);
-    differences.note("words", &zeroed(&case.words), &words);
-    differences.note("starts", &zeroed(&case.starts), &starts);
-    differences.note("marks", &zeroed(&case.marks), &marks);
-    differences.note("values", &zeroed(&case.values), &values);
-    differences.note("trail", &zeroed(&case.trail), &trail);
+    // The buffers are zeroed whatever the call comes to, a short answer too.
+    differences.note("words", &case.words.zeroed(), &words);
+    differences.note("starts", &case.starts.zeroed(), &starts);
+    differences.note("marks", &case.marks.zeroed(), &marks);
+    differences.note("values", &case.values.zeroed(), &values);
+    differences.note("trail", &case.trail.zeroed(), &trail);
     differences.note("routine", &case.routine, &routine);
     differences.note("report", &case.report, &report);
     differences.finish("pellet_judge", case, &verdict)?;
     Ok(verdict)
-}
-
-/// What judging leaves of a lent buffer, whatever it comes to, a short answer
-/// among it: zeros as far as buffers are used, and the rest as it was.
-fn zeroed<T: Noise + Default>(lent: &Lent<T>) -> Lent<T> {
-    let mut zeroed = lent.clone();
-    let used = lent.len().min(MAX_ENTRIES);
-    zeroed.slice_mut()[..used].fill(T::default());
-    zeroed
 }
 
 /// The entries of the answer that judging fills, from the first on.

@@ -2,6 +2,7 @@
 //! compared with the oracle entry by entry.
 
 use differential::damage::Text;
+use differential::lent::Lent;
 use differential::long_proof::{long_proof, spoil_step};
 use differential::proof_case::ProofCase;
 use differential::proof_compare::compare_proof;
@@ -124,6 +125,29 @@ fn words_beyond_the_limit() {
     assert_eq!(verdict(2), refused(25, 2 + 26));
     assert_eq!(verdict(1), refused(25, 2));
     assert_eq!(verdict(0), refused(25, 2));
+}
+
+/// More starts and marks are lent than are ever used: where a proof is accepted
+/// or refused, those that are used are zeroed, and otherwise none is.
+#[test]
+fn starts_and_marks_beyond_the_limit() {
+    let commands = [Command::Hint(0), Command::Close, Command::End];
+    let verdict = |kept: usize, variables: u32| {
+        let given = refutation(&[&[]], variables, &commands[..kept]);
+        let mut attempt = Attempt::good(&given);
+        (attempt.words, attempt.starts) = (2, MAX_ENTRIES + 5);
+        let rng = &mut Rng::for_case(SEED, 2);
+        let mut case = ProofCase::lending(rng, &given, attempt);
+        case.marks = Lent::noise(rng, MAX_ENTRIES + 5);
+        let (verdict, _) = compare_proof(&case).unwrap_or_else(|report| panic!("{report}"));
+        verdict
+    };
+    let last = MAX_ENTRIES as u32 - 1;
+    for variables in [0, 7, last] {
+        assert_eq!(verdict(3, variables), done(1, 1));
+        assert_eq!(verdict(1, variables), refused(17, 7));
+    }
+    assert_eq!(verdict(3, last + 1), ProofVerdict::NotStanding);
 }
 
 /// A report of 16,777,216 bytes is looked at, a longer one is not.
