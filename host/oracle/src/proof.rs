@@ -1,8 +1,7 @@
 //! The check of a proof, and the refusals 17 to 25.
 //!
 //! A clause is a list and what is decided is a map, made anew for each step.
-//! Room in the lent buffers is only counted while a proof is followed; what
-//! then stands in them is written in one go at the end.
+//! Room in the lent buffers is only counted.
 
 use crate::proof_command::{read, Command};
 use crate::refusal::{
@@ -36,14 +35,14 @@ pub fn check_proof(
 }
 
 /// As `check_proof`, and hands back what is known where the check ends.
-pub fn follow_proof<'a>(
-    report: &'a [u8],
+pub fn follow_proof(
+    report: &[u8],
     from: usize,
-    clauses: &'a [Vec<u32>],
+    clauses: &[Vec<u32>],
     variables: u32,
     words_limit: usize,
     starts_limit: usize,
-) -> Followed<'a> {
+) -> Followed {
     let mut checker = Checker {
         report,
         given: clauses,
@@ -59,58 +58,22 @@ pub fn follow_proof<'a>(
     let verdict = checker.follow(from);
     Followed {
         verdict,
-        given: clauses,
         closed: checker.closed,
         open: checker.step.literals,
         decided: checker.step.decided,
-        variables,
     }
 }
 
 /// A proof followed to its end or to its first fault. A command that is
 /// refused has changed nothing; a step that is closed decides nothing more.
-pub struct Followed<'a> {
+pub struct Followed {
     pub verdict: Result<Totals, Refusal>,
-    pub given: &'a [Vec<u32>],
     /// The clauses of the steps closed.
     pub closed: Vec<Vec<u32>>,
     /// The literals of the step that is open.
     pub open: Vec<u32>,
     /// The variables that the open step has decided.
     pub decided: HashMap<u32, bool>,
-    pub variables: u32,
-}
-
-impl Followed<'_> {
-    /// All clauses, given and closed, by their numbers.
-    pub fn clauses(&self) -> impl Iterator<Item = &Vec<u32>> {
-        self.given.iter().chain(&self.closed)
-    }
-
-    /// Writes what stands in the lent buffers: each clause as a count and its
-    /// literals, the literals of the open step behind the word that is kept
-    /// for its count, the offsets of the counts, and for each variable 0 where
-    /// it is undecided, 1 where it is true and 2 where it is false. All other
-    /// entries are left alone.
-    pub fn write(&self, words: &mut [u32], starts: &mut [u32], marks: &mut [u8]) {
-        let mut at = 0;
-        for (clause, start) in self.clauses().zip(starts) {
-            *start = at as u32;
-            words[at] = clause.len() as u32;
-            words[at + 1..at + 1 + clause.len()].copy_from_slice(clause);
-            at += 1 + clause.len();
-        }
-        if !self.open.is_empty() {
-            words[at + 1..at + 1 + self.open.len()].copy_from_slice(&self.open);
-        }
-        for (variable, mark) in (0..=self.variables).zip(marks) {
-            *mark = match self.decided.get(&variable) {
-                None => 0,
-                Some(true) => 1,
-                Some(false) => 2,
-            };
-        }
-    }
 }
 
 /// The step that is open: it begins with every variable undecided.

@@ -2,6 +2,7 @@
 //! and place are fixed.
 
 use oracle::{check_proof, follow_proof, translate, Clauses, Literal, Refusal, Totals};
+use std::collections::HashMap;
 
 /// One 1-bit variable set to 1, then a write at it into an array of 1.
 const ROUTINE: &[u8] = &[1, 1, 1, 0, 1, 1, 0, 0x01, 0, 1, 0, 0, 0, 0x0A, 0, 0, 0, 0];
@@ -191,22 +192,25 @@ fn room() {
 }
 
 #[test]
-fn what_stands_in_the_buffers() {
+fn what_is_known_where_it_ends() {
     let given = owned(&GIVEN[..3]);
     let report = encode(&[Lit(6), Lit(3), Hint(0), Close]);
-    let (mut words, mut starts, mut marks) = ([9; 12], [9; 5], [9; 5]);
     let followed = follow_proof(&report, 0, &given, 3, 12, 5);
     assert_eq!(plain(followed.verdict), Err((20, 10)));
-    followed.write(&mut words, &mut starts, &mut marks);
-    assert_eq!(words, [1, 2, 2, 5, 7, 3, 4, 6, 4, 9, 6, 3]);
-    assert_eq!(starts, [0, 2, 5, 9, 9]);
-    assert_eq!(marks, [0, 1, 0, 2, 9]);
+    assert!(followed.closed.is_empty());
+    assert_eq!(followed.open, [6, 3]);
+    assert_eq!(followed.decided, HashMap::from([(1, true), (3, false)]));
+    // What a hint makes true is known with what the literals make false.
+    let report = encode(&[Lit(6), Hint(0), Hint(2), End]);
+    let followed = follow_proof(&report, 0, &given, 3, 12, 5);
+    assert_eq!(plain(followed.verdict), Err((23, 15)));
+    assert_eq!(followed.open, [6]);
+    let decided = HashMap::from([(1, true), (2, true), (3, false)]);
+    assert_eq!(followed.decided, decided);
     // Once the step is closed, nothing is decided.
     let report = encode(&[Lit(2), Hint(0), Close, Close]);
     let followed = follow_proof(&report, 0, &given, 3, 12, 5);
     assert_eq!(plain(followed.verdict), Err((21, 11)));
-    followed.write(&mut words, &mut starts, &mut marks);
-    assert_eq!(words[9..], [1, 2, 3]);
-    assert_eq!(starts, [0, 2, 5, 9, 9]);
-    assert_eq!(marks, [0, 0, 0, 0, 9]);
+    assert_eq!(followed.closed, [[2]]);
+    assert!(followed.open.is_empty() && followed.decided.is_empty());
 }
