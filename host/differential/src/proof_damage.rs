@@ -142,13 +142,20 @@ fn put(rng: &mut Rng, refutation: &mut Refutation, place: usize, close: usize, n
     }
 }
 
-/// Some other hint, one twice, two swapped, or one left out.
+/// Some other hint, often of a step's clause, one twice, two swapped, or one left
+/// out.
 fn useless_hint(rng: &mut Rng, refutation: &mut Refutation, step: &StepSite) {
     let place = rng.within(step.hints.start, step.close() - 1);
     let commands = &mut refutation.commands;
     match rng.below(5) {
         0 | 1 => {
-            let number = rng.below(step.number as usize) as u32;
+            let (given, own) = (refutation.clauses.len(), step.number as usize);
+            let first = if given < own {
+                rng.pick(&[0, given])
+            } else {
+                0
+            };
+            let number = rng.within(first, own - 1) as u32;
             put(rng, refutation, place, step.close(), number);
         }
         2 => commands.insert(place, commands[place]),

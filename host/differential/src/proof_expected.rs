@@ -46,6 +46,8 @@ pub struct Progress {
     /// The variables decided in the open step.
     pub made_true: usize,
     pub made_false: usize,
+    /// The hints of steps' clauses.
+    pub cited: usize,
 }
 
 impl Progress {
@@ -59,6 +61,7 @@ impl Progress {
             open: followed.open.len(),
             made_true: count(true),
             made_false: count(false),
+            cited: followed.cited,
         }
     }
 }

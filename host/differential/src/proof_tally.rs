@@ -5,7 +5,7 @@ use crate::counter::Counter;
 use crate::proof_case::ProofCase;
 use crate::proof_damage::AIMS;
 use crate::proof_expected::{Progress, ProofVerdict};
-use oracle::refusal::NO_ROOM;
+use oracle::refusal::{NO_ROOM, USELESS_HINT};
 use pellet::ANSWER_LEN;
 use std::fmt;
 
@@ -37,9 +37,24 @@ struct Facts<'a> {
     progress: &'a Progress,
     /// The refusal's number; 0 for none.
     number: u8,
-    /// The first byte of the command that was refused, where it has one.
-    kind: Option<u8>,
+    /// The report from the command on that was refused.
+    rest: &'a [u8],
     steps: usize,
+}
+
+impl Facts<'_> {
+    /// The first byte of the command that was refused, where it has one.
+    fn kind(&self) -> Option<u8> {
+        self.rest.first().copied()
+    }
+
+    /// Whether the command that was refused is a hint of a step's clause.
+    fn names_step(&self) -> bool {
+        match *self.rest {
+            [2, a, b, c, d, ..] => u32::from_le_bytes([a, b, c, d]) >= self.case.clauses,
+            _ => false,
+        }
+    }
 }
 
 /// A shape: its name, how many cases must have it, and the test for it.
@@ -52,6 +67,9 @@ const SHAPES: &[Shape] = &[
     }),
     ("accepted without a lead", 100, |f| {
         f.steps > 0 && f.case.from == 0
+    }),
+    ("accepted by hints of steps' clauses", 1000, |f| {
+        f.steps > 0 && f.progress.cited > 0
     }),
     ("refused in the first step", 1000, |f| {
         f.number > 0 && f.progress.closed == 0
@@ -72,16 +90,22 @@ const SHAPES: &[Shape] = &[
         let decided = f.progress.made_true + f.progress.made_false;
         f.number > 0 && f.progress.closed > 0 && decided == 0
     }),
+    ("refused after hints of steps' clauses", 1000, |f| {
+        f.number > 0 && f.progress.cited > 0
+    }),
+    ("refused for what a step's clause says", 50, |f| {
+        f.number == USELESS_HINT && f.names_step()
+    }),
     ("no room at a literal", 100, |f| {
-        f.number == NO_ROOM && f.kind == Some(1)
+        f.number == NO_ROOM && f.kind() == Some(1)
     }),
     ("no room in the words at a close", 50, |f| {
         let has_start = f.case.starts.len() > f.case.clauses as usize + f.progress.closed;
-        f.number == NO_ROOM && f.kind == Some(3) && has_start
+        f.number == NO_ROOM && f.kind() == Some(3) && has_start
     }),
     ("no room in the starts at a close", 50, |f| {
         let has_start = f.case.starts.len() > f.case.clauses as usize + f.progress.closed;
-        f.number == NO_ROOM && f.kind == Some(3) && !has_start
+        f.number == NO_ROOM && f.kind() == Some(3) && !has_start
     }),
 ];
 
@@ -128,7 +152,7 @@ impl ProofTally {
             case,
             progress,
             number,
-            kind: place.and_then(|place| case.report.slice().get(place).copied()),
+            rest: place.map_or(&[], |place| &case.report.slice()[place..]),
             steps,
         };
         for &(name, _, holds) in SHAPES {

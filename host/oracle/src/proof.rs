@@ -54,6 +54,7 @@ pub fn follow_proof(
         has_empty: false,
         step: Step::default(),
         totals: Totals::default(),
+        cited: 0,
     };
     let verdict = checker.follow(from);
     Followed {
@@ -61,6 +62,7 @@ pub fn follow_proof(
         closed: checker.closed,
         open: checker.step.literals,
         decided: checker.step.decided,
+        cited: checker.cited,
     }
 }
 
@@ -74,6 +76,8 @@ pub struct Followed {
     pub open: Vec<u32>,
     /// The variables that the open step has decided.
     pub decided: HashMap<u32, bool>,
+    /// How many hints were of the clauses of steps.
+    pub cited: usize,
 }
 
 /// The step that is open: it begins with every variable undecided.
@@ -110,6 +114,8 @@ struct Checker<'a> {
     has_empty: bool,
     step: Step,
     totals: Totals,
+    /// Hints of the clauses of steps.
+    cited: usize,
 }
 
 impl Checker<'_> {
@@ -169,6 +175,9 @@ impl Checker<'_> {
         }
         self.step.has_hint = true;
         self.totals.hints += 1;
+        if number as usize >= self.given.len() {
+            self.cited += 1;
+        }
         Ok(())
     }
 

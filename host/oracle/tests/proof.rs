@@ -213,4 +213,11 @@ fn what_is_known_where_it_ends() {
     assert_eq!(plain(followed.verdict), Err((21, 11)));
     assert_eq!(followed.closed, [[2]]);
     assert!(followed.open.is_empty() && followed.decided.is_empty());
+    assert_eq!(followed.cited, 0);
+    // A hint that is refused is not counted.
+    let report = encode(&[Lit(2), Hint(0), Close, Hint(3), Hint(3)]);
+    let followed = follow_proof(&report, 0, &given, 3, 12, 5);
+    assert_eq!(plain(followed.verdict), Err((20, 16)));
+    assert_eq!(followed.decided, HashMap::from([(1, true)]));
+    assert_eq!(followed.cited, 1);
 }
