@@ -89,7 +89,7 @@ fn proofs() {
             from,
             clauses,
             variables,
-            &mut library.words,
+            &library.words,
             &mut library.starts,
             &mut library.marks,
             &mut answers[0],

@@ -3,7 +3,7 @@
 
 use crate::fast_check::{check, Routine};
 use crate::fast_machine::{End, Machine, Watch};
-use crate::fast_proof::{self, Stored};
+use crate::fast_proof::{self, Given};
 use crate::fast_refusal::Refusal;
 use crate::fast_run::check_inputs;
 use crate::fast_translate::{admit, fit, Claim};
@@ -139,9 +139,9 @@ fn prove(
     }
     let marks = &mut lent.marks[..=size.variables];
     marks.fill(0);
-    let stored = Stored {
+    let given = Given {
         clauses: size.clauses,
         words: size.words,
     };
-    fast_proof::check(report, from, stored, words, starts, marks)
+    fast_proof::check(report, from, given, words, starts, marks)
 }

@@ -1,5 +1,6 @@
 //! The check of a proof, step by step: where a step stands is where the code
-//! stands. What a step's hints decided is kept in a list and undone from it.
+//! stands. The clauses of the steps go into a list of their own, and what a
+//! step's hints decided is kept in another and undone from it.
 
 use crate::fast_refusal::Refusal;
 
@@ -25,47 +26,55 @@ enum Command {
     End,
 }
 
-/// The clauses so far: how many there are, and how many words they take.
+/// The given clauses: how many there are, and how many words they take.
 #[derive(Clone, Copy)]
-pub struct Stored {
+pub struct Given {
     pub clauses: usize,
     pub words: usize,
 }
 
 /// Checks the proof from an offset on; hands back the steps and the hints.
-/// The marks, one for each variable and one more, begin as 0.
+/// The marks, one for each variable and one more, begin as 0. The start of a
+/// step's clause is its offset in the list.
 pub fn check(
     report: &[u8],
     from: usize,
-    mut stored: Stored,
-    words: &mut [u32],
+    given: Given,
+    words: &[u32],
     starts: &mut [u32],
     marks: &mut [u8],
 ) -> Result<(u64, u64), Refusal> {
     let (mut steps, mut hints) = (0, 0);
+    // The words that are left for the clauses of the steps.
+    let room = words.len() - given.words;
+    let mut closed = Vec::new();
+    let mut count = given.clauses;
     let mut decided = Vec::new();
     let mut at = from;
     let mut ahead = from;
     loop {
         if words.len() >= MANY_WORDS && ahead <= at {
-            ahead = look_ahead(report, at, words, &starts[..stored.clauses]);
+            ahead = look_ahead(report, at, words, &starts[..given.clauses]);
         }
-        let used = stored.words;
-        let literals = read_literals(report, &mut at, used, words, marks)?;
+        let start = closed.len();
+        closed.push(0);
+        read_literals(report, &mut at, room, &mut closed, marks)?;
         let clauses = Clauses {
+            given: given.clauses,
             words,
-            starts: &starts[..stored.clauses],
+            closed: &closed,
+            starts: &starts[..count],
         };
         hints += follow_hints(report, &mut at, clauses, marks, &mut decided)?;
-        expect_close(report, at, stored.clauses)?;
-        if words.len() <= used + literals || starts.len() <= stored.clauses {
+        expect_close(report, at, count)?;
+        if closed.len() > room || starts.len() <= count {
             return Err(Refusal(FULL, at));
         }
-        words[used] = literals as u32;
-        starts[stored.clauses] = used as u32;
-        undo(&words[used + 1..=used + literals], &mut decided, marks);
-        stored.words = used + 1 + literals;
-        stored.clauses += 1;
+        let literals = closed.len() - start - 1;
+        closed[start] = literals as u32;
+        starts[count] = start as u32;
+        undo(&closed[start + 1..], &mut decided, marks);
+        count += 1;
         steps += 1;
         at += 1;
         if literals == 0 {
@@ -74,8 +83,8 @@ pub fn check(
     }
 }
 
-/// Has the clauses of the next hints fetched all at once, since each of them has
-/// to be waited for otherwise; hands back the offset as far as it looked.
+/// Has the given clauses of the next hints fetched all at once, since each of
+/// them has to be waited for otherwise; hands back the offset as far as it looked.
 #[inline(never)]
 fn look_ahead(report: &[u8], mut at: usize, words: &[u32], starts: &[u32]) -> usize {
     let mut cited = [0; AHEAD];
@@ -116,21 +125,20 @@ fn read(report: &[u8], at: usize) -> Result<Command, Refusal> {
     }
 }
 
-/// Takes a step's literals as false and stores them behind the word for their
+/// Takes a step's literals as false and puts them behind the word for their
 /// count, up to the first hint.
 #[inline]
 fn read_literals(
     report: &[u8],
     at: &mut usize,
-    used: usize,
-    words: &mut [u32],
+    room: usize,
+    closed: &mut Vec<u32>,
     marks: &mut [u8],
-) -> Result<usize, Refusal> {
-    let mut literals = 0;
+) -> Result<(), Refusal> {
     loop {
         let literal = match read(report, *at)? {
             Command::Literal(literal) => literal,
-            Command::Hint(_) => return Ok(literals),
+            Command::Hint(_) => return Ok(()),
             Command::Close => return Err(Refusal(NO_CONFLICT, *at)),
             Command::End => return Err(Refusal(OUT_OF_PLACE, *at)),
         };
@@ -138,20 +146,37 @@ fn read_literals(
             Some(mark) if literal >= 2 && *mark == 0 => mark,
             _ => return Err(Refusal(LITERAL, *at)),
         };
-        literals += 1;
-        match words.get_mut(used + literals) {
-            Some(word) => *word = literal,
-            None => return Err(Refusal(FULL, *at)),
+        if closed.len() >= room {
+            return Err(Refusal(FULL, *at));
         }
+        closed.push(literal);
         *mark = false_mark(literal);
         *at = at.wrapping_add(5);
     }
 }
 
+/// The clauses so far, given and closed.
 #[derive(Clone, Copy)]
 struct Clauses<'a> {
+    given: usize,
     words: &'a [u32],
+    closed: &'a [u32],
     starts: &'a [u32],
+}
+
+impl<'a> Clauses<'a> {
+    /// The literals of a clause, where there is one of this number.
+    #[inline]
+    fn get(&self, number: usize) -> Option<&'a [u32]> {
+        let start = *self.starts.get(number)? as usize;
+        let words = if number < self.given {
+            self.words
+        } else {
+            self.closed
+        };
+        let count = words[start] as usize;
+        Some(&words[start..][1..=count])
+    }
 }
 
 /// Follows hints as far as the conflict; hands back how many there were.
@@ -171,12 +196,11 @@ fn follow_hints(
             Command::Close => return Err(Refusal(NO_CONFLICT, *at)),
             Command::End => return Err(Refusal(OUT_OF_PLACE, *at)),
         };
-        let start = match clauses.starts.get(number as usize) {
-            Some(&start) => start as usize,
+        let clause = match clauses.get(number as usize) {
+            Some(clause) => clause,
             None => return Err(Refusal(NO_CLAUSE, *at)),
         };
-        let count = clauses.words[start] as usize;
-        let literal = match scan(&clauses.words[start..][1..=count], marks) {
+        let literal = match scan(clause, marks) {
             Some(literal) => literal,
             None => return Err(Refusal(NEITHER, *at)),
         };

@@ -1,6 +1,6 @@
 //! The check of a proof over clauses that stand in the buffers.
 
-use crate::fast_proof::{self, Stored};
+use crate::fast_proof::{self, Given};
 use crate::fast_refusal::Refusal;
 use crate::lent::Buffers;
 use pellet::{ANSWER_LEN, ANSWER_TOO_SHORT, MAX_ENTRIES, NOT_STANDING};
@@ -18,8 +18,9 @@ pub fn prove(
     }
     let words_len = lent.words.len().min(MAX_ENTRIES);
     let starts_len = lent.starts.len().min(MAX_ENTRIES);
-    let (words, starts) = (&mut lent.words[..words_len], &mut lent.starts[..starts_len]);
     let marks_len = lent.marks.len().min(MAX_ENTRIES);
+    let (words, starts) = (&lent.words[..words_len], &mut lent.starts[..starts_len]);
+    let marks = &mut lent.marks[..marks_len];
     let (clauses, variables) = (clauses as usize, variables as usize);
     if report.len() > MAX_ENTRIES || report.len() < from || marks_len <= variables {
         return NOT_STANDING;
@@ -28,13 +29,15 @@ pub fn prove(
         Some(used) => used,
         None => return NOT_STANDING,
     };
-    let marks = &mut lent.marks[..=variables];
-    marks.fill(0);
-    let stored = Stored {
+    let given = Given {
         clauses,
         words: used,
     };
-    match fast_proof::check(report, from, stored, words, starts, marks) {
+    marks[..=variables].fill(0);
+    let checked = fast_proof::check(report, from, given, words, starts, &mut marks[..=variables]);
+    starts.fill(0);
+    marks.fill(0);
+    match checked {
         Ok((steps, hints)) => {
             answer[0] = steps;
             answer[1] = hints;

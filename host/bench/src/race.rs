@@ -4,8 +4,9 @@ use std::time::{Duration, Instant};
 
 /// The same work for both.
 pub trait Job {
-    /// What a turn needs before it; it is not timed.
-    fn prepare(&mut self) {}
+    /// What a turn needs before it, the library's (0) or plain Rust's (1); it is
+    /// not timed.
+    fn prepare(&mut self, _turn: usize) {}
     fn library(&mut self);
     fn plain(&mut self);
     /// Panics where the two gave different answers or left different buffers.
@@ -42,9 +43,9 @@ impl Times {
 pub fn race(job: &mut impl Job, rounds: usize) -> Times {
     let mut best = Times::LONGEST;
     for _ in 0..rounds {
-        job.prepare();
+        job.prepare(0);
         let library = timed(|| job.library());
-        job.prepare();
+        job.prepare(1);
         let plain = timed(|| job.plain());
         job.compare();
         best = best.min(Times { library, plain });

@@ -14,7 +14,8 @@ const VARIABLES: u32 = 1_000_000;
 struct Proving {
     proof: Vec<u8>,
     clauses: u32,
-    /// The given clauses stand after a turn as before it, so turns are alike.
+    /// Where the given clauses start.
+    starts: Vec<u32>,
     lent: [Buffers; 2],
     answers: [[u64; ANSWER_LEN]; 2],
 }
@@ -30,8 +31,9 @@ impl Proving {
             trail: 0,
         });
         let mut at = 0;
-        for (clause, start) in refutation.clauses.iter().zip(&mut lent.starts) {
-            *start = at as u32;
+        let mut starts = Vec::new();
+        for clause in &refutation.clauses {
+            starts.push(at as u32);
             lent.words[at] = clause.len() as u32;
             lent.words[at + 1..][..clause.len()].copy_from_slice(clause);
             at += 1 + clause.len();
@@ -39,6 +41,7 @@ impl Proving {
         Proving {
             proof: encode(&refutation.commands),
             clauses: refutation.clauses.len() as u32,
+            starts,
             lent: [lent.clone(), lent],
             answers: [[0; ANSWER_LEN]; 2],
         }
@@ -46,6 +49,12 @@ impl Proving {
 }
 
 impl Job for Proving {
+    /// A turn zeroes the starts.
+    fn prepare(&mut self, turn: usize) {
+        let starts = &mut self.lent[turn].starts;
+        starts[..self.starts.len()].copy_from_slice(&self.starts);
+    }
+
     fn library(&mut self) {
         let ([lent, _], [answer, _]) = (&mut self.lent, &mut self.answers);
         let status = pellet::prove(
@@ -53,7 +62,7 @@ impl Job for Proving {
             0,
             self.clauses,
             VARIABLES,
-            &mut lent.words,
+            &lent.words,
             &mut lent.starts,
             &mut lent.marks,
             answer,

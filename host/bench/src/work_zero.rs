@@ -36,7 +36,7 @@ impl Zeroing {
 }
 
 impl Job for Zeroing {
-    fn prepare(&mut self) {
+    fn prepare(&mut self, _turn: usize) {
         self.lent.fill();
     }
 
@@ -77,7 +77,7 @@ pub fn measure() {
     };
     job.library();
     job.expect_zeros();
-    job.prepare();
+    job.prepare(1);
     job.plain();
     job.expect_zeros();
     let times = race(&mut job, 20);
