@@ -1,5 +1,6 @@
 // A look at what the next hints name. Where the clauses are more than the caches hold, a hint waits for its clause, and the next one is read only then; looked at
 // beforehand, the clauses of many hints are fetched at once.
+use crate::hints::note;
 use proof_reader::Command;
 use proof_reader::read_command;
 use slices::entry_at;
@@ -8,13 +9,13 @@ ghost use mathlib.Core.Path.{_≡_};
 ghost use lib.Seq.{slice};
 
 // Fewer words than these are fetched fast enough.
-const MANY_WORDS: usize = 4194304;
+const MANY_WORDS: usize = 8388608;
 
 // The hints that are looked at beforehand.
 const AHEAD: usize = 32;
 
 // Where the last look is used up, reads the first word of the clause of each of the next hints, and returns the offset as far as it looked. What it read matters to
-// nothing: the sum goes into the trail's next entry, so that it is read indeed, and what was kept in the trail stays.
+// nothing: the sum goes into the trail's next entry, so that it is indeed read, and what was kept in the trail stays.
 pub fn look_ahead(
     proof: &[u8],
     words: &[u32],
@@ -26,10 +27,7 @@ pub fn look_ahead(
 ) -> usize
     ensures { λ r. ⌜ slice 0 decided (now (trail .exit)) ≡ slice 0 decided (now (trail .entry)) ⌝ }
 {
-    if words.len() < MANY_WORDS {
-        return ahead;
-    }
-    if here < ahead {
+    if here < ahead || words.len() < MANY_WORDS {
         return ahead;
     }
     let mut named = [0u32; AHEAD];
@@ -42,12 +40,8 @@ pub fn look_ahead(
                 count += 1;
                 at += 5;
             }
-            Command::Literal(_) => {
-                at += 5;
-            }
-            Command::Close => {
-                at += 1;
-            }
+            Command::Literal(_) => at += 5,
+            Command::Close => at += 1,
             Command::End => break,
             Command::Unreadable => break,
         }
@@ -58,8 +52,6 @@ pub fn look_ahead(
         sum = wrapping_add_u32(sum, entry_at(words, named[i] as usize));
         i += 1;
     }
-    if decided < trail.len() {
-        trail[decided] = sum;
-    }
+    note(trail, decided, sum);
     at
 }

@@ -79,7 +79,7 @@ pub fn with_hint(p: Progress, phase: Phase, decided: usize) -> Progress
 }
 
 // Keeps a literal that became true, where the trail has room for it.
-fn note(trail: &mut [u32], decided: usize, l: u32)
+pub fn note(trail: &mut [u32], decided: usize, l: u32)
     ensures { λ _. ⌜ now (trail .exit) ≡ set (now (trail .entry)) decided l ⌝ }
 {
     if decided < trail.len() {

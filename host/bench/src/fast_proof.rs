@@ -15,7 +15,7 @@ const TRAILING: u8 = 24;
 const FULL: u8 = 25;
 
 /// Fewer words than these lie in the caches.
-const MANY_WORDS: usize = 4_194_304;
+const MANY_WORDS: usize = 8_388_608;
 /// Hints that are looked at beforehand.
 const AHEAD: usize = 32;
 
