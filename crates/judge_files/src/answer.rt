@@ -2,8 +2,8 @@
 use crate::reading::Reading;
 use judge_line::text::write_text;
 use judge_line::write_line;
-use report_judgement::Judged;
 use report::judge;
+use report_judgement::Judged;
 ghost use mathlib.Core.Path.{_≡_};
 ghost use Prim.Native.Nat.{_≤_};
 ghost use lib.ListN.{length};

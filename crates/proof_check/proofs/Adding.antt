@@ -14,14 +14,14 @@ use Rattle.cnf.specs.Clause.{Clause, flatten}
 use Rattle.cnf.proofs.Appending.{flatten-append}
 use Rattle.slices.proofs.Zeroing.{getD-zeros}
 use Rattle.proof_reader.specs.Command.{commandAt}
-use Rattle.proof_reader.specs.Literals.{literalsAt, runAt}
+use Rattle.proof_reader.specs.Inner.Literals.{literalsAt, runAt}
 use Rattle.proof_reader.specs.Inner.Runs.{Ones, RunsFor}
 use Rattle.proof_reader.specs.declared.Command.{Command}
 use Rattle.proof_reader.proofs.Reading.{Reads, reads}
 use Rattle.proof_reader.proofs.Running.{run-is, run-length}
 use Rattle.proof_propagation.specs.Marks.{undecided}
-use Rattle.proof_propagation.specs.Stored.{startOf, storedAt, firstOf, storedOf}
-use Rattle.proof_propagation.specs.Inner.Standing.{Fits, Stands}
+use Rattle.proof_propagation.specs.Stored.{startOf, firstOf}
+use Rattle.proof_propagation.specs.Inner.Standing.{storedAt, storedOf, Fits, Stands}
 use Rattle.proof_propagation.proofs.Cases.{below-or}
 use Rattle.proof_propagation.proofs.Standing.{first-length, first-same, stored-step, stored-same}
 use Rattle.proof_check.specs.Phase.{going, inLiterals, conflicted, phaseAfter}

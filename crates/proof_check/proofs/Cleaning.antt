@@ -5,7 +5,7 @@ use mathlib.Core.List.{List, []}
 use native.Mathlib.Omega.{arith}
 use lib.ListN.{length, set, replicate, length-replicate, List·getD-eq-default}
 use Rattle.cnf.specs.Clause.{Clause}
-use Rattle.proof_propagation.specs.Stored.{storedAt, storedOf}
+use Rattle.proof_propagation.specs.Inner.Standing.{storedAt, storedOf}
 use Rattle.proof_propagation.specs.Inner.Clear.{clear}
 use Rattle.proof_propagation.proofs.Standing.{first-at, first-length}
 use Rattle.proof_propagation.proofs.Clearing.{clear-append, clear-swap, clear-zeros}

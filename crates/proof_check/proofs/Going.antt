@@ -1,15 +1,15 @@
 -- The going on to the end: it ends in what the definition says. Assumes nothing.
-use Prim.Native.Nat.{ℕ, _+_, _-_, _<_, _≤_}
+use Prim.Native.Nat.{ℕ, _+_, _-_, _<_}
 use mathlib.Core.Path.{_≡_, refl, sym, ap, subst, _∙_}
 use mathlib.Core.List.{List, []}
 use mathlib.Core.Bool.{true≢false}
 use native.Mathlib.Omega.{arith}
 use lib.ListN.{length, replicate, length-replicate}
 use lib.Seq.{slice}
-use Rattle.proof_reader.specs.Literals.{literalsAt}
+use Rattle.proof_reader.specs.Inner.Literals.{literalsAt}
 use Rattle.proof_reader.specs.Inner.Runs.{Ones}
-use Rattle.proof_propagation.specs.Stored.{clausesOf, storedOf}
-use Rattle.proof_propagation.specs.Inner.Standing.{Fits}
+use Rattle.proof_propagation.specs.Stored.{clausesOf}
+use Rattle.proof_propagation.specs.Inner.Standing.{storedOf, Fits}
 use Rattle.proof_propagation.proofs.Standing.{stored-all-given}
 use Rattle.proof_check.specs.State.{State, Limits, begin}
 use Rattle.proof_check.specs.Check.{step, Outcome, finish, checkProof}

@@ -16,7 +16,7 @@ use Rattle.proof_reader.proofs.Reading.{Reads, reads}
 use Rattle.proof_reader.proofs.Running.{ones-run}
 use Rattle.proof_propagation.specs.Marks.{trueMark}
 use Rattle.proof_propagation.specs.Hint.{hintOf}
-use Rattle.proof_propagation.specs.Stored.{storedAt, storedOf}
+use Rattle.proof_propagation.specs.Inner.Standing.{storedAt, storedOf}
 use Rattle.proof_propagation.specs.Inner.Clear.{clear}
 use Rattle.proof_propagation.specs.declared.Hint.{Hint}
 use Rattle.proof_propagation.proofs.Cases.{both}

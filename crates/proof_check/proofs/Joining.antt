@@ -1,6 +1,6 @@
 -- A proof in two parts: going on in the second from where the check of the first stopped is checking the whole. Assumes nothing.
 use Prim.Native.Nat.{ℕ, zero, suc, _+_, _-_, _<_, _≤_}
-use mathlib.Core.Path.{_≡_, refl, sym, ap, subst, _∙_}
+use mathlib.Core.Path.{_≡_, refl, sym, ap, _∙_}
 use mathlib.Core.List.{List, _++_}
 use mathlib.Core.Bool.{true, false, true≢false}
 use mathlib.Core.Logic.{inl, inr}
@@ -9,13 +9,13 @@ use lib.ListN.{length, replicate, length-append}
 use lib.Dec.{ltb}
 use borrow.Author.Tests.{ltb-true, ltb-false}
 use Rattle.proof_reader.specs.Command.{commandAt}
-use Rattle.proof_reader.specs.Literals.{literalsAt}
+use Rattle.proof_reader.specs.Inner.Literals.{literalsAt}
 use Rattle.proof_reader.specs.Inner.Runs.{Ones}
 use Rattle.proof_reader.specs.declared.Command.{Command}
 use Rattle.proof_reader.proofs.Reading.{Reads, reads, same-literal, same-hint, same-close}
 use Rattle.proof_reader.proofs.Running.{run-append}
-use Rattle.proof_propagation.specs.Stored.{startOf, storedAt, storedOf}
-use Rattle.proof_propagation.specs.Inner.Standing.{Fits}
+use Rattle.proof_propagation.specs.Stored.{startOf}
+use Rattle.proof_propagation.specs.Inner.Standing.{storedAt, storedOf, Fits}
 use Rattle.proof_propagation.proofs.Cases.{both}
 use Rattle.proof_propagation.proofs.Standing.{first-same, stored-given, stored-step}
 use Rattle.proof_check.specs.Phase.{inLiterals}

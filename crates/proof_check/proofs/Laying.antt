@@ -4,7 +4,7 @@ use mathlib.Core.Path.{_≡_, sym, ap, _∙_}
 use mathlib.Core.List.{List, [], _∷_, _++_, append-assoc}
 use native.Mathlib.Omega.{arith}
 use native.Mathlib.Nat.{add-zero, zero-add}
-use lib.ListN.{length, getD, take, drop, replicate, length-append, List·getD-append}
+use lib.ListN.{length, getD, take, drop, length-append, List·getD-append}
 use lib.Seq.{slice, sets, length-sets, take-at, drop-at, getD-append-seam, ext-getD}
 use Rattle.cnf.specs.Clause.{Clause, flatten, offsets}
 use Rattle.cnf.proofs.Appending.{sets-front, length-offsets}

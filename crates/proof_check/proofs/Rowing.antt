@@ -9,7 +9,7 @@ use Rattle.proof_reader.specs.Inner.Runs.{RunsFor}
 use Rattle.proof_reader.specs.declared.Command.{Command}
 use Rattle.proof_propagation.specs.Marks.{trueMark}
 use Rattle.proof_propagation.specs.Hint.{hintOf}
-use Rattle.proof_propagation.specs.Stored.{storedAt}
+use Rattle.proof_propagation.specs.Inner.Standing.{storedAt}
 use Rattle.proof_propagation.specs.declared.Hint.{Hint}
 use Rattle.proof_propagation.proofs.Standing.{first-length, first-at, unit-fits}
 use Rattle.proof_check.specs.State.{Limits}

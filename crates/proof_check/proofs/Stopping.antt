@@ -9,7 +9,7 @@ use lib.ListN.{length}
 use lib.Dec.{ltb, eqb·suc-zero}
 use borrow.Author.Tests.{ltb-true, ltb-false}
 use Rattle.cnf.specs.Clause.{flatten}
-use Rattle.proof_propagation.specs.Stored.{storedOf}
+use Rattle.proof_propagation.specs.Inner.Standing.{storedOf}
 use Rattle.proof_propagation.proofs.Cases.{both}
 use Rattle.proof_reader.proofs.Running.{run-length}
 use Rattle.proof_check.specs.Phase.{going, inLiterals, conflicted, phaseAfter}

@@ -11,7 +11,7 @@ use lib.Dec.{eqb, leb}
 use borrow.Author.Tests.{eqb-true, eqb-false, eq-eqb, ne-eqb, le-leb, lt-leb}
 use Rattle.cnf.specs.Clause.{Clause}
 use Rattle.proof_reader.specs.Command.{commandAt}
-use Rattle.proof_reader.specs.Literals.{literalsAt}
+use Rattle.proof_reader.specs.Inner.Literals.{literalsAt}
 use Rattle.proof_reader.specs.declared.Command.{Command}
 use Rattle.proof_reader.proofs.Reading.{Reads, reads}
 use Rattle.proof_reader.proofs.Running.{literals-snoc, ones-snoc}
@@ -20,7 +20,7 @@ use Rattle.proof_propagation.specs.Inner.Clear.{clear}
 use Rattle.proof_propagation.proofs.Cases.{both}
 use Rattle.proof_propagation.proofs.Standing.{In, fits-snoc}
 use Rattle.proof_propagation.proofs.Clearing.{clear-marked}
-use Rattle.proof_propagation.specs.Stored.{storedOf}
+use Rattle.proof_propagation.specs.Inner.Standing.{storedOf}
 use Rattle.proof_check.specs.Phase.{going, inLiterals}
 use Rattle.proof_check.specs.Inner.Stop.{refusedBy}
 use Rattle.proof_check.specs.Inner.Undo.{touches}

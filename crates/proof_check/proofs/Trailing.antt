@@ -6,7 +6,7 @@ use native.Mathlib.Omega.{arith}
 use native.Mathlib.Numerals.{add-one}
 use lib.ListN.{length, take, set, replicate, length-set, length-replicate}
 use lib.Seq.{slice, take-suc-set, drop-append-le}
-use Rattle.proof_reader.specs.Literals.{literalsAt, runAt}
+use Rattle.proof_reader.specs.Inner.Literals.{literalsAt, runAt}
 use Rattle.proof_reader.specs.Inner.Runs.{RunsFor}
 use Rattle.proof_reader.proofs.Running.{run-is}
 use Rattle.proof_propagation.specs.Marks.{trueMark, falseMark}

@@ -9,7 +9,7 @@ use crate::stops::refused;
 use proof_propagation::marks::false_mark;
 ghost use mathlib.Core.Path.{_≡_};
 ghost use mathlib.Core.List.{List};
-ghost use Prim.Native.Nat.{ℕ, _+_, _^_, _≤_, _<_};
+ghost use Prim.Native.Nat.{ℕ, _+_, _≤_, _<_};
 ghost use lib.ListN.{length};
 ghost use Rattle.proof_reader.specs.Command.{commandAt};
 ghost use Rattle.proof_reader.specs.declared.Command.{Command};

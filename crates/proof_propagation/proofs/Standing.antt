@@ -9,14 +9,14 @@ use lib.ListN.{length, getD, length-append, List·getD-append}
 use lib.Seq.{getD-append-seam}
 use borrow.Author.Tests.{lt-ltb, le-ltb}
 use Rattle.cnf.specs.Clause.{Clause}
-use Rattle.proof_reader.specs.Literals.{runAt}
+use Rattle.proof_reader.specs.Inner.Literals.{runAt}
 use Rattle.proof_reader.specs.Inner.Runs.{Runs}
 use Rattle.proof_reader.proofs.Running.{run-append}
 use Rattle.proof_reader.proofs.Past.{run-past}
 use Rattle.proof_propagation.specs.Marks.{isFalse, undecided}
 use Rattle.proof_propagation.specs.Hint.{notFalse, allSame, ofLeft, hintOf}
-use Rattle.proof_propagation.specs.Stored.{startOf, clauseAt, storedAt, firstOf, clausesOf, storedOf}
-use Rattle.proof_propagation.specs.Inner.Standing.{Fits}
+use Rattle.proof_propagation.specs.Stored.{startOf, clauseAt, firstOf, clausesOf}
+use Rattle.proof_propagation.specs.Inner.Standing.{storedAt, storedOf, Fits}
 use Rattle.proof_propagation.specs.declared.Hint.{Hint}
 use Rattle.proof_propagation.proofs.Cases.{both, below-or}
 

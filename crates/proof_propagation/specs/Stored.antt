@@ -1,13 +1,9 @@
--- The clauses of a check. The given ones stand in two lists of words: clause i at the offset that is entry i of the starts, as its count and its
--- literals. The clause of a step stands in the proof: there the entry is the offset of its first literal.
+-- Clauses in two lists of words: clause i at the offset that is entry i of the starts, as its count and its literals.
 use Prim.Native.Nat.{ℕ, zero, suc, _+_}
 use mathlib.Core.List.{List, [], _∷_, _++_}
-use mathlib.Core.Bool.{cond}
 use lib.ListN.{getD}
 use lib.Seq.{slice}
-use lib.Dec.{ltb}
 use Rattle.cnf.specs.Clause.{Clause}
-use Rattle.proof_reader.specs.Literals.{runAt}
 
 -- where clause i begins
 abbrev pub startOf : List ℕ → ℕ → ℕ
@@ -21,11 +17,6 @@ endOf words starts i = startOf starts i + 1 + getD words (startOf starts i) 0
 unfoldable pub clauseAt : List ℕ → List ℕ → ℕ → Clause
 clauseAt words starts i = slice (startOf starts i + 1) (endOf words starts i) words
 
--- clause i, of which the first `given` stand in the words and the others in the proof r
-unfoldable pub storedAt : (words starts r : List ℕ) → (given i : ℕ) → Clause
-unfolding clauseAt
-storedAt words starts r given i = cond (ltb i given) (clauseAt words starts i) (runAt r (startOf starts i))
-
 -- the first n of clauses that have numbers
 unfoldable pub firstOf : (ℕ → Clause) → ℕ → List Clause
 firstOf at zero = []
@@ -34,7 +25,3 @@ firstOf at (suc n) = firstOf at n ++ (at n ∷ [])
 -- the first n clauses in the words
 abbrev pub clausesOf : List ℕ → List ℕ → ℕ → List Clause
 clausesOf words starts n = firstOf (clauseAt words starts) n
-
--- the first n clauses
-abbrev pub storedOf : (words starts r : List ℕ) → (given n : ℕ) → List Clause
-storedOf words starts r given n = firstOf (storedAt words starts r given) n

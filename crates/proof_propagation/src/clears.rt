@@ -5,10 +5,9 @@ ghost use mathlib.Core.List.{_++_};
 ghost use Prim.Native.Nat.{_/_, _≤_};
 ghost use lib.ListN.{length, set};
 ghost use lib.Seq.{slice};
-ghost use Rattle.proof_reader.specs.Literals.{runAt};
+ghost use Rattle.proof_reader.specs.Inner.Literals.{runAt};
 ghost use Rattle.proof_reader.specs.Inner.Runs.{Runs};
-ghost use Rattle.proof_propagation.specs.Stored.{storedAt};
-ghost use Rattle.proof_propagation.specs.Inner.Standing.{Stands, InPart};
+ghost use Rattle.proof_propagation.specs.Inner.Standing.{storedAt, Stands, InPart};
 ghost use Rattle.proof_propagation.specs.Inner.Clear.{clear};
 
 // One literal; one of no variable changes nothing.

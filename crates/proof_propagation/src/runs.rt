@@ -5,7 +5,7 @@ use crate::marks::told;
 use slices::whole_word_at;
 ghost use mathlib.Core.Path.{_≡_};
 ghost use lib.ListN.{length};
-ghost use Rattle.proof_reader.specs.Literals.{runAt};
+ghost use Rattle.proof_reader.specs.Inner.Literals.{runAt};
 ghost use Rattle.proof_reader.specs.Inner.Runs.{Runs};
 ghost use Rattle.proof_propagation.specs.Hint.{hintOf};
 ghost use Rattle.proof_propagation.specs.Inner.Standing.{Fits};

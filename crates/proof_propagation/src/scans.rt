@@ -6,8 +6,7 @@ ghost use mathlib.Core.Path.{_≡_};
 ghost use mathlib.Core.List.{_++_};
 ghost use lib.ListN.{length};
 ghost use Rattle.proof_propagation.specs.Hint.{hintOf};
-ghost use Rattle.proof_propagation.specs.Stored.{storedAt};
-ghost use Rattle.proof_propagation.specs.Inner.Standing.{Stands, InPart};
+ghost use Rattle.proof_propagation.specs.Inner.Standing.{storedAt, Stands, InPart};
 
 // The clause of a number: it stands in the words where it was given, and else in one of the proof's two slices, by its offset.
 pub fn scan_stored(

@@ -1,7 +1,7 @@
 -- A proof in two parts: what stands in the second part, by offsets that go through both. Assumes nothing.
 use Prim.Native.Nat.{ℕ, zero, suc, _+_, _-_, _<_, _≤_}
-use mathlib.Core.Path.{_≡_, refl, sym, ap, _∙_}
-use mathlib.Core.List.{List, _∷_, _++_}
+use mathlib.Core.Path.{_≡_, refl, sym, _∙_}
+use mathlib.Core.List.{List, _++_}
 use mathlib.Core.Bool.{Bool, true, false}
 use native.Mathlib.Omega.{arith}
 use lib.ListN.{length, length-append}
@@ -10,7 +10,7 @@ use lib.Dec.{ltb, leb}
 use borrow.Author.Tests.{ltb-true, ltb-false, lt-ltb, le-ltb, leb-true, leb-false, le-leb, lt-leb}
 use Rattle.slices.specs.Bytes.{entry, word}
 use Rattle.proof_reader.specs.Command.{commandAt}
-use Rattle.proof_reader.specs.Literals.{literalsAt, runAt}
+use Rattle.proof_reader.specs.Inner.Literals.{literalsAt, runAt}
 use Rattle.proof_reader.specs.Inner.Runs.{RunsFor, Runs}
 use Rattle.proof_reader.proofs.Running.{run-is}
 

@@ -7,7 +7,7 @@ use native.Mathlib.Numerals.{add-one}
 use lib.ListN.{length, length-append, List·getD-append, List·getD-eq-default}
 use borrow.Author.Tests.{ne-eqb}
 use Rattle.slices.specs.Bytes.{entry, word}
-use Rattle.proof_reader.specs.Literals.{literalsAt, runUpTo, runAt}
+use Rattle.proof_reader.specs.Inner.Literals.{literalsAt, runUpTo, runAt}
 use Rattle.proof_reader.specs.Inner.Runs.{Ones, RunsFor, Runs}
 
 -- a byte that is 1 is there

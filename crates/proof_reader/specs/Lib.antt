@@ -1,4 +1,3 @@
 pub mod Command
-pub mod Literals
 pub mod Encode
 pub mod Inner

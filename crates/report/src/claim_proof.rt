@@ -1,4 +1,5 @@
 // The proof of a claim: 16, then the check of the proof over the claim's clauses.
+use proof_check::Verdict;
 use proof_check::check_proof;
 use report_judgement::Proved;
 use report_judgement::Refusal;
@@ -6,7 +7,6 @@ use report_witness::Lead;
 use routine_faults::Counts;
 use routine_header::Header;
 use slices::Buffer;
-use proof_check::Verdict;
 use translation::Translated;
 use translation::fitting::fit;
 use translation_meaning::Size;

@@ -11,7 +11,7 @@ returns c = short _ _ _ _ (lt-ltb _ _ (c .if1 .taken))
 
 returns-2 : tie.Need-returns-2
 unfolding proveLeaves
-returns-2 c = prove-leaves _ _ _ _ _ _ _ _ _ _ _ _ _ (c .before .before .fill-prove .ensures) (c .before .before .before .before .before .before .before .before .before .before .check .ensures .0) (le-ltb _ _ (c .before .before .before .before .before .before .before .before .before .before .before .before .before .before .if1 .left))
+returns-2 c = prove-leaves _ _ _ _ _ _ _ _ _ _ _ _ (c .before .before .fill-prove .ensures) (c .before .before .before .before .before .before .before .before .prove .ensures .0) (le-ltb _ _ (c .before .before .before .before .before .before .before .before .before .before .before .if1 .left))
 
 pub pellet-prove-spec : {M : Type 1} → statement M
 pellet-prove-spec =
@@ -20,7 +20,6 @@ pellet-prove-spec =
     returns
     (λ c κs. search needs)
     (λ c κs. search needs)
-    (λ c. search needs)
     (λ c. search needs)
     (λ c. search needs)
     (λ c. search needs)

@@ -6,12 +6,12 @@ use mathlib.Core.Bool.{true, false}
 use lib.ListN.{length, replicate}
 use lib.Seq.{slice}
 use Rattle.cnf.specs.Clause.{flatten}
-use Rattle.proof_reader.specs.Literals.{literalsAt}
+use Rattle.proof_reader.specs.Inner.Literals.{literalsAt}
 use Rattle.proof_reader.specs.Inner.Runs.{Ones, RunsFor}
 use Rattle.proof_propagation.specs.Marks.{undecided}
-use Rattle.proof_propagation.specs.Stored.{startOf, storedOf}
+use Rattle.proof_propagation.specs.Stored.{startOf}
 use Rattle.proof_propagation.specs.Inner.Clear.{clear}
-use Rattle.proof_propagation.specs.Inner.Standing.{Fits, Stands, InPart}
+use Rattle.proof_propagation.specs.Inner.Standing.{storedOf, Fits, Stands, InPart}
 use Rattle.proof_check.specs.Phase.{going, inLiterals, conflicted}
 use Rattle.proof_check.specs.State.{State, Next, more, stop}
 use Rattle.proof_check.specs.Check as Check

@@ -2,7 +2,7 @@ use mathlib.Core.Path.{refl, sym, ap, _∙_}
 use mathlib.Core.List.{_++_}
 use borrow.Author.Tests.{not-true, not-false}
 use Rattle.proof_propagation.specs.Hint.{hintOf}
-use Rattle.proof_propagation.specs.Stored.{storedAt}
+use Rattle.proof_propagation.specs.Inner.Standing.{storedAt}
 use Rattle.proof_propagation.proofs.Standing.{first-length, first-at}
 use Rattle.proof_check.specs.Inner.Held.{stateOf}
 use Rattle.proof_check.specs.Inner.Rows.{saidBy}

@@ -1,10 +1,10 @@
 use Prim.Native.Nat.{ℕ, _-_}
-use mathlib.Core.Path.{_≡_, refl, sym, ap, _∙_}
+use mathlib.Core.Path.{_≡_, refl, sym, _∙_}
 use mathlib.Core.List.{_++_}
 use native.Mathlib.Omega.{arith}
 use lib.ListN.{length}
 use Rattle.proof_propagation.specs.declared.Hint.{Hint}
-use Rattle.proof_check.specs.Inner.Held.{stateOf, Parted}
+use Rattle.proof_check.specs.Inner.Held.{Parted}
 use Rattle.proof_check.proofs.Rowing.{Rowing, rowing-start, rowing-less, rowing-more, rowing-ends, row-takes, row-run, row-conflict, row-unit, row-fits}
 use Rattle.proof_check.proofs.Stopping.{parted-onward}
 use borrow.Author.Needs.{needs}

@@ -1,7 +1,7 @@
 use mathlib.Core.Path.{sym, _∙_}
 use mathlib.Core.List.{_++_}
 use native.Mathlib.Omega.{arith}
-use lib.ListN.{length, length-append}
+use lib.ListN.{length-append}
 use Rattle.proof_check.proofs.Turning.{step-literal, step-close, step-refused, step-end, step-unreadable}
 use borrow.Author.Needs.{needs}
 use Rattle.proof_check.proofs.turns.turn.Statement.{statement}

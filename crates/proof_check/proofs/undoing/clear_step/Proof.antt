@@ -2,7 +2,7 @@ use native.Mathlib.Omega.{arith}
 use mathlib.Core.Path.{_≡_, refl, ap, _∙_}
 use mathlib.Core.List.{_++_}
 use lib.ListN.{length, replicate}
-use Rattle.proof_propagation.specs.Stored.{storedOf}
+use Rattle.proof_propagation.specs.Inner.Standing.{storedOf}
 use Rattle.proof_check.specs.Inner.Undo.{Clean}
 use Rattle.proof_check.proofs.Cleaning.{clean-room, clean-less, clean-none}
 use Rattle.proof_check.proofs.undoing.clear_step.Statement.{statement}

@@ -3,7 +3,7 @@ use Prim.Native.Nat.{_-_}
 use native.Mathlib.Omega.{arith}
 use mathlib.Core.Path.{_≡_, refl, sym, _∙_}
 use lib.ListN.{length}
-use Rattle.proof_reader.specs.Literals.{runAt}
+use Rattle.proof_reader.specs.Inner.Literals.{runAt}
 use Rattle.proof_reader.specs.Inner.Runs.{Runs}
 use Rattle.proof_reader.proofs.Running.{run-none, run-read, runs-here, runs-next}
 use Rattle.proof_propagation.specs.Inner.Clear.{clear}

@@ -1,6 +1,4 @@
-use mathlib.Core.Path.{ap, _∙_}
 use native.Mathlib.Omega.{arith}
-use Prim.Native.Nat.{ℕ}
 use borrow.Author.Needs.{needs}
 use Rattle.report.proofs.Decided.{lead-refused, lead-proved}
 use Rattle.report.proofs.checks.decide_lead.Statement.{statement}
