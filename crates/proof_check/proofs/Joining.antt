@@ -21,7 +21,7 @@ use Rattle.proof_propagation.proofs.Standing.{first-same, stored-given, stored-
 use Rattle.proof_check.specs.Phase.{inLiterals}
 use Rattle.proof_check.specs.State.{State, Limits, Next, more, stop}
 use Rattle.proof_check.specs.Check.{onEnd, obey, step, Outcome, follow, run, finish}
-use Rattle.proof_check.specs.Inner.Held.{Store, stateOf, Ready}
+use Rattle.proof_check.specs.Inner.Held.{Store, stateOf, Ready, Parted}
 use Rattle.proof_check.specs.declared.Progress.{Progress}
 use Rattle.proof_check.specs.declared.Refusal.{Refusal}
 use Rattle.proof_check.specs.declared.Verdict.{Verdict}
@@ -139,3 +139,7 @@ module _ (w s m t r x : List ℕ) (p : Progress) (z : Ready w s m t r p) (f : in
         within = rw length-append (omega (arith, z .within));
         limit = limit;
       }
+
+  -- where the first part ended, the second goes on: each clause of a step lies in the first part
+  pub parted-joined : p .at ≡ length r → Parted r s p
+  parted-joined e = record { begun = omega arith; each = λ i k g _. z .store .each i k .runs g }
