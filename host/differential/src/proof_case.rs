@@ -38,6 +38,15 @@ impl ProofCase {
         parts.lend(rng, answer)
     }
 
+    /// Draws a case with at least so many words, whatever the proof needs.
+    pub fn draw_roomy(rng: &mut Rng, words: usize) -> Self {
+        let refutation = draw_refutation(rng);
+        let attempt = draw_attempt(rng, &refutation);
+        let mut parts = Parts::new(&refutation, attempt);
+        parts.words = parts.words.max(words);
+        parts.lend(rng, ANSWER_LEN)
+    }
+
     /// This proof with just so much room.
     pub fn lending(rng: &mut Rng, refutation: &Refutation, attempt: Attempt) -> Self {
         Parts::new(refutation, attempt).lend(rng, ANSWER_LEN)
