@@ -8,7 +8,7 @@ use Rattle.run.specs.declared.Ran.{Ran}
 use Rattle.translation.specs.declared.Translated.{Translated}
 use Rattle.proof.specs.declared.Checked as proof
 use Rattle.report_judgement.specs.declared.Judged.{Judged}
-use Rattle.report.specs.declared.Compared.{Compared}
+use Rattle.report_witness.specs.declared.Compared.{Compared}
 use Rattle.refusals.specs.Table.{routineRow, runRow, translationRow, proofRow, witnessRow, reportRow}
 use Rattle.refusals.specs.declared.Row.{Row}
 use Rattle.capi_answer.specs.Entry.{countsOf, stoppedOf, sizesOf, judgedOf, answerNumber}

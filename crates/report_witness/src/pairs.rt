@@ -1,13 +1,13 @@
 // Two reports on one routine, by their leads.
 use crate::Compared;
+use crate::Opening;
+use crate::leads::open;
 use lead::Target;
-use report_witness::Opening;
-use report_witness::leads::open;
 use routine_faults::Counts;
 use routine_header::Header;
 ghost use mathlib.Core.Path.{_≡_};
 ghost use Rattle.report_witness.specs.Inner.Fits.{Fits};
-ghost use Rattle.report.specs.Alike.{sameTarget, compared};
+ghost use Rattle.report_witness.specs.Pair.{sameTarget, compared};
 
 fn same_target(t: Target, u: Target) -> bool
     ensures { λ r. ⌜ r ≡ sameTarget t u ⌝ }

@@ -1,7 +1,7 @@
 use borrow.Author.Needs.{needs}
-use Rattle.report.proofs.Paired.{first-refused, second-refused, both-whole}
-use Rattle.report.proofs.pairs.compare.Statement.{statement}
-use Rattle.report.proofs.pairs.compare.Tie as tie
+use Rattle.report_witness.proofs.Paired.{first-refused, second-refused, both-whole}
+use Rattle.report_witness.proofs.pairs.compare.Statement.{statement}
+use Rattle.report_witness.proofs.pairs.compare.Tie as tie
 
 returns : tie.Need-returns
 returns c = first-refused _ _ _ _ _ (c .before .before .before .before .«open» .ensures) _ (c .before .of-one .given .1)
