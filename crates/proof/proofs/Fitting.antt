@@ -11,7 +11,7 @@ use lib.Seq.{slice, slice-cons, slice-empty}
 use lib.Dec.{ltb, leb, eqb}
 use borrow.Author.Tests.{leb-true, ltb-true, eqb-true, lt-ltb, le-ltb, le-leb, lt-leb, eq-eqb, ne-eqb}
 use Rattle.slices.specs.Bytes.{entry}
-use Rattle.proof_propagation.specs.Inner.Standing.{Fits}
+use Rattle.proof_propagation.specs.Inner.Standing.{HasMarks}
 use Rattle.proof_propagation.proofs.Cases.{and-true-l, and-true-r}
 use Rattle.proof_check.specs.Check.{ofVariable}
 use Rattle.proof.specs.Fit.{literalsFit, endAt, clauseFits, standing}
@@ -41,8 +41,8 @@ module _ (w : List ℕ) (n i to : ℕ) where
   fit-end h k = let e : i ≡ to = omega arith in rw (e, slice-empty to w) refl
 
 -- literals that fit are of variables that have a mark
-pub fit-fits : (n : ℕ) (c : List ℕ) → literalsFit n c ≡ true → Fits (n + 1) c
-unfolding literalsFit Fits
+pub fit-fits : (n : ℕ) (c : List ℕ) → literalsFit n c ≡ true → HasMarks (n + 1) c
+unfolding literalsFit HasMarks
 fit-fits n [] e = tt
 fit-fits n (l ∷ c) e =
     let v = and-true-l (ofVariable n l) (literalsFit n c) e in

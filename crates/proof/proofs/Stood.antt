@@ -11,7 +11,7 @@ use lib.Seq.{slice, length-slice}
 use Rattle.slices.specs.Bytes.{entry}
 use Rattle.cnf.specs.Clause.{Clause, flatten}
 use Rattle.proof_propagation.specs.Stored.{startOf, endOf, clauseAt, firstOf, clausesOf}
-use Rattle.proof_propagation.specs.Inner.Standing.{Fits}
+use Rattle.proof_propagation.specs.Inner.Standing.{HasMarks}
 use Rattle.proof_propagation.proofs.Standing.{stored-given, stored-all-given}
 use Rattle.proof_propagation.proofs.Cases.{both, from-or}
 use Rattle.proof_check.specs.Inner.Begins.{Begins}
@@ -44,7 +44,7 @@ record Laid (w s : List ℕ) (marks n i at used : ℕ) : Type 0 where
   room : used ≤ length w
   entries : i + n ≤ length s
   inside : (j : ℕ) → i ≤ j → j < i + n → endOf w s j ≤ length w
-  fits : (j : ℕ) → i ≤ j → j < i + n → Fits marks (clauseAt w s j)
+  fits : (j : ℕ) → i ≤ j → j < i + n → HasMarks marks (clauseAt w s j)
 
 module _ (w s : List ℕ) (v : ℕ) where
   -- one clause more, before the others

@@ -39,13 +39,13 @@ abbrev pub standIn : (words starts : List ℕ) → (clauses variables : ℕ) →
 standIn words starts clauses variables = stood (standing (part words) (part starts) variables clauses 0 0)
 
 -- what there is room for
-abbrev pub limitsIn : (words starts : List ℕ) → (variables : ℕ) → Limits
-limitsIn words starts variables = record { variables = variables; words = usable words; starts = usable starts; base = 0 }
+abbrev pub lentLimits : (words starts : List ℕ) → (variables : ℕ) → Limits
+lentLimits words starts variables = record { variables = variables; words = usable words; starts = usable starts; base = 0 }
 
 -- what is said of the proof, over the clauses that stand in the words
 abbrev pub verdictOn : (words starts r : List ℕ) → (from clauses variables : ℕ) → Verdict
 verdictOn words starts r from clauses variables =
-    checkProof (clausesOf (part words) (part starts) clauses) (limitsIn words starts variables) r from .verdict
+    checkProof (clausesOf (part words) (part starts) clauses) (lentLimits words starts variables) r from .verdict
 
 -- what `prove` answers: starts and marks are zeroed; where the buffers do not hold what is asked, they are left as they were
 unfoldable pub checking : (words starts marks r : List ℕ) → (from clauses variables : ℕ) → Checking

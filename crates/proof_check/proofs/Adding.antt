@@ -21,12 +21,13 @@ use Rattle.proof_reader.proofs.Reading.{Reads, reads}
 use Rattle.proof_reader.proofs.Running.{run-is, run-length}
 use Rattle.proof_propagation.specs.Marks.{undecided}
 use Rattle.proof_propagation.specs.Stored.{startOf, firstOf}
-use Rattle.proof_propagation.specs.Inner.Standing.{storedAt, storedOf, Fits, Stands}
+use Rattle.proof_propagation.specs.Inner.Standing.{storedAt, storedOf, HasMarks, Stands}
 use Rattle.proof_propagation.proofs.Cases.{below-or}
 use Rattle.proof_propagation.proofs.Standing.{first-length, first-same, stored-step, stored-same}
 use Rattle.proof_check.specs.Phase.{going, inLiterals, conflicted, phaseAfter}
 use Rattle.proof_check.specs.Inner.Stop.{refusedBy}
-use Rattle.proof_check.specs.State.{State, Limits, more, unless, size, afterClose}
+use Rattle.slices.specs.Guard.{unless}
+use Rattle.proof_check.specs.State.{State, Limits, more, size, afterClose}
 use Rattle.proof_check.specs.Check.{fresh, onClose}
 use Rattle.proof_check.specs.Lent.{limitsOf}
 use Rattle.proof_check.specs.Inner.Held.{Store, literalsOf, stateOf, Ready, Onward, Did, withClose}
@@ -130,7 +131,7 @@ module _ (w s m t r : List ℕ) (p : Progress) (z : Ready w s m t r p) (f : conf
       }
 
   ready-close : (phase : Phase) → conflicted phase ≡ false → going phase ≡ inLiterals phase → commandAt r (p .at) ≡ Command.Close → Ready w s′ m t r (withClose p phase)
-  unfolding Reads literalsAt Ones Fits
+  unfolding Reads literalsAt Ones HasMarks
   ready-close phase o g e =
       let read : Reads r (p .at) Command.Close = subst (λ (c : Command). Reads r (p .at) c) e (reads r (p .at)) in
       record {

@@ -6,7 +6,8 @@ use Rattle.slices.specs.Bytes.{word}
 use Rattle.cnf.specs.Clause.{Clause}
 use Rattle.proof_propagation.specs.Hint.{notFalse, allSame, ofLeft, hintOf}
 use Rattle.proof_reader.specs.Command.{commandAt}
-use Rattle.proof_check.specs.State.{Limits, unless}
+use Rattle.slices.specs.Guard.{unless}
+use Rattle.proof_check.specs.State.{Limits}
 use Rattle.proof_check.specs.Check.{fresh, onLiteral, afterHint, onHint, onClose, onEnd, obey, step, run, finish, checkProof}
 use Rattle.proof_check.specs.declared.Refusal.{Refusal}
 use Rattle.proof_check.specs.declared.Verdict.{Verdict}

@@ -6,7 +6,8 @@ use mathlib.Core.Bool.{true, false}
 use lib.ListN.{length}
 use borrow.Author.Tests.{le-leb, lt-leb}
 use Rattle.proof_check.specs.Phase.{going}
-use Rattle.proof_check.specs.State.{stop, unless}
+use Rattle.slices.specs.Guard.{unless}
+use Rattle.proof_check.specs.State.{stop}
 use Rattle.proof_check.specs.Check.{onEnd}
 use Rattle.proof_check.specs.Lent.{limitsOf}
 use Rattle.proof_check.specs.Inner.Held.{stateOf}

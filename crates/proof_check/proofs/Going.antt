@@ -9,7 +9,7 @@ use lib.Seq.{slice}
 use Rattle.proof_reader.specs.Inner.Literals.{literalsAt}
 use Rattle.proof_reader.specs.Inner.Runs.{Ones}
 use Rattle.proof_propagation.specs.Stored.{clausesOf}
-use Rattle.proof_propagation.specs.Inner.Standing.{storedOf, Fits}
+use Rattle.proof_propagation.specs.Inner.Standing.{storedOf, HasMarks}
 use Rattle.proof_propagation.proofs.Standing.{stored-all-given}
 use Rattle.proof_check.specs.State.{State, Limits, begin}
 use Rattle.proof_check.specs.Check.{step, Outcome, finish, checkProof}
@@ -115,7 +115,7 @@ module _ (r : List ℕ) (from base count used : ℕ) (w s m₀ : List ℕ) (b : 
   long = ap length unset ∙ length-replicate (length m₀) 0
 
   pub ready-start : (t : List ℕ) → Ready w s m t r (starting from count used)
-  unfolding literalsAt Ones Fits
+  unfolding literalsAt Ones HasMarks
   ready-start t =
       record {
         store = rw long (b .store);

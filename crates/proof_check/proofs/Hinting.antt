@@ -24,7 +24,8 @@ use Rattle.proof_propagation.proofs.Standing.{first-length, first-at, unit-in}
 use Rattle.proof_propagation.proofs.Clearing.{clear-marked}
 use Rattle.proof_check.specs.Phase.{going, inLiterals, conflicted}
 use Rattle.proof_check.specs.Inner.Undo.{touches, Clean}
-use Rattle.proof_check.specs.State.{State, Limits, more, stop, unless}
+use Rattle.slices.specs.Guard.{unless}
+use Rattle.proof_check.specs.State.{State, Limits, more, stop}
 use Rattle.proof_check.specs.Check.{afterHint, onHint}
 use Rattle.proof_check.specs.Lent.{limitsOf}
 use Rattle.proof_check.specs.Inner.Held.{stateOf, Ready, Trailed, Did, withHint}

@@ -15,7 +15,7 @@ use Rattle.proof_reader.specs.declared.Command.{Command}
 use Rattle.proof_reader.proofs.Reading.{Reads, reads, same-literal, same-hint, same-close}
 use Rattle.proof_reader.proofs.Running.{run-append}
 use Rattle.proof_propagation.specs.Stored.{startOf}
-use Rattle.proof_propagation.specs.Inner.Standing.{storedAt, storedOf, Fits}
+use Rattle.proof_propagation.specs.Inner.Standing.{storedAt, storedOf, HasMarks}
 use Rattle.proof_propagation.proofs.Cases.{both}
 use Rattle.proof_propagation.proofs.Standing.{first-same, stored-given, stored-step}
 use Rattle.proof_check.specs.Phase.{inLiterals}
@@ -117,7 +117,7 @@ module _ (w s m t r x : List ℕ) (p : Progress) (z : Ready w s m t r p) (f : in
   zeros = clean-none r (p .begin) (storedOf w s r (p .given) (p .count)) m (p .at) (omega arith) (z .clean)
 
   pub ready-joined : length q ≤ 16777216 → Ready w s m t q p
-  unfolding literalsAt Ones Fits
+  unfolding literalsAt Ones HasMarks
   ready-joined limit =
       record {
         store = store-joined;

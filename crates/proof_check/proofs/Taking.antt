@@ -24,7 +24,8 @@ use Rattle.proof_propagation.specs.Inner.Standing.{storedOf}
 use Rattle.proof_check.specs.Phase.{going, inLiterals}
 use Rattle.proof_check.specs.Inner.Stop.{refusedBy}
 use Rattle.proof_check.specs.Inner.Undo.{touches}
-use Rattle.proof_check.specs.State.{State, Limits, more, unless, size, afterLiteral}
+use Rattle.slices.specs.Guard.{unless}
+use Rattle.proof_check.specs.State.{State, Limits, more, size, afterLiteral}
 use Rattle.proof_check.specs.Check.{ofVariable, fresh, onLiteral}
 use Rattle.proof_check.specs.Lent.{limitsOf}
 use Rattle.proof_check.specs.Inner.Held.{literalsOf, stateOf, Ready, Did, withLiteral}

@@ -10,7 +10,8 @@ use Rattle.proof_propagation.specs.Hint.{hintOf}
 use Rattle.proof_propagation.specs.declared.Hint.{Hint}
 use Rattle.proof_reader.specs.Command.{commandAt}
 use Rattle.proof_check.specs.Phase.{going, inLiterals, conflicted}
-use Rattle.proof_check.specs.State.{State, Limits, Next, more, stop, unless, placeOf, undecidedAll, size, afterLiteral, hinted, afterClose, begin}
+use Rattle.slices.specs.Guard.{unless}
+use Rattle.proof_check.specs.State.{State, Limits, Next, more, stop, down, placeOf, undecidedAll, size, afterLiteral, hinted, afterClose, begin}
 use Rattle.proof_reader.specs.declared.Command.{Command}
 use Rattle.proof_check.specs.declared.Phase.{Phase}
 use Rattle.proof_check.specs.declared.Refusal.{Refusal}
@@ -29,42 +30,42 @@ fresh (k ∷ ks) l = not (eqb (variableOf k) (variableOf l)) && fresh ks l
 unfoldable pub onLiteral : Limits → State → ℕ → Next
 unfolding fresh
 onLiteral L s l =
-    unless (going (s .phase)) (Refusal.OutOfPlace (placeOf L s))
-    (unless (inLiterals (s .phase)) (Refusal.Literal (placeOf L s))
-    (unless (ofVariable (L .variables) l) (Refusal.Literal (placeOf L s))
-    (unless (fresh (s .literals) l) (Refusal.Literal (placeOf L s))
-    (unless (leb (size s + 1 + length (s .literals) + 1) (L .words)) (Refusal.Full (placeOf L s))
+    unless (going (s .phase)) (down (Refusal.OutOfPlace (placeOf L s)))
+    (unless (inLiterals (s .phase)) (down (Refusal.Literal (placeOf L s)))
+    (unless (ofVariable (L .variables) l) (down (Refusal.Literal (placeOf L s)))
+    (unless (fresh (s .literals) l) (down (Refusal.Literal (placeOf L s)))
+    (unless (leb (size s + 1 + length (s .literals) + 1) (L .words)) (down (Refusal.Full (placeOf L s)))
     (more (afterLiteral s l))))))
 
 -- what a hint's clause says: a conflict, after which the step reads no mark, so that every variable is undecided again; a literal that becomes true; or 20
 unfoldable pub afterHint : Limits → State → Hint → Next
 afterHint L s Hint.Conflict = more (hinted s (undecidedAll L) Phase.Conflict)
 afterHint L s (Hint.Unit l) = more (hinted s (set (s .marks) (variableOf l) (trueMark l)) Phase.Hints)
-afterHint L s Hint.Neither = stop (Verdict.Refused (Refusal.Neither (placeOf L s)))
+afterHint L s Hint.Neither = down (Refusal.Neither (placeOf L s))
 
 -- a hint: 23, 19, 22, 20
 unfoldable pub onHint : Limits → State → ℕ → Next
 unfolding afterHint
 onHint L s h =
-    unless (going (s .phase)) (Refusal.OutOfPlace (placeOf L s))
-    (unless (ltb h (length (s .clauses))) (Refusal.NoClause (placeOf L s))
-    (unless (not (conflicted (s .phase))) (Refusal.AfterConflict (placeOf L s))
+    unless (going (s .phase)) (down (Refusal.OutOfPlace (placeOf L s)))
+    (unless (ltb h (length (s .clauses))) (down (Refusal.NoClause (placeOf L s)))
+    (unless (not (conflicted (s .phase))) (down (Refusal.AfterConflict (placeOf L s)))
     (afterHint L s (hintOf (s .marks) (getD (s .clauses) h [])))))
 
 -- a close: 23, 21, and 25 where there is no word for the count, or no entry in the starts
 unfoldable pub onClose : Limits → State → Next
 onClose L s =
-    unless (going (s .phase)) (Refusal.OutOfPlace (placeOf L s))
-    (unless (conflicted (s .phase)) (Refusal.NoConflict (placeOf L s))
-    (unless (leb (size s + 1 + length (s .literals)) (L .words)) (Refusal.Full (placeOf L s))
-    (unless (ltb (length (s .clauses)) (L .starts)) (Refusal.Full (placeOf L s))
+    unless (going (s .phase)) (down (Refusal.OutOfPlace (placeOf L s)))
+    (unless (conflicted (s .phase)) (down (Refusal.NoConflict (placeOf L s)))
+    (unless (leb (size s + 1 + length (s .literals)) (L .words)) (down (Refusal.Full (placeOf L s)))
+    (unless (ltb (length (s .clauses)) (L .starts)) (down (Refusal.Full (placeOf L s)))
     (more (afterClose L s)))))
 
 -- the end: 23 without the empty clause, 24 where bytes follow
 unfoldable pub onEnd : Limits → List ℕ → State → Next
 onEnd L r s =
-    unless (not (going (s .phase))) (Refusal.OutOfPlace (placeOf L s))
-    (unless (leb (length r) (s .at + 1)) (Refusal.Trailing (placeOf L s + 1))
+    unless (not (going (s .phase))) (down (Refusal.OutOfPlace (placeOf L s)))
+    (unless (leb (length r) (s .at + 1)) (down (Refusal.Trailing (placeOf L s + 1)))
     (stop (Verdict.Accepted (s .steps) (s .hints))))
 
 -- one command: 17, then by its kind
@@ -74,7 +75,7 @@ obey L r s (Command.Literal l) = onLiteral L s l
 obey L r s (Command.Hint h) = onHint L s h
 obey L r s Command.Close = onClose L s
 obey L r s Command.End = onEnd L r s
-obey L r s Command.Unreadable = stop (Verdict.Refused (Refusal.Unreadable (placeOf L s)))
+obey L r s Command.Unreadable = down (Refusal.Unreadable (placeOf L s))
 
 -- the command where the state stands
 unfoldable pub step : Limits → List ℕ → State → Next

@@ -1,7 +1,6 @@
 -- The state of a check, and what follows a command.
 use Prim.Native.Nat.{ℕ, _+_}
 use mathlib.Core.List.{List, [], _∷_, _++_}
-use mathlib.Core.Bool.{Bool, cond}
 use lib.ListN.{length, set, replicate}
 use Rattle.cnf.specs.Clause.{Clause, flatten}
 use Rattle.proof_propagation.specs.Marks.{variableOf, falseMark}
@@ -32,9 +31,9 @@ pub data Next : Type 0 where
   more : State → Next
   stop : Verdict → Next
 
--- turned down, unless the test holds
-unfoldable pub unless : Bool → Refusal → Next → Next
-unless test refusal go = cond test go (stop (Verdict.Refused refusal))
+-- the proof is turned down
+abbrev pub down : Refusal → Next
+down refusal = stop (Verdict.Refused refusal)
 
 -- the place of the next command
 abbrev pub placeOf : Limits → State → ℕ

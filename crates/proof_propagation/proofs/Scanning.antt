@@ -12,7 +12,7 @@ use Rattle.cnf.specs.Clause.{Clause}
 use Rattle.proof_propagation.specs.Marks.{isFalse, undecided}
 use Rattle.proof_propagation.specs.Hint.{notFalse, allSame, ofLeft, hintOf}
 use Rattle.proof_propagation.specs.Inner.Scan.{scanOf, FoundFits}
-use Rattle.proof_propagation.specs.Inner.Standing.{Fits}
+use Rattle.proof_propagation.specs.Inner.Standing.{HasMarks}
 use Rattle.proof_propagation.specs.declared.Hint.{Hint}
 
 pub scan-start : (m : List ℕ) (c : Clause) → scanOf m 0 c ≡ hintOf m c
@@ -63,18 +63,18 @@ pub slice-none : (words : List ℕ) (i to : ℕ) → i ≤ to → to ≤ i → s
 slice-none words i to h k = let e : i ≡ to = omega arith in rw (e, slice-empty to words) refl
 
 -- the first literal of a clause, and the others, are of variables that have a mark
-pub fits-parts : (n : ℕ) (c : Clause) (l : ℕ) (d : Clause) → Fits n c → c ≡ l ∷ d → ((2 ≤ l) × (l / 2 < n)) × Fits n d
-unfolding Fits
+pub fits-parts : (n : ℕ) (c : Clause) (l : ℕ) (d : Clause) → HasMarks n c → c ≡ l ∷ d → ((2 ≤ l) × (l / 2 < n)) × HasMarks n d
+unfolding HasMarks
 fits-parts n c l d f e = rw e at f
 
 -- ---- a scan on its way: a literal found, or none, and a rest of the whole clause
 
 pub record Scanned (m : List ℕ) (whole : Clause) (f : ℕ) (c : Clause) : Type 0 where
   pub found : FoundFits m f
-  pub fits : Fits (length m) c
+  pub fits : HasMarks (length m) c
   pub says : scanOf m f c ≡ hintOf m whole
 
-pub scanned-start : (m : List ℕ) (whole : Clause) → Fits (length m) whole → Scanned m whole 0 whole
+pub scanned-start : (m : List ℕ) (whole : Clause) → HasMarks (length m) whole → Scanned m whole 0 whole
 scanned-start m whole f = record { found = λ n. absurd (n refl); fits = f; says = scan-start m whole }
 
 pub scanned-end : (m : List ℕ) (whole : Clause) (f : ℕ) (c : Clause) → Scanned m whole f c → c ≡ [] → scanOf m f [] ≡ hintOf m whole
@@ -85,7 +85,7 @@ module _ (m : List ℕ) (whole : Clause) (f : ℕ) (c : Clause) (l : ℕ) (d : C
   two : 2 ≤ l
   two = fits-parts (length m) c l d (z .fits) e .0 .0
 
-  rest : Fits (length m) d
+  rest : HasMarks (length m) d
   rest = fits-parts (length m) c l d (z .fits) e .1
 
   pub scanned-false : (g : ℕ) → isFalse m l ≡ true → g ≡ f → Scanned m whole g d
@@ -103,12 +103,12 @@ module _ (m : List ℕ) (whole : Clause) (f : ℕ) (c : Clause) (l : ℕ) (d : C
 -- ---- a count on its way: how many literals passed were not false, and the last of these
 
 pub record Counted (m : List ℕ) (whole : Clause) (left f : ℕ) (c : Clause) : Type 0 where
-  pub fits : Fits (length m) c
+  pub fits : HasMarks (length m) c
   pub found : FoundFits m f
   pub none : left ≡ 0 → (f ≡ 0) × (notFalse m whole ≡ notFalse m c)
   pub one : left ≡ 1 → (f ≡ 0 → ⊥) × (notFalse m whole ≡ f ∷ notFalse m c)
 
-pub counted-start : (m : List ℕ) (whole : Clause) → Fits (length m) whole → Counted m whole 0 0 whole
+pub counted-start : (m : List ℕ) (whole : Clause) → HasMarks (length m) whole → Counted m whole 0 0 whole
 counted-start m whole f = record { fits = f; found = λ n. absurd (n refl); none = λ _. (refl, refl); one = λ e. absurd (omega arith) }
 
 -- where no more than one was, it tells what the clause says
@@ -123,7 +123,7 @@ module _ (m : List ℕ) (whole : Clause) (left f : ℕ) (c : Clause) (l : ℕ) (
   first : (2 ≤ l) × (l / 2 < length m)
   first = fits-parts (length m) c l d (z .fits) e .0
 
-  others : Fits (length m) d
+  others : HasMarks (length m) d
   others = fits-parts (length m) c l d (z .fits) e .1
 
   pub counted-false : isFalse m l ≡ true → left′ ≡ left → f′ ≡ f → Counted m whole left′ f′ d

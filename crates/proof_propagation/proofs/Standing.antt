@@ -16,7 +16,7 @@ use Rattle.proof_reader.proofs.Past.{run-past}
 use Rattle.proof_propagation.specs.Marks.{isFalse, undecided}
 use Rattle.proof_propagation.specs.Hint.{notFalse, allSame, ofLeft, hintOf}
 use Rattle.proof_propagation.specs.Stored.{startOf, clauseAt, firstOf, clausesOf}
-use Rattle.proof_propagation.specs.Inner.Standing.{storedAt, storedOf, Fits}
+use Rattle.proof_propagation.specs.Inner.Standing.{storedAt, storedOf, HasMarks}
 use Rattle.proof_propagation.specs.declared.Hint.{Hint}
 use Rattle.proof_propagation.proofs.Cases.{both, below-or}
 
@@ -103,22 +103,22 @@ pub unit-in : (m : List ℕ) (l : ℕ) (c : Clause) → hintOf m c ≡ Hint.Unit
 unfolding hintOf
 unit-in m l c e = in-left m l c (left-in m l (notFalse m c) e)
 
-fits-in : (n l : ℕ) (c : Clause) → Fits n c → In l c → l / 2 < n
-unfolding Fits In
+fits-in : (n l : ℕ) (c : Clause) → HasMarks n c → In l c → l / 2 < n
+unfolding HasMarks In
 fits-in n l [] f h = absurd h
 fits-in n l (x ∷ c) f h = ⊎-elim (λ q. rw q (f .0 .1)) (λ k. fits-in n l c (f .1) k) h
 
-pub unit-fits : (n : ℕ) (m : List ℕ) (l : ℕ) (c : Clause) → Fits n c → hintOf m c ≡ Hint.Unit l → l / 2 < n
+pub unit-fits : (n : ℕ) (m : List ℕ) (l : ℕ) (c : Clause) → HasMarks n c → hintOf m c ≡ Hint.Unit l → l / 2 < n
 unit-fits n m l c f e = fits-in n l c f (unit-in m l c e)
 
 -- ---- literals of variables that have a mark
 
-pub fits-snoc : (n : ℕ) (c : Clause) (l : ℕ) → Fits n c → 2 ≤ l → l / 2 < n → Fits n (c ++ (l ∷ []))
-unfolding Fits
+pub fits-snoc : (n : ℕ) (c : Clause) (l : ℕ) → HasMarks n c → 2 ≤ l → l / 2 < n → HasMarks n (c ++ (l ∷ []))
+unfolding HasMarks
 fits-snoc n [] l f a b = ((a, b), tt)
 fits-snoc n (x ∷ c) l f a b = (f .0, fits-snoc n c l (f .1) a b)
 
-pub fits-by : (n : ℕ) (c : Clause) → ((j : ℕ) → j < length c → (2 ≤ getD c j 0) × (getD c j 0 / 2 < n)) → Fits n c
-unfolding Fits
+pub fits-by : (n : ℕ) (c : Clause) → ((j : ℕ) → j < length c → (2 ≤ getD c j 0) × (getD c j 0 / 2 < n)) → HasMarks n c
+unfolding HasMarks
 fits-by n [] h = tt
 fits-by n (x ∷ c) h = (h 0 (omega arith), fits-by n c (λ j k. h (suc j) (omega arith)))

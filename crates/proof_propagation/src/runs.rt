@@ -8,12 +8,12 @@ ghost use lib.ListN.{length};
 ghost use Rattle.proof_reader.specs.Inner.Literals.{runAt};
 ghost use Rattle.proof_reader.specs.Inner.Runs.{Runs};
 ghost use Rattle.proof_propagation.specs.Hint.{hintOf};
-ghost use Rattle.proof_propagation.specs.Inner.Standing.{Fits};
+ghost use Rattle.proof_propagation.specs.Inner.Standing.{HasMarks};
 
 // What they say, each compared with the one found: a literal that comes again is the same one.
 fn compare_run(proof: &[u8], marks: &[u8], at: usize) -> Hint
     requires { ⌜ Runs (now proof) at ⌝ }
-    requires { ⌜ Fits (length (now marks)) (runAt (now proof) at) ⌝ }
+    requires { ⌜ HasMarks (length (now marks)) (runAt (now proof) at) ⌝ }
     ensures { λ r. ⌜ r ≡ hintOf (now (marks .entry)) (runAt (now (proof .entry)) at) ⌝ }
 {
     let mut found: u32 = 0;
@@ -35,7 +35,7 @@ fn compare_run(proof: &[u8], marks: &[u8], at: usize) -> Hint
 // The same, as `scan_words` does it.
 pub fn scan_run(proof: &[u8], marks: &[u8], at: usize) -> Hint
     requires { ⌜ Runs (now proof) at ⌝ }
-    requires { ⌜ Fits (length (now marks)) (runAt (now proof) at) ⌝ }
+    requires { ⌜ HasMarks (length (now marks)) (runAt (now proof) at) ⌝ }
     ensures { λ r. ⌜ r ≡ hintOf (now (marks .entry)) (runAt (now (proof .entry)) at) ⌝ }
 {
     let mut left: usize = 0;

@@ -7,13 +7,13 @@ ghost use Prim.Native.Nat.{_≤_};
 ghost use lib.ListN.{length};
 ghost use lib.Seq.{slice};
 ghost use Rattle.proof_propagation.specs.Hint.{hintOf};
-ghost use Rattle.proof_propagation.specs.Inner.Standing.{Fits};
+ghost use Rattle.proof_propagation.specs.Inner.Standing.{HasMarks};
 
 // What they say, each compared with the one found: a literal that comes again is the same one.
 fn compare_words(words: &[u32], marks: &[u8], from: usize, to: usize) -> Hint
     requires { ⌜ from ≤ to ⌝ }
     requires { ⌜ to ≤ length (now words) ⌝ }
-    requires { ⌜ Fits (length (now marks)) (slice from to (now words)) ⌝ }
+    requires { ⌜ HasMarks (length (now marks)) (slice from to (now words)) ⌝ }
     ensures { λ r. ⌜ r ≡ hintOf (now (marks .entry)) (slice from to (now (words .entry))) ⌝ }
 {
     let mut found: u32 = 0;
@@ -37,7 +37,7 @@ fn compare_words(words: &[u32], marks: &[u8], from: usize, to: usize) -> Hint
 pub fn scan_words(words: &[u32], marks: &[u8], from: usize, to: usize) -> Hint
     requires { ⌜ from ≤ to ⌝ }
     requires { ⌜ to ≤ length (now words) ⌝ }
-    requires { ⌜ Fits (length (now marks)) (slice from to (now words)) ⌝ }
+    requires { ⌜ HasMarks (length (now marks)) (slice from to (now words)) ⌝ }
     ensures { λ r. ⌜ r ≡ hintOf (now (marks .entry)) (slice from to (now (words .entry))) ⌝ }
 {
     let mut left: usize = 0;

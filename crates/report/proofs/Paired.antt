@@ -10,7 +10,7 @@ use Rattle.routine.specs.declared.Refusal as declared
 use Rattle.routine.proofs.Accepted.{accepted, refused-by}
 use Rattle.lead.specs.declared.Refusal as lead
 use Rattle.report_witness.specs.Pair.{compared}
-use Rattle.report_witness.specs.Inner.Fits.{Fits}
+use Rattle.report_witness.specs.Inner.LeadFits.{LeadFits}
 use Rattle.report_witness.specs.declared.Compared.{Compared}
 use Rattle.report_witness.specs.declared.Refusal as witness
 use Rattle.report_witness.proofs.Reading.{fits}
@@ -22,7 +22,7 @@ module _ (bs : List ℕ) (x : Checked) (is : x ≡ checked bs) where
   unfolding alike
   no-pair first second refusal e = rw (refused-by bs refusal x is e) refl
 
-  pub fits-leads : (h : Header) (k : Counts) → x ≡ Checked.Accepted h k → Fits h k
+  pub fits-leads : (h : Header) (k : Counts) → x ≡ Checked.Accepted h k → LeadFits h k
   fits-leads h k e = let y = accepted bs h k x is e in fits bs h k (record { commands = y .arm; decodes = y .decodes })
 
   pub paired : (first second : List ℕ) (h : Header) (k : Counts) → x ≡ Checked.Accepted h k → (c : Compared) → c ≡ compared first second h k

@@ -19,7 +19,7 @@ use Rattle.routine.proofs.Counting.{few-ifs, few-accesses}
 use Rattle.lead.specs.Lead.{admittedLead}
 use Rattle.lead.specs.declared.AdmittedLead.{AdmittedLead}
 use Rattle.report_witness.specs.Lead.{proofAt, wordsFrom, leadIn, decisionsOf, inputsOf, turnedDown, byAdmitted, opened}
-use Rattle.report_witness.specs.Inner.Fits.{Fits}
+use Rattle.report_witness.specs.Inner.LeadFits.{LeadFits}
 use Rattle.report_witness.specs.declared.Lead.{Lead}
 use Rattle.report_witness.specs.declared.Refusal.{Refusal}
 use Rattle.report_witness.specs.declared.Opening.{Opening}
@@ -29,7 +29,7 @@ use Rattle.report_witness.proofs.Padding.{words-length}
 -- ---- a routine's lead fits the arrays
 
 module _ (bs : List ℕ) (h : Header) (k : Counts) (i : IsRoutineWith bs h k) where
-  pub fits : Fits h k
+  pub fits : LeadFits h k
   fits =
       let f = fine bs h (decoded bs h (i .commands) k (i .decodes) .header) in
       record {

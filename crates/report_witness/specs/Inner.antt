@@ -1,2 +1,2 @@
 -- What inner functions ask and tell each other. No promise of a public call rests on it.
-pub mod Fits
+pub mod LeadFits

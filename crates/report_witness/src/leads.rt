@@ -15,7 +15,7 @@ ghost use mathlib.Core.Path.{_≡_};
 ghost use Prim.Native.Nat.{_≤_};
 ghost use lib.ListN.{length};
 ghost use Rattle.report_witness.specs.Lead.{proofAt, leadIn, turnedDown, opened};
-ghost use Rattle.report_witness.specs.Inner.Fits.{Fits};
+ghost use Rattle.report_witness.specs.Inner.LeadFits.{LeadFits};
 
 // Where the proof begins.
 pub fn proof_at(h: Header, k: Counts) -> usize
@@ -42,7 +42,7 @@ fn turn_down(refusal: Refusal) -> Opened
 
 // The lead of a report that is long enough for it.
 fn read_lead(report: &[u8], h: Header, k: Counts) -> Lead
-    requires { ⌜ Fits h k × (proofAt h k ≤ length (now report)) ⌝ }
+    requires { ⌜ LeadFits h k × (proofAt h k ≤ length (now report)) ⌝ }
     ensures { λ r. ⌜ r ≡ leadIn (now (report .entry)) h k ⌝ }
 {
     let ifs = k.ifs as usize;
@@ -61,7 +61,7 @@ fn read_lead(report: &[u8], h: Header, k: Counts) -> Lead
 
 // Reads the lead of a report on a routine with these counts, if 11 and 12 let it through.
 pub fn open(report: &[u8], h: Header, k: Counts) -> Opened
-    requires { ⌜ Fits h k ⌝ }
+    requires { ⌜ LeadFits h k ⌝ }
     ensures { λ r. ⌜ r ≡ opened (now (report .entry)) h k ⌝ }
 {
     if 16777216 < report.len() {

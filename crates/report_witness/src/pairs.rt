@@ -6,7 +6,7 @@ use lead::Target;
 use routine_faults::Counts;
 use routine_header::Header;
 ghost use mathlib.Core.Path.{_≡_};
-ghost use Rattle.report_witness.specs.Inner.Fits.{Fits};
+ghost use Rattle.report_witness.specs.Inner.LeadFits.{LeadFits};
 ghost use Rattle.report_witness.specs.Pair.{sameTarget, compared};
 
 fn same_target(t: Target, u: Target) -> bool
@@ -17,7 +17,7 @@ fn same_target(t: Target, u: Target) -> bool
 
 // 11 and 12 of the first, then of the second.
 pub fn compare(first: &[u8], second: &[u8], h: Header, k: Counts) -> Compared
-    requires { ⌜ Fits h k ⌝ }
+    requires { ⌜ LeadFits h k ⌝ }
     ensures { λ r. ⌜ r ≡ compared (now (first .entry)) (now (second .entry)) h k ⌝ }
 {
     let one = open(first, h, k);

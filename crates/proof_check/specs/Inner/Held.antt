@@ -11,7 +11,7 @@ use Rattle.proof_reader.specs.Inner.Runs.{Ones, RunsFor}
 use Rattle.proof_propagation.specs.Marks.{undecided}
 use Rattle.proof_propagation.specs.Stored.{startOf}
 use Rattle.proof_propagation.specs.Inner.Clear.{clear}
-use Rattle.proof_propagation.specs.Inner.Standing.{storedOf, Fits, Stands, InPart}
+use Rattle.proof_propagation.specs.Inner.Standing.{storedOf, HasMarks, Stands, InPart}
 use Rattle.proof_check.specs.Phase.{going, inLiterals, conflicted}
 use Rattle.proof_check.specs.State.{State, Next, more, stop}
 use Rattle.proof_check.specs.Check as Check
@@ -52,7 +52,7 @@ Trailed marks trail r p = p .decided ≤ length trail → clear (clear marks (sl
 -- what is known between two commands
 pub record Ready (words starts marks trail r : List ℕ) (p : Progress) : Type 0 where
   pub store : Store words starts r (p .given) (length marks) (p .count) (p .used)
-  pub fits : Fits (length marks) (literalsOf r p)
+  pub fits : HasMarks (length marks) (literalsOf r p)
   -- while no hint came, only literals did, and just their variables are decided
   pub among : inLiterals (p .phase) ≡ true → (p .at ≡ p .begin + p .literals * 5) × Ones r (p .begin) (p .literals)
   pub fresh : inLiterals (p .phase) ≡ true → (l : ℕ) → undecided marks l ≡ Check.fresh (literalsOf r p) l

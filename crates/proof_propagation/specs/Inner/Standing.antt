@@ -19,16 +19,16 @@ abbrev pub storedOf : (words starts r : List ℕ) → (given n : ℕ) → List C
 storedOf words starts r given n = firstOf (storedAt words starts r given) n
 
 -- the literals are of variables that have a mark
-unfoldable pub Fits : ℕ → Clause → Type 0
-Fits marks [] = Prim.Unit {0}
-Fits marks (l ∷ c) = ((2 ≤ l) × (l / 2 < marks)) × Fits marks c
+unfoldable pub HasMarks : ℕ → Clause → Type 0
+HasMarks marks [] = Prim.Unit {0}
+HasMarks marks (l ∷ c) = ((2 ≤ l) × (l / 2 < marks)) × HasMarks marks c
 
 -- clause i lies within the words, or is a run of literals in the proof, and its literals are of variables that have a mark
 pub record Stands (words starts r : List ℕ) (given marks i : ℕ) : Type 0 where
   pub listed : i < length starts
   pub inside : i < given → endOf words starts i ≤ length words
   pub runs : given ≤ i → Runs r (startOf starts i)
-  pub fits : Fits marks (storedAt words starts r given i)
+  pub fits : HasMarks marks (storedAt words starts r given i)
 
 -- a run that begins in the first part of a proof ends there
 abbrev pub InPart : (first starts : List ℕ) → (given i : ℕ) → Type 0

@@ -4,7 +4,7 @@ use mathlib.Core.Path.{sym, ap, subst, _∙_}
 use lib.ListN.{length}
 use Rattle.proof_propagation.specs.Stored.{clauseAt}
 use Rattle.proof_propagation.specs.Hint.{hintOf}
-use Rattle.proof_propagation.specs.Inner.Standing.{Fits}
+use Rattle.proof_propagation.specs.Inner.Standing.{HasMarks}
 use Rattle.proof_propagation.proofs.Standing.{stored-given, stored-first, stored-second}
 use Rattle.proof_propagation.proofs.scans.scan_stored.Statement.{statement}
 use Rattle.proof_propagation.proofs.scans.scan_stored.Tie as tie
@@ -44,14 +44,14 @@ scan-run-requires c κs =
     let z = c .before .before .before .before .before .before .before .before in
     let a = z .args in
     let r = z .pre .1 (c .before .if1 .left) (c .if2 .taken) in
-    (r, subst (Fits (length (a .marks .now))) (stored-first (a .words .now) (a .starts .now) (a .closed .now) (a .proof .now) (a .given) (a .number) (c .before .if1 .left) r) (z .pre .0 .fits))
+    (r, subst (HasMarks (length (a .marks .now))) (stored-first (a .words .now) (a .starts .now) (a .closed .now) (a .proof .now) (a .given) (a .number) (c .before .if1 .left) r) (z .pre .0 .fits))
 
 scan-run-requires-2 : tie.Need-scan-run-requires-2
 scan-run-requires-2 c κs =
     let z = c .before .before .before .before .before .before .before .before in
     let a = z .args in
     let s = stored-second (a .words .now) (a .starts .now) (a .closed .now) (a .proof .now) (a .given) (a .number) (c .before .if1 .left) (c .if2 .left) (z .pre .0 .runs (c .before .if1 .left)) in
-    (s .0, subst (Fits (length (a .marks .now))) (s .1) (z .pre .0 .fits))
+    (s .0, subst (HasMarks (length (a .marks .now))) (s .1) (z .pre .0 .fits))
 
 returns-2 : tie.Need-returns-2
 returns-2 c =

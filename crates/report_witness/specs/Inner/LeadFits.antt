@@ -5,6 +5,6 @@ use Rattle.routine_faults.specs.Inputs.{inputCount}
 use Rattle.routine_faults.specs.declared.Counts.{Counts}
 
 -- the decisions and the inputs of a lead fit its arrays
-pub record Fits (h : Header) (k : Counts) : Type 0 where
+pub record LeadFits (h : Header) (k : Counts) : Type 0 where
   pub decisions : k .ifs ≤ 32
   pub inputs : inputCount h k ≤ 96
