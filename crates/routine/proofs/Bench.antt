@@ -25,3 +25,14 @@ bench :
     ≡ Checked.Refused (Refusal.Command Fault.Misplaced 15))
 unfolding half word within sizeOk firstBad headerOf commandBy commandAt inRange widthsFit tooMany simpleStep ifStep stepOf armBy decode checked
 bench = (refl, refl, refl, refl, refl, refl, refl)
+
+-- divisions, in turn: a quotient and a remainder; 0x10, the first unknown byte; a quotient that the end cuts short; a divisor that is no variable; two widths
+divisions :
+    (checked (0x01 ∷ 0x02 ∷ 0x08 ∷ 0x04 ∷ 0x00 ∷ 0x00 ∷ 0x0E ∷ 0x00 ∷ 0x00 ∷ 0x00 ∷ 0x0F ∷ 0x01 ∷ 0x01 ∷ 0x01 ∷ 0x00 ∷ [])
+    ≡ Checked.Accepted (record { variables = 2; parameters = 0; arrays = 0 }) (record { ifs = 0; reads = 0; writes = 0 }))
+    × (checked (0x01 ∷ 0x02 ∷ 0x08 ∷ 0x04 ∷ 0x00 ∷ 0x00 ∷ 0x10 ∷ 0x00 ∷ 0x00 ∷ 0x00 ∷ 0x00 ∷ []) ≡ Checked.Refused (Refusal.Command Fault.Unknown 6))
+    × (checked (0x01 ∷ 0x02 ∷ 0x08 ∷ 0x04 ∷ 0x00 ∷ 0x00 ∷ 0x0E ∷ 0x00 ∷ 0x00 ∷ []) ≡ Checked.Refused (Refusal.Command Fault.Unknown 6))
+    × (checked (0x01 ∷ 0x02 ∷ 0x08 ∷ 0x04 ∷ 0x00 ∷ 0x00 ∷ 0x0F ∷ 0x00 ∷ 0x00 ∷ 0x02 ∷ 0x00 ∷ []) ≡ Checked.Refused (Refusal.Command Fault.Operand 6))
+    × (checked (0x01 ∷ 0x02 ∷ 0x08 ∷ 0x04 ∷ 0x00 ∷ 0x00 ∷ 0x0E ∷ 0x00 ∷ 0x00 ∷ 0x01 ∷ 0x00 ∷ []) ≡ Checked.Refused (Refusal.Command Fault.Widths 6))
+unfolding half word within sizeOk firstBad headerOf commandBy commandAt inRange widthsFit tooMany simpleStep ifStep stepOf armBy decode checked
+divisions = (refl, refl, refl, refl, refl)

@@ -70,7 +70,7 @@ size-same false false false false false false false op a b c k = refl
 pub size-by : (op a b c k : ℕ) → commandSize (commandBy op a b c k) ≡ sizeByOp op
 unfolding commandBy
 size-by op a b c k =
-    size-same (eqb op 1) (eqb op 2 || between 6 8 op) (between 3 5 op) (eqb op 9) (eqb op 10) (eqb op 11) (eqb op 0 || between 12 13 op) op a b c k
+    size-same (eqb op 1) (eqb op 2 || between 6 8 op) (between 3 5 op || between 14 15 op) (eqb op 9) (eqb op 10) (eqb op 11) (eqb op 0 || between 12 13 op) op a b c k
 
 -- so a command's size is that of its byte
 pub size-at : (bs : List ℕ) (at : ℕ) → commandSize (commandOf bs at) ≡ sizeByOp (entry bs at)

@@ -45,7 +45,7 @@ unfoldable pub commandBy : (op a b c const : ℕ) → Command
 commandBy op a b c const =
     cond (eqb op 0x01) (Command.Simple (Simple.Set a const))
     (cond (eqb op 0x02 || between 0x06 0x08 op) (Command.Simple (Simple.Convert op a b))
-    (cond (between 0x03 0x05 op) (Command.Simple (Simple.Compute op a b c))
+    (cond (between 0x03 0x05 op || between 0x0E 0x0F op) (Command.Simple (Simple.Compute op a b c))
     (cond (eqb op 0x09) (Command.Simple (Simple.Read a b c))
     (cond (eqb op 0x0A) (Command.Simple (Simple.Write a b c))
     (cond (eqb op 0x0B) (Command.If (record { relation = a; s = b; t = c }))

@@ -54,6 +54,7 @@ pub fn size_by_op(op: u8) -> usize
         0x03..=0x05 => 4,
         0x06..=0x08 => 3,
         0x09..=0x0B => 4,
+        0x0E..=0x0F => 4,
         _ => 1,
     }
 }
@@ -94,7 +95,7 @@ fn long_command(bytes: &[u8], at: usize, op: u8) -> Command
             d: a,
             c: whole_word_at(bytes, at + 2),
         }),
-        0x03..=0x05 => Command::Simple(Simple::Compute {
+        0x03..=0x05 | 0x0E..=0x0F => Command::Simple(Simple::Compute {
             op,
             d: a,
             s: b,

@@ -13,7 +13,7 @@ pub enum Simple {
     Set { d: u8, c: u32 },
     // 0x02 copy, 0x06 cut, 0x07 zero-extend, 0x08 sign-extend
     Convert { op: u8, d: u8, s: u8 },
-    // 0x03 add, 0x04 subtract, 0x05 multiply
+    // 0x03 add, 0x04 subtract, 0x05 multiply, 0x0E quotient, 0x0F remainder
     Compute { op: u8, d: u8, s: u8, t: u8 },
     Read { d: u8, array: u8, i: u8 },
     Write { array: u8, i: u8, s: u8 },

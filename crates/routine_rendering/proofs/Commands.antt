@@ -40,7 +40,7 @@ whole-here ys c e l = let m : commandSize c ≤ length ys - 0 = omega arith in s
 abbrev pub Kind : Simple → Type 0
 Kind (Simple.Set d c) = c < 4294967296
 Kind (Simple.Convert op d s) = (op ≡ 0x02) ⊎ Between 0x06 0x08 op
-Kind (Simple.Compute op d s t) = Between 0x03 0x05 op
+Kind (Simple.Compute op d s t) = Between 0x03 0x05 op ⊎ Between 0x0E 0x0F op
 Kind (Simple.Read d array i) = Unit {0}
 Kind (Simple.Write array i s) = Unit {0}
 
@@ -54,10 +54,21 @@ module _ (op a b c k : ℕ) where
   by-convert (inl e) = rw e
   by-convert (inr l) = simp (ne-eqb op 1 (λ e. omega arith), ne-eqb op 2 (λ e. omega arith), le-leb 6 op (l .low), le-leb op 8 (l .high))
 
-  by-compute : Between 0x03 0x05 op → commandBy op a b c k ≡ Command.Simple (Simple.Compute op a b c)
+  by-compute : Between 0x03 0x05 op ⊎ Between 0x0E 0x0F op → commandBy op a b c k ≡ Command.Simple (Simple.Compute op a b c)
   unfolding commandBy
-  by-compute l =
+  by-compute (inl l) =
       simp (ne-eqb op 1 (λ e. omega arith), ne-eqb op 2 (λ e. omega arith), lt-leb 6 op (omega arith), le-leb 3 op (l .low), le-leb op 5 (l .high))
+  by-compute (inr l) =
+      simp (
+        ne-eqb op 1 (λ e. omega arith),
+        ne-eqb op 2 (λ e. omega arith),
+        le-leb 6 op (omega arith),
+        lt-leb op 8 (omega arith),
+        le-leb 3 op (omega arith),
+        lt-leb op 5 (omega arith),
+        le-leb 14 op (l .low),
+        le-leb op 15 (l .high),
+      )
 
   by-close : Mark op → commandBy op a b c k ≡ Command.Close op
   unfolding commandBy
@@ -74,6 +85,7 @@ module _ (op a b c k : ℕ) where
         lt-leb op 8 (omega arith),
         le-leb 3 op (omega arith),
         lt-leb op 5 (omega arith),
+        lt-leb 14 op (omega arith),
         le-leb 12 op (l .low),
         le-leb op 13 (l .high),
       )
@@ -109,9 +121,9 @@ from-between : (lo hi n : ℕ) → between lo hi n ≡ true → Between lo hi n
 from-between lo hi n e = let p = both (leb lo n) (leb n hi) e in record { low = leb-true _ _ (p .0); high = leb-true _ _ (p .1) }
 
 -- one of two tests held
-either : (m lo hi n : ℕ) → (b : Bool) → eqb n m ≡ b → (b || between lo hi n) ≡ true → (n ≡ m) ⊎ Between lo hi n
-either m lo hi n true e f = inl (eqb-true _ _ e)
-either m lo hi n false e f = inr (from-between lo hi n f)
+either : {A B : Type 0} (t u : Bool) → (t ≡ true → A) → (u ≡ true → B) → (t || u) ≡ true → A ⊎ B
+either true u f g e = inl (f refl)
+either false u f g e = inr (g e)
 
 module _ (op a b c k : ℕ) where
   -- what a command says of its byte and its operands
@@ -132,8 +144,10 @@ module _ (op a b c k : ℕ) where
   unfolding commandBy
   holds =
       by-test Holds (eqb op 1) (Command.Simple (Simple.Set a k)) _ (λ e. (eqb-true _ _ e, refl, refl))
-      (by-test Holds (eqb op 2 || between 6 8 op) (Command.Simple (Simple.Convert op a b)) _ (λ e. (refl, refl, refl, either 2 6 8 op (eqb op 2) refl e))
-      (by-test Holds (between 3 5 op) (Command.Simple (Simple.Compute op a b c)) _ (λ e. (refl, refl, refl, refl, from-between 3 5 op e))
+      (by-test Holds (eqb op 2 || between 6 8 op) (Command.Simple (Simple.Convert op a b)) _
+      (λ e. (refl, refl, refl, either (eqb op 2) (between 6 8 op) (eqb-true op 2) (from-between 6 8 op) e))
+      (by-test Holds (between 3 5 op || between 14 15 op) (Command.Simple (Simple.Compute op a b c)) _
+      (λ e. (refl, refl, refl, refl, either (between 3 5 op) (between 14 15 op) (from-between 3 5 op) (from-between 14 15 op) e))
       (by-test Holds (eqb op 9) (Command.Simple (Simple.Read a b c)) _ (λ e. (eqb-true _ _ e, refl, refl, refl))
       (by-test Holds (eqb op 10) (Command.Simple (Simple.Write a b c)) _ (λ e. (eqb-true _ _ e, refl, refl, refl))
       (by-test Holds (eqb op 11) (Command.If (record { relation = a; s = b; t = c })) _ (λ e. (eqb-true _ _ e, refl, refl, refl))

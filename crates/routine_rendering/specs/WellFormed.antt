@@ -35,12 +35,16 @@ arraySizeOf p a = getD (p .sizes) a 0
 abbrev pub Converts : (op w x : ℕ) → Type 0
 Converts op w x = ((op ≡ 0x02) × (w ≡ x)) ⊎ (((op ≡ 0x06) × (w < x)) ⊎ (Between 0x07 0x08 op × (x < w)))
 
+-- the command bytes of the computations: 0x03 add, 0x04 subtract, 0x05 multiply; 0x0E quotient, 0x0F remainder
+abbrev pub Computes : (op : ℕ) → Type 0
+Computes op = Between 0x03 0x05 op ⊎ Between 0x0E 0x0F op
+
 -- a command that is no if: its operands are variables and arrays that there are, and its widths as it asks
 abbrev pub Good : Syntax → Simple → Type 0
 Good p (Simple.Set d c) = Variable p d × (c < 2 ^ widthOf p d)
 Good p (Simple.Convert op d s) = Variable p d × Variable p s × Converts op (widthOf p d) (widthOf p s)
 Good p (Simple.Compute op d s t) =
-    Between 0x03 0x05 op × Variable p d × Variable p s × Variable p t × (widthOf p d ≡ widthOf p s) × (widthOf p d ≡ widthOf p t)
+    Computes op × Variable p d × Variable p s × Variable p t × (widthOf p d ≡ widthOf p s) × (widthOf p d ≡ widthOf p t)
 Good p (Simple.Read d array i) = Variable p d × Array p array × Variable p i
 Good p (Simple.Write array i s) = Array p array × Variable p i × Variable p s
 

@@ -1,7 +1,7 @@
 -- A command of one byte. Assumes nothing.
 use native.Mathlib.Omega.{arith}
 use Rattle.routine_command.specs.Command.{commandBy}
-use Rattle.routine_command.proofs.Bytes.{closes, unknown, one-low}
+use Rattle.routine_command.proofs.Bytes.{closes, unknown, one-high, one-low}
 use Rattle.routine_command.proofs.commands.lone_command.Statement.{statement}
 use Rattle.routine_command.proofs.commands.lone_command.Tie as tie
 
@@ -9,7 +9,7 @@ returns : tie.Need-returns
 returns c = λ x y z k. absurd (one-low _ (omega (arith, c .if1 .taken)) (c .before .match .rest .1) (c .before .before .pre))
 
 returns-2 : tie.Need-returns-2
-returns-2 c = λ x y z k. unknown _ _ _ _ _ (omega (arith, c .if2 .left))
+returns-2 c = λ x y z k. unknown _ _ _ _ _ (one-high _ (omega (arith, c .if2 .left)) (c .before .before .before .pre))
 
 returns-3 : tie.Need-returns-3
 unfolding commandBy

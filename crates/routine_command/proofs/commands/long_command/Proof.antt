@@ -1,7 +1,7 @@
 -- A command of four bytes or more. Assumes nothing.
 use native.Mathlib.Omega.{arith}
 use Rattle.routine_command.specs.Command.{commandBy}
-use Rattle.routine_command.proofs.Bytes.{computes, set-six, long-low, long-high}
+use Rattle.routine_command.proofs.Bytes.{computes, divides, set-six, long-low, long-middle, long-high}
 use borrow.Author.Needs.{needs}
 use Rattle.routine_command.proofs.commands.long_command.Statement.{statement}
 use Rattle.routine_command.proofs.commands.long_command.Tie as tie
@@ -25,11 +25,20 @@ returns-4 : tie.Need-returns-4
 returns-4 c = computes _ _ _ _ _ (omega (arith, c .before .if1 .left)) (omega (arith, c .if2 .taken))
 
 returns-5 : tie.Need-returns-5
-returns-5 c = let p = c .before .before .before .before .before .before .pre in absurd (long-low _ (omega (arith, c .if1 .taken)) (c .before .match .rest .0 .0 .1) (p .0))
+returns-5 c = divides _ _ _ _ _ (omega (arith, c .before .if3 .left)) (omega (arith, c .if4 .taken))
 
 returns-6 : tie.Need-returns-6
+returns-6 c = let p = c .before .before .before .before .before .before .pre in absurd (long-low _ (omega (arith, c .if1 .taken)) (c .before .match .rest .0 .0 .1) (p .0))
+
+returns-7 : tie.Need-returns-7
 unfolding commandBy
-returns-6 c = let n = c .before .before .match .rest in rw (long-high (c .before .before .before .before .before .before .before .args .op) (omega (arith, c .if2 .left)) (n .0 .1) (n .1) (c .before .before .before .before .before .before .before .pre .0))
+returns-7 c =
+    let n = c .before .before .before .match .rest in
+    let z = c .before .before .before .before .before .before .before .before in
+    rw (long-middle (z .args .op) (omega (arith, c .before .if2 .left)) (omega (arith, c .if3 .taken)) (n .0 .1) (n .1) (z .pre .0))
+
+returns-8 : tie.Need-returns-8
+returns-8 c = absurd (long-high _ (omega (arith, c .if4 .left)) (c .before .before .before .before .before .before .before .before .before .pre .0))
 
 pub long-command-spec : {M : Type 1} → statement M
 long-command-spec =
@@ -48,4 +57,6 @@ long-command-spec =
     returns-3
     returns-4
     returns-5
-    returns-6)
+    returns-6
+    returns-7
+    returns-8)

@@ -1,7 +1,7 @@
 use mathlib.Core.Path.{ap}
 use native.Mathlib.Omega.{arith}
 use Rattle.routine_command.specs.Command.{commandBy, commandSize}
-use Rattle.routine_command.proofs.Bytes.{alone-high, alone-low, computes, converts, four-bytes}
+use Rattle.routine_command.proofs.Bytes.{alone-high, alone-low, alone-marks, computes, converts, divides, four-bytes}
 use Rattle.routine_command.proofs.commands.size_by_op.Statement.{statement}
 use Rattle.routine_command.proofs.commands.size_by_op.Tie as tie
 
@@ -23,11 +23,17 @@ returns-5 : tie.Need-returns-5
 returns-5 c = four-bytes _ (omega (arith, c .before .if3 .left)) (omega (arith, c .if4 .taken))
 
 returns-6 : tie.Need-returns-6
-returns-6 c = let n = c .before .match .rest in alone-low _ (omega (arith, c .if1 .taken)) (n .0 .1) (n .1)
+returns-6 c = ap commandSize (divides _ 0 0 0 0 (omega (arith, c .before .if5 .left)) (omega (arith, c .if6 .taken)))
 
 returns-7 : tie.Need-returns-7
-returns-7 c = alone-high _ (omega (arith, c .if4 .left))
+returns-7 c = let n = c .before .match .rest in alone-low _ (omega (arith, c .if1 .taken)) (n .0 .1) (n .1)
+
+returns-8 : tie.Need-returns-8
+returns-8 c = alone-marks _ (omega (arith, c .before .if4 .left)) (omega (arith, c .if5 .taken))
+
+returns-9 : tie.Need-returns-9
+returns-9 c = alone-high _ (omega (arith, c .if6 .left))
 
 pub size-by-op-spec : {M : Type 1} → statement M
 size-by-op-spec =
-    tie.close (tie.spec returns returns-2 returns-3 returns-4 returns-5 returns-6 returns-7)
+    tie.close (tie.spec returns returns-2 returns-3 returns-4 returns-5 returns-6 returns-7 returns-8 returns-9)
