@@ -1,10 +1,10 @@
--- The worked examples of document 01 that are marked P, in one theorem. Assumes nothing.
+-- The worked examples of document 01 that are marked P, in one theorem, and worked divisions in another. Assumes nothing.
 use mathlib.Core.Path.{_≡_, refl}
 use mathlib.Core.List.{List, [], _∷_}
 use mathlib.Core.Bool.{true, false}
 use Prim.Native.Nat.{ℕ}
 use Rattle.slices.specs.Bytes.{half}
-use Rattle.bitvec.specs.Word.{add, subtract, multiply, cut}
+use Rattle.bitvec.specs.Word.{add, subtract, multiply, quotient, remainder, cut}
 use Rattle.bitvec.specs.Signed.{signed, less, encode, signExtend}
 use Rattle.bitvec.specs.Relation.{relates}
 use Rattle.bitvec.specs.declared.Whole.{Whole}
@@ -14,7 +14,7 @@ use Rattle.routine_faults.specs.Step.{inRange, widthsFit, tooMany, simpleStep, 
 use Rattle.routine.specs.Routine.{textOf, armBy}
 use Rattle.routine.specs.Decode.{decode}
 use Rattle.run_inputs.specs.Inputs.{variablesFrom, readVariables, firstGreat, wordsFit, listed}
-use Rattle.run_state.specs.State.{over, initial, indexOf, lies, executed}
+use Rattle.run_state.specs.State.{over, initial, computed, indexOf, lies, executed}
 use Rattle.run_state.specs.Run.{runArm, runOf}
 use Rattle.run.specs.Answer.{RunAnswer, runAdmission, runAnswer}
 use Rattle.run_state.specs.declared.Side.the-variants.{Below, Above}
@@ -48,3 +48,27 @@ pub bench :
     × (relates 2 8 128 127 ≡ false)
 unfolding runAnswer runAdmission decode headerOf within sizeOk firstBad armBy commandAt commandBy half stepOf simpleStep inRange widthsFit tooMany textOf listed wordsFit firstGreat variablesFrom readVariables runOf runArm initial over executed indexOf lies signed less encode signExtend add subtract multiply relates
 bench = (refl, refl, refl, refl, refl, refl, refl, refl, refl, refl, refl, refl, refl)
+
+-- three variables of 8 bits, of which x and y are the parameters; `op` puts what it makes of x and y into variable d; the values that are left
+abbrev divided : (op d x y : ℕ) → RunAnswer
+divided op d x y =
+    runAnswer (0x01 ∷ 0x03 ∷ 0x08 ∷ 0x08 ∷ 0x08 ∷ 0x02 ∷ 0x00 ∷ op ∷ d ∷ 0x00 ∷ 0x01 ∷ 0x00 ∷ []) (x ∷ y ∷ []) (7 ∷ 7 ∷ 7 ∷ []) []
+
+-- a run to the end leaves these values
+abbrev ended : List ℕ → RunAnswer
+ended values = record { ran = Ran.Ended; values = values; trail = [] }
+
+-- quotient and remainder, each in turn: by 7; by 0; by more than the dividend; in place of the dividend; in place of the divisor
+pub divisions :
+    (divided 0x0E 2 200 7 ≡ ended (200 ∷ 7 ∷ 28 ∷ []))
+    × (divided 0x0F 2 200 7 ≡ ended (200 ∷ 7 ∷ 4 ∷ []))
+    × (divided 0x0E 2 200 0 ≡ ended (200 ∷ 0 ∷ 255 ∷ []))
+    × (divided 0x0F 2 200 0 ≡ ended (200 ∷ 0 ∷ 200 ∷ []))
+    × (divided 0x0E 2 7 200 ≡ ended (7 ∷ 200 ∷ 0 ∷ []))
+    × (divided 0x0F 2 7 200 ≡ ended (7 ∷ 200 ∷ 7 ∷ []))
+    × (divided 0x0E 0 200 7 ≡ ended (28 ∷ 7 ∷ 0 ∷ []))
+    × (divided 0x0F 0 200 7 ≡ ended (4 ∷ 7 ∷ 0 ∷ []))
+    × (divided 0x0E 1 200 7 ≡ ended (200 ∷ 28 ∷ 0 ∷ []))
+    × (divided 0x0F 1 200 7 ≡ ended (200 ∷ 4 ∷ 0 ∷ []))
+unfolding runAnswer runAdmission decode headerOf within sizeOk firstBad armBy commandAt commandBy half stepOf simpleStep inRange widthsFit tooMany textOf listed wordsFit firstGreat variablesFrom readVariables runOf runArm initial over executed computed quotient remainder
+divisions = (refl, refl, refl, refl, refl, refl, refl, refl, refl, refl)

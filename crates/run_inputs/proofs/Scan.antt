@@ -81,7 +81,7 @@ not-nine : (op a b c k : ℕ) (vs : List ℕ) → (op ≡ 9 → ⊥) → readsOf
 unfolding commandBy
 not-nine op a b c k vs f =
     rw (ne-eqb op 9 f)
-    (none-of (eqb op 1) (eqb op 2 || between 6 8 op) (between 3 5 op) (eqb op 10) (eqb op 11) (eqb op 0 || between 12 13 op) op a b c k vs)
+    (none-of (eqb op 1) (eqb op 2 || between 6 8 op) (between 3 5 op || between 14 15 op) (eqb op 10) (eqb op 11) (eqb op 0 || between 12 13 op) op a b c k vs)
 
 -- ---- the walk
 

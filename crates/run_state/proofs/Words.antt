@@ -10,10 +10,11 @@ use lib.Dec.{ltb, eqb}
 use lib.Pow.{pow-pos, pow-mono}
 use borrow.Author.Tests.{eqb-true, ltb-true}
 use Rattle.slices.specs.Bytes.{entry}
-use Rattle.bitvec.specs.Word.{add, subtract, multiply, cut}
+use Rattle.bitvec.specs.Word.{add, subtract, multiply, quotient, remainder, cut}
 use Rattle.bitvec.specs.Signed.{signExtend}
 use Rattle.bitvec.specs.declared.Whole.{Whole}
 use Rattle.bitvec.proofs.Laws.{add-below, subtract-below, multiply-below, extend-below}
+use Rattle.bitvec.proofs.Division.{quotient-below, remainder-below}
 use Rattle.routine_header.specs.Header.{width, arraySize, firstCommand, between}
 use Rattle.routine_header.specs.declared.Header.{Header}
 use Rattle.routine_command.specs.declared.Simple.{Simple}
@@ -71,13 +72,16 @@ converted-below op v w a e p = go (eqb op 2) (eqb op 6) (eqb op 7) (eqb op 8) (b
 
 computed-below : (op w a b : ℕ) → computed op w a b < 2 ^ w
 unfolding computed
-computed-below op w a b = go (eqb op 3) (eqb op 4) (eqb op 5)
+computed-below op w a b = go (eqb op 3) (eqb op 4) (eqb op 5) (eqb op 14) (eqb op 15)
   where
-    go : (b₃ b₄ b₅ : Bool) → cond b₃ (add w a b) (cond b₄ (subtract w a b) (cond b₅ (multiply w a b) 0)) < 2 ^ w
-    go true b₄ b₅ = add-below w a b
-    go false true b₅ = subtract-below w a b
-    go false false true = multiply-below w a b
-    go false false false = pow-pos w
+    go : (b₃ b₄ b₅ b₁₄ b₁₅ : Bool)
+        → cond b₃ (add w a b) (cond b₄ (subtract w a b) (cond b₅ (multiply w a b) (cond b₁₄ (quotient w a b) (cond b₁₅ (remainder w a b) 0)))) < 2 ^ w
+    go true b₄ b₅ b₁₄ b₁₅ = add-below w a b
+    go false true b₅ b₁₄ b₁₅ = subtract-below w a b
+    go false false true b₁₄ b₁₅ = multiply-below w a b
+    go false false false true b₁₅ = quotient-below w a b
+    go false false false false true = remainder-below w a b
+    go false false false false false = pow-pos w
 
 -- ---- the state
 

@@ -5,7 +5,7 @@ use mathlib.Core.Bool.{Bool, cond}
 use lib.ListN.{set, replicate}
 use lib.Dec.{leb, eqb}
 use Rattle.slices.specs.Bytes.{entry}
-use Rattle.bitvec.specs.Word.{add, subtract, multiply, cut, zeroExtend}
+use Rattle.bitvec.specs.Word.{add, subtract, multiply, quotient, remainder, cut, zeroExtend}
 use Rattle.bitvec.specs.Signed.{signed, signExtend}
 use Rattle.bitvec.specs.Relation.{relates}
 use Rattle.bitvec.specs.declared.Whole.{Whole}
@@ -58,13 +58,15 @@ converted op v w a =
     (cond (eqb op 0x08) (signExtend v w a)
     0)))
 
--- 0x03 add, 0x04 subtract, 0x05 multiply
+-- 0x03 add, 0x04 subtract, 0x05 multiply, 0x0E quotient, 0x0F remainder
 unfoldable pub computed : (op w a b : ℕ) → ℕ
 computed op w a b =
     cond (eqb op 0x03) (add w a b)
     (cond (eqb op 0x04) (subtract w a b)
     (cond (eqb op 0x05) (multiply w a b)
-    0))
+    (cond (eqb op 0x0E) (quotient w a b)
+    (cond (eqb op 0x0F) (remainder w a b)
+    0))))
 
 -- the condition of an if holds
 unfoldable pub holds : List ℕ → Condition → State → Bool

@@ -38,7 +38,7 @@ fn converted_in(bytes: &[u8], op: u8, d: u8, s: u8, a: u32) -> u32
     converted_by(op, width_of(bytes, d), width_of(bytes, s), a)
 }
 
-// The sum, the difference or the product.
+// The sum, the difference, the product, the quotient or the remainder.
 fn computed_by(op: u8, w: u8, a: u32, b: u32) -> u32
     requires { ⌜ w ≤ 32 ⌝ }
     ensures { λ r. ⌜ r ≡ computed op w a b ⌝ }
@@ -47,6 +47,8 @@ fn computed_by(op: u8, w: u8, a: u32, b: u32) -> u32
         0x03 => word::add(w, a, b),
         0x04 => word::subtract(w, a, b),
         0x05 => word::multiply(w, a, b),
+        0x0E => word::quotient(w, a, b),
+        0x0F => word::remainder(w, a, b),
         _ => 0,
     }
 }
