@@ -16,7 +16,7 @@ ghost use Rattle.netlist.specs.Inner.Emit.{Ready};
 ghost use Rattle.netlist.specs.Node.{netlistClauses};
 
 // Writes a choice for which there is room.
-fn write_choice(
+pub fn write_choice(
     words: &mut [u32],
     starts: &mut [u32],
     at: u32,
