@@ -2,7 +2,7 @@
 use mathlib.Core.Path.{_≡_, refl, sym, ap, subst, _∙_}
 use mathlib.Core.List.{List, append-nil}
 use mathlib.Core.Bool.{Bool, true, false, cond}
-use Prim.Native.Nat.{ℕ, _+_, _*_, _≤_}
+use Prim.Native.Nat.{ℕ, suc, _+_, _*_, _≤_}
 use native.Mathlib.Nat.{mul-le-mul}
 use native.Mathlib.Omega.{arith}
 use lib.ListN.{length}
@@ -114,9 +114,12 @@ read-makes {w₁ = w₁} {u₁ = u₁} {n = n} {x = x} {m} bs h d k p wd e n₁ 
   wires = ap (λ (l : List ℕ). wiresOf l (m .reach)) z ∙ (λ j. withBits bs (p .wires j) d (inBit (p .emitted .next j)));
 }
 
--- 4 w w variables are enough for a multiplication
-pub square-few : (w : ℕ) → w ≤ 32 → 4 * w * w ≤ 4096
-square-few w l = let z : 4 * w ≤ 128 = omega arith in mul-le-mul z l
+-- there are variables for a multiplication, and for a division
+pub square-few : (w : ℕ) → w ≤ 32 → 4 * w * w ≤ 4224
+square-few w l = let z : 4 * w ≤ 132 = omega arith in mul-le-mul z l
+
+pub division-few : (w : ℕ) → w ≤ 32 → 4 * suc w * w ≤ 4224
+division-few w l = let z : 4 * suc w ≤ 132 = omega arith in mul-le-mul z l
 
 -- an equal number is made alike
 pub makes-number : {w t w₁ t₁ : List ℕ} {n : Net} {x y : Number} {r : Bundle} → x ≡ y → made.Makes w t n x w₁ t₁ r → made.Makes w t n y w₁ t₁ r

@@ -7,6 +7,7 @@ use Rattle.arithmetic.specs.Circuit.{Number, nothing}
 use Rattle.arithmetic.specs.Extend.{extend}
 use Rattle.arithmetic.specs.Adder.{sum, difference}
 use Rattle.arithmetic.specs.Product.{product}
+use Rattle.division.specs.Division.{longQuotient, longRemainder}
 use Rattle.translation_access.specs.Index.{top}
 
 -- 0x02 copy, 0x06 cut and 0x07 zero-extend: 3 past the w bits of a; 0x08 sign-extend: the top bit. None takes a gate.
@@ -18,10 +19,12 @@ conversion op a w =
     (cond (eqb op 0x08) (extend a w (top a w))
     (nothing .bits))))
 
--- 0x03 add, 0x04 subtract, 0x05 multiply
+-- 0x03 add, 0x04 subtract, 0x05 multiply, 0x0E quotient, 0x0F remainder
 unfoldable pub computation : (op g : ℕ) → (a b : Bits) → (w : ℕ) → Number
 computation op g a b w =
     cond (eqb op 0x03) (sum g a b w)
     (cond (eqb op 0x04) (difference g a b w)
     (cond (eqb op 0x05) (product g a b w)
-    nothing))
+    (cond (eqb op 0x0E) (longQuotient g a b w)
+    (cond (eqb op 0x0F) (longRemainder g a b w)
+    nothing))))

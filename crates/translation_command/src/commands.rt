@@ -61,7 +61,7 @@ fn encode_convert(lits: &mut [u32], bytes: &[u8], h: Header, op: u8, d: u8, a: u
     store_bits(lits, place_of(d), &bits[..w]);
 }
 
-// Add, subtract, multiply.
+// Add, subtract, multiply, quotient, remainder.
 fn encode_compute(
     words: &mut [u32],
     starts: &mut [u32],

@@ -6,6 +6,9 @@ use arithmetic::products::emit_product;
 use arithmetic::sums::emit_difference;
 use arithmetic::sums::emit_sum;
 use arithmetic::sums::sum_bits;
+use division::emit_division;
+use division::quotient_bits;
+use division::remainder_bits;
 use netlist::Net;
 ghost use mathlib.Core.Path.{_≡_};
 ghost use Prim.Native.Nat.{_≤_, _<_};
@@ -29,7 +32,7 @@ pub fn convert(op: u8, a: &[u32]) -> [u32; PLACES]
     }
 }
 
-// 0x03 add, 0x04 subtract, 0x05 multiply, of two numbers of one width.
+// 0x03 add, 0x04 subtract, 0x05 multiply, 0x0E quotient, 0x0F remainder, of two numbers of one width.
 pub fn compute(
     words: &mut [u32],
     starts: &mut [u32],
@@ -38,9 +41,9 @@ pub fn compute(
     a: &[u32],
     b: &[u32],
 ) -> Bundle
-    requires { ⌜ Ready n 4096 ⌝ }
+    requires { ⌜ Ready n 4224 ⌝ }
     requires { ⌜ length (now b) ≡ length (now a) ⌝ }
-    requires { ⌜ length (now a) ≤ 32 ⌝ }
+    requires { ⌜ (0 < length (now a)) × (length (now a) ≤ 32) ⌝ }
     ensures { λ r. ⌜ Makes (now (words .entry)) (now (starts .entry)) n (computation op (n .next) (litAt (now (a .entry))) (litAt (now (b .entry))) (length (now (a .entry)))) (now (words .exit)) (now (starts .exit)) r ⌝ }
 {
     match op {
@@ -55,6 +58,16 @@ pub fn compute(
             Bundle { net, bits }
         }
         0x05 => emit_product(words, starts, n, a, b),
+        0x0E => {
+            let bits = quotient_bits(n.next, a.len());
+            let net = emit_division(words, starts, n, a, b);
+            Bundle { net, bits }
+        }
+        0x0F => {
+            let bits = remainder_bits(n.next, a.len());
+            let net = emit_division(words, starts, n, a, b);
+            Bundle { net, bits }
+        }
         _ => Bundle {
             net: n,
             bits: [3u32; PLACES],

@@ -6,11 +6,12 @@ use Rattle.netlist.specs.declared.Node.{Node}
 use Rattle.netlist.proofs.Nodes.{clausesOf-few, clausesOf-short}
 use Rattle.translation_meaning.specs.Translation.{lastClauses, clausesOfAll, parameterNodes, initialWires, translationOf}
 use Rattle.translation_state.specs.declared.Claim.{Claim}
-use mathlib.Core.Path.{_≡_, ap, subst, _∙_}
+use mathlib.Core.Path.{_≡_, ap, subst, sym, _∙_}
 use mathlib.Core.List.{List, _++_}
-use mathlib.Core.Bool.{Bool, true, false, cond}
+use mathlib.Core.Bool.{Bool, true, false}
 use Prim.Native.Nat.{ℕ, zero, suc, _+_, _*_, _^_, _<_, _≤_}
-use native.Mathlib.Nat.{mul-suc, mul-add, mul-le-mul, mul-le-mul-left}
+use native.Mathlib.Nat.{mul-assoc, mul-comm, mul-suc, mul-add, mul-le-mul, mul-le-mul-left}
+use native.Mathlib.Numerals.{add-one}
 use native.Mathlib.Omega.{arith}
 use lib.ListN.{length, length-append}
 use lib.Dec.{eqb}
@@ -33,11 +34,10 @@ use Rattle.netlist.specs.Literal.{opp}
 use Rattle.netlist.specs.Inner.Emit.{Ready}
 use Rattle.netlist.specs.declared.Net.{Net}
 use Rattle.arithmetic.specs.Bits.{Bits}
-use Rattle.arithmetic.specs.Adder.{sum, difference, oppBits}
-use Rattle.arithmetic.specs.Circuit.{nothing}
-use Rattle.arithmetic.specs.Product.{product}
+use Rattle.arithmetic.specs.Adder.{oppBits}
 use Rattle.arithmetic.proofs.Adder.{length-adder}
 use Rattle.arithmetic.proofs.Product.{rows-short}
+use Rattle.division.proofs.Division.{steps-sized}
 use Rattle.arithmetic.proofs.Input.{length-inputs}
 use Rattle.arithmetic.proofs.Join.{length-joiner}
 use Rattle.comparison.proofs.Relating.{relation-short}
@@ -48,6 +48,7 @@ use Rattle.translation_access.proofs.Gates.{passing-short, claim-short}
 use Rattle.translation_meaning.specs.Walk.{encodeOn, encodeIf, encodeArm}
 use Rattle.translation_if.specs.If.{conditionOf, armArrival, arrivals, joinGroups, joinArms}
 use Rattle.lead.specs.declared.Target.{Target}
+use Rattle.translation_meaning.proofs.Computing.{by-computation}
 use Rattle.translation_meaning.proofs.Stretches.{then-by, access-by, fork-by, frontOf, firstFrom, firstWires, firstOf, secondFrom, secondWires, secondOf, joinFrom, joinOf}
 use Rattle.translation_meaning.proofs.Counted.{commandsIn, ifsIn, all-ifs, few-commands}
 
@@ -55,12 +56,17 @@ use Rattle.translation_meaning.proofs.Counted.{commandsIn, ifsIn, all-i
 record Enough (w m : ℕ) : Type 0 where
   access : 4 * w + 2 ≤ m
   product : (v : ℕ) → v ≤ w → 4 * v * v ≤ m
+  division : (v : ℕ) → v ≤ w → 4 * suc v * v ≤ m
 
--- an access and the bits of a read take at most 4 w + 2, a multiplication at most 4 w w
+-- an access and the bits of a read take at most 4 w + 2, a multiplication at most 4 w w, and a division all 4 w (w + 1)
 enough : (w : ℕ) → 1 ≤ w → Enough w (4 * w * (w + 1))
 enough w l = record {
   access = omega (arith, mul-add (4 * w) w 1, mul-le-mul-left (4 * w) l);
   product = λ v n. let z : 4 * v ≤ 4 * w = omega arith in omega (arith, mul-add (4 * w) w 1, mul-le-mul z n);
+  division = λ v n.
+      let z : 4 * suc v ≤ 4 * suc w = omega arith in
+      let e : 4 * suc w * w ≡ 4 * w * (w + 1) = mul-assoc 4 (suc w) w ∙ ap (λ (k : ℕ). 4 * k) (mul-comm (suc w) w) ∙ sym (rw (add-one w) (mul-assoc 4 w (suc w))) in
+      omega (arith, e, mul-le-mul z n);
 }
 
 -- ---- gates
@@ -121,14 +127,14 @@ module _ (bs : List ℕ) (h : Header) (w : ℕ) (narrow : (v : ℕ) → v < h .v
     -- ---- commands
 
     compute-few : (op g : ℕ) (a b : Bits) (v : ℕ) → v ≤ w → length (computation op g a b v .nodes) ≤ m
-    unfolding computation
-    compute-few op g a b v l = pick (eqb op 0x03) (eqb op 0x04) (eqb op 0x05)
-      where
-        pick : (p q r : Bool) → length (cond p (sum g a b v) (cond q (difference g a b v) (cond r (product g a b v) nothing)) .nodes) ≤ m
-        pick true q r = omega (arith, length-adder g a b 3 v, big .access)
-        pick false true r = omega (arith, length-adder g a (oppBits b) 2 v, big .access)
-        pick false false true = omega (arith, rows-short g a b v v (omega arith), big .product v l)
-        pick false false false = omega arith
+    compute-few op g a b v l =
+        by-computation (λ z n. length (z .nodes) ≤ m) op g a b v 0 0
+        (omega (arith, length-adder g a b 3 v, big .access))
+        (omega (arith, length-adder g a (oppBits b) 2 v, big .access))
+        (omega (arith, rows-short g a b v v (omega arith), big .product v l))
+        (omega (arith, steps-sized g a b v v .nodes, big .division v l))
+        (omega (arith, steps-sized g a b v v .nodes, big .division v l))
+        (omega arith)
 
     -- an access, and what goes on after it
     at-access : (g array i : ℕ) (k : Counts) (s : Wires) (go : ℕ → Wires → Encoding) → i < h .variables

@@ -25,15 +25,15 @@ use Rattle.netlist.specs.declared.Node.the-variants.{One, And}
 use Rattle.netlist.proofs.Model.{Before, WellFormed}
 use Rattle.netlist.proofs.Formed.{before-later, before-opp, before-pos, before-neg, formed-append}
 use Rattle.arithmetic.specs.Bits.{Bits}
-use Rattle.arithmetic.specs.Adder.{adder, sum, difference, sumBit, oppBits}
+use Rattle.arithmetic.specs.Adder.{adder, sumBit, oppBits}
 use Rattle.arithmetic.specs.Circuit.{Predicate, Number, never, nothing}
-use Rattle.arithmetic.specs.Product.{product}
 use Rattle.arithmetic.specs.Extend.{constBit, extend}
 use Rattle.arithmetic.specs.Input.{inputs, inBit}
 use Rattle.comparison.specs.Access.{above}
 use Rattle.arithmetic.proofs.Values.{AllBefore}
 use Rattle.arithmetic.proofs.Adder.{length-adder, adder-formed, subtractor-formed, sum-before}
 use Rattle.arithmetic.proofs.Product.{product-formed, product-before}
+use Rattle.division.proofs.Division.{steps-formed, quotient-before, remainder-before}
 use Rattle.arithmetic.proofs.Extend.{const-before, extend-before}
 use Rattle.arithmetic.proofs.Input.{length-inputs, inputs-formed, input-before}
 use Rattle.comparison.proofs.Access.{above-formed, above-before}
@@ -47,6 +47,7 @@ use Rattle.translation_if.specs.If.{Arrivals, conditionOf, armArrival, arrivals
 use Rattle.translation_meaning.specs.Translation.{parameterNodes, parameterLits, initialWires, translationOf}
 use Rattle.translation_state.specs.declared.Claim.{Claim}
 use Rattle.lead.specs.declared.Target.{Target}
+use Rattle.translation_meaning.proofs.Computing.{by-computation}
 use Rattle.translation_meaning.proofs.Stretches.{then-by, access-by, fork-by, firstFrom, firstWires, firstOf, secondFrom, secondWires, secondOf, joinFrom, joinOf}
 use Rattle.translation_meaning.proofs.Wired.{Held, Named, Wired, Made, held-later, named-later, wired-later, wired-arriving, made-after, held-put, wired-put, wide, var-bits, joined-made}
 
@@ -77,18 +78,18 @@ module _ (bs : List ℕ) (h : Header) (fine : Fine bs h) where
     bits : AllBefore (g + length (x .nodes)) (x .bits) w
 
   compute-made : (op g : ℕ) (a b : Bits) (w : ℕ) → 1 < g → AllBefore g a w → AllBefore g b w → Numbered g w (computation op g a b w)
-  unfolding computation
-  compute-made op g a b w z ha hb = pick (eqb op 0x03) (eqb op 0x04) (eqb op 0x05)
+  compute-made op g a b w z ha hb =
+      by-computation (λ x n. Numbered g w x) op g a b w 0 0
+      (sums 3 b (adder-formed g a b 3 w (omega arith) ha hb (before-neg g 1 (omega arith) z)))
+      (sums 2 (oppBits b) (subtractor-formed g a b w z ha hb))
+      (record { gates = product-formed g a b w w z (omega arith) ha hb; bits = product-before g a b w z })
+      (record { gates = steps-formed g a b w w z (omega arith) ha hb; bits = quotient-before g a b w z })
+      (record { gates = steps-formed g a b w w z (omega arith) ha hb; bits = remainder-before g a b w z })
+      (record { gates = tt; bits = λ j l. before-neg (g + 0) 1 (omega arith) (omega arith) })
     where
       sums : (c : ℕ) (e : Bits) → WellFormed g (adder g a e c w) → Numbered g w (record { nodes = adder g a e c w; bits = sumBit g })
       sums c e f =
           record { gates = f; bits = subst (λ (n : ℕ). AllBefore (g + n) (sumBit g) w) (sym (length-adder g a e c w)) (sum-before g w (omega arith)) }
-
-      pick : (p q r : Bool) → Numbered g w (cond p (sum g a b w) (cond q (difference g a b w) (cond r (product g a b w) nothing)))
-      pick true q r = sums 3 b (adder-formed g a b 3 w (omega arith) ha hb (before-neg g 1 (omega arith) z))
-      pick false true r = sums 2 (oppBits b) (subtractor-formed g a b w z ha hb)
-      pick false false true = record { gates = product-formed g a b w w z (omega arith) ha hb; bits = product-before g a b w z }
-      pick false false false = record { gates = tt; bits = λ j l. before-neg (g + 0) 1 (omega arith) (omega arith) }
 
   -- the gates of a predicate whose first variable is g, and its literal
   record Decided (g : ℕ) (x : Predicate) : Type 0 where

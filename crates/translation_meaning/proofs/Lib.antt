@@ -1,6 +1,7 @@
 -- The laws of a translation.
 pub mod Places
 pub mod Stretches
+pub mod Computing
 pub mod Gates
 pub mod Dead
 pub mod Numbers

@@ -9,7 +9,7 @@ use lib.ListN.{length}
 use lib.Dec.{ltb, eqb}
 use borrow.Author.Tests.{eqb-true, ltb-true}
 use Rattle.slices.specs.Bytes.{entry}
-use Rattle.bitvec.specs.Word.{add, subtract, multiply, cut, zeroExtend}
+use Rattle.bitvec.specs.Word.{cut, zeroExtend}
 use Rattle.bitvec.specs.Signed.{signed, signExtend}
 use Rattle.bitvec.specs.declared.Whole.{Whole}
 use Rattle.routine_header.specs.Header.{width, arraySize, between}
@@ -34,14 +34,13 @@ use Rattle.netlist.specs.Meaning.{Inputs}
 use Rattle.netlist.proofs.Literals.{lit-false}
 use Rattle.netlist.proofs.Truth.{Models, models-append}
 use Rattle.arithmetic.specs.Bits.{Bits}
-use Rattle.arithmetic.specs.Adder.{sum, difference}
 use Rattle.arithmetic.specs.Circuit.{nothing}
-use Rattle.arithmetic.specs.Product.{product}
 use Rattle.arithmetic.specs.Extend.{constBit, extend}
 use Rattle.arithmetic.specs.Input.{inBit}
 use Rattle.arithmetic.proofs.Values.{value, value-zero}
 use Rattle.arithmetic.proofs.Adder.{sum-word, difference-word}
 use Rattle.arithmetic.proofs.Product.{product-word}
+use Rattle.division.proofs.Dividing.{quotient-word, remainder-word}
 use Rattle.arithmetic.proofs.Extend.{const-word, cut-word, zero-extend-word, sign-extend-word}
 use Rattle.arithmetic.proofs.Input.{input-word}
 use Rattle.translation_state.specs.Wires.{Wires, bitsOf, withBits, arriving, claiming}
@@ -52,6 +51,7 @@ use Rattle.translation_meaning.specs.Faithful.{bitsOfList}
 use Rattle.translation_state.specs.declared.Claim.{Claim}
 use Rattle.lead.specs.declared.Target.{Target}
 use Rattle.run_inputs.proofs.Fitting.{FitSimple}
+use Rattle.translation_meaning.proofs.Computing.{by-computation}
 use Rattle.translation_meaning.proofs.Gates.{access-lit, access-above}
 use Rattle.translation_meaning.proofs.Sides.{Entered, within, outside, inside-says, side-says}
 use Rattle.translation_meaning.proofs.Stretches.{access-by}
@@ -86,26 +86,18 @@ convert-word ρ o op v w a z = pick (eqb op 0x02) (eqb op 0x06) (eqb op 0x07) (e
     pick false false false true m q = sign-extend-word ρ a w v z (wider m q)
     pick false false false false m q = nothing-worth ρ o v
 
--- ---- sum, difference, product
+-- ---- sum, difference, product, quotient, remainder
 
 pub compute-word : (ins : Inputs) (ρ : Assign) → ρ 1 ≡ true → (op g : ℕ) (a b : Bits) (w : ℕ) → Models ins ρ g (computation op g a b w .nodes)
     → value ρ (computation op g a b w .bits) w ≡ computed op w (value ρ a w) (value ρ b w)
-unfolding computed computation
-compute-word ins ρ o op g a b w = pick (eqb op 0x03) (eqb op 0x04) (eqb op 0x05)
-  where
-    x : ℕ
-    x = value ρ a w
-
-    y : ℕ
-    y = value ρ b w
-
-    pick : (p q r : Bool) → Models ins ρ g (cond p (sum g a b w) (cond q (difference g a b w) (cond r (product g a b w) nothing)) .nodes)
-        → value ρ (cond p (sum g a b w) (cond q (difference g a b w) (cond r (product g a b w) nothing)) .bits) w
-        ≡ cond p (add w x y) (cond q (subtract w x y) (cond r (multiply w x y) 0))
-    pick true q r m = sum-word ins ρ g a b w o m
-    pick false true r m = difference-word ins ρ g a b w o m
-    pick false false true m = product-word ins ρ g a b w o m
-    pick false false false m = nothing-worth ρ o w
+compute-word ins ρ o op g a b w =
+    by-computation (λ x n. Models ins ρ g (x .nodes) → value ρ (x .bits) w ≡ n) op g a b w (value ρ a w) (value ρ b w)
+    (sum-word ins ρ g a b w o)
+    (difference-word ins ρ g a b w o)
+    (product-word ins ρ g a b w o)
+    (quotient-word ins ρ g a b w o)
+    (remainder-word ins ρ g a b w o)
+    (λ m. nothing-worth ρ o w)
 
 -- ---- commands
 

@@ -32,7 +32,8 @@ compute-requires c κs =
     let f = compute-fine (now (a .bytes)) (a .h) (a .op) (a .d) (a .a) (a .b) (p .1 .1 .0) in
     let x = part-length (now (a .bytes)) (a .h) (a .a) _ _ (p .1 .1 .1) (f .1) (c .before .before .before .before .before .before .place-of .ensures) (c .before .before .before .before .before .before .before .width-of .ensures ∙ f .3) (now (a .lits)) (p .1 .0) in
     let y = part-length (now (a .bytes)) (a .h) (a .b) _ _ (p .1 .1 .1) (f .2) (c .before .before .before .before .before .place-of2 .ensures) (c .before .before .before .before .before .before .before .width-of .ensures ∙ f .4) (now (a .lits)) (p .1 .0) in
-    (ready-weaken (omega arith) (p .0), (y ∙ sym x, omega (arith, x, ranged-as (now (a .bytes)) (a .h) (a .a) _ _ (p .1 .1 .1) (f .1) (c .before .before .before .before .before .before .place-of .ensures) (c .before .before .before .before .before .before .before .width-of .ensures ∙ f .3))))
+    let r = ranged-as (now (a .bytes)) (a .h) (a .a) _ _ (p .1 .1 .1) (f .1) (c .before .before .before .before .before .before .place-of .ensures) (c .before .before .before .before .before .before .before .width-of .ensures ∙ f .3) in
+    (ready-weaken (omega arith) (p .0), (y ∙ sym x, (omega (arith, x, r .0), omega (arith, x, r .1))))
 
 array-share-prefix-bits : tie.Need-array-share-prefix-bits
 array-share-prefix-bits c =
