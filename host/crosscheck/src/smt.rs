@@ -95,11 +95,7 @@ impl Script<'_> {
             }
             Command::Copy { d, s } => state.values[*d] = state.values[*s].clone(),
             Command::Operate { operation, d, s, t } => {
-                let name = match operation {
-                    Operation::Add => "bvadd",
-                    Operation::Subtract => "bvsub",
-                    Operation::Multiply => "bvmul",
-                };
+                let name = operator(*operation);
                 let term = format!("({name} {} {})", state.values[*s], state.values[*t]);
                 self.define_value(&mut state, *d, &term);
             }
@@ -187,6 +183,16 @@ impl Script<'_> {
             }
         }
         state
+    }
+}
+
+fn operator(operation: Operation) -> &'static str {
+    match operation {
+        Operation::Add => "bvadd",
+        Operation::Subtract => "bvsub",
+        Operation::Multiply => "bvmul",
+        Operation::Quotient => "bvudiv",
+        Operation::Remainder => "bvurem",
     }
 }
 

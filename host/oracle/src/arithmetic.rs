@@ -2,12 +2,14 @@
 //! kept in a `u32`; every operation is done in 64 bits, where nothing is lost,
 //! and then reduced.
 
-/// The three operations on two values of one width.
+/// The five operations on two values of one width.
 #[derive(Clone, Copy, Debug, PartialEq, Eq)]
 pub enum Operation {
     Add,
     Subtract,
     Multiply,
+    Quotient,
+    Remainder,
 }
 
 /// The three changes of width.
@@ -63,7 +65,8 @@ pub fn signed(value: u32, width: u32) -> i64 {
     }
 }
 
-/// The result modulo 2 to the width, for all three operations.
+/// The result modulo 2 to the width. By zero the quotient is all ones and the
+/// remainder the dividend, as in SMT-LIB.
 pub fn operate(operation: Operation, a: u32, b: u32, width: u32) -> u32 {
     let (a, b, modulus) = (u64::from(a), u64::from(b), modulus(width));
     let exact = match operation {
@@ -71,6 +74,8 @@ pub fn operate(operation: Operation, a: u32, b: u32, width: u32) -> u32 {
         // One modulus more, so that the difference stays a natural number.
         Operation::Subtract => a + modulus - b,
         Operation::Multiply => a * b,
+        Operation::Quotient => a.checked_div(b).unwrap_or(modulus - 1),
+        Operation::Remainder => a.checked_rem(b).unwrap_or(a),
     };
     reduce(exact, width)
 }
@@ -142,6 +147,26 @@ mod tests {
         assert_eq!(operate(Operation::Multiply, top, top, 32), 1);
         assert_eq!(resize(Resize::SignExtend, 1, 1, 32), top);
         assert_eq!(resize(Resize::ZeroExtend, 1, 1, 32), 1);
+    }
+
+    #[test]
+    fn division_at_full_width() {
+        let top = u32::MAX;
+        assert_eq!(operate(Operation::Quotient, top, 1, 32), top);
+        assert_eq!(operate(Operation::Remainder, top, 1, 32), 0);
+        assert_eq!(operate(Operation::Quotient, top - 1, top, 32), 0);
+        assert_eq!(operate(Operation::Remainder, top - 1, top, 32), top - 1);
+    }
+
+    #[test]
+    fn dividing_by_zero() {
+        for width in 1..=32 {
+            let most = (modulus(width) - 1) as u32;
+            for dividend in [0, 1, most] {
+                assert_eq!(operate(Operation::Quotient, dividend, 0, width), most);
+                assert_eq!(operate(Operation::Remainder, dividend, 0, width), dividend);
+            }
+        }
     }
 
     #[test]

@@ -34,6 +34,8 @@ impl<S: Sink> Netlist<'_, S> {
             Operation::Add => self.sum(a, b, Literal::FALSE).0,
             Operation::Subtract => self.difference(a, b).0,
             Operation::Multiply => self.product(a, b),
+            Operation::Quotient => self.divide(a, b).0,
+            Operation::Remainder => self.divide(a, b).1,
         }
     }
 
@@ -65,6 +67,32 @@ impl<S: Sink> Netlist<'_, S> {
             sum = self.sum(&sum, &row, Literal::FALSE).0;
         }
         sum
+    }
+
+    /// The quotient and the remainder, by the same gates whichever of them is
+    /// wanted. Long division from the top bit of `s`: the remainder has one bit
+    /// more than the operands, because it is shifted up before the divisor is
+    /// taken from it.
+    fn divide(&mut self, s: &[Literal], t: &[Literal]) -> (Vec<Literal>, Vec<Literal>) {
+        let width = s.len();
+        let divisor = resize(Resize::ZeroExtend, t, width + 1);
+        let mut quotient = vec![Literal::FALSE; width];
+        let mut remainder = vec![Literal::FALSE; width + 1];
+        for k in (0..width).rev() {
+            let mut shifted = vec![s[k]];
+            shifted.extend(&remainder[..width]);
+            let (difference, fits) = self.difference(&shifted, &divisor);
+            quotient[k] = fits;
+            remainder = self.choose(fits, &difference, &shifted);
+        }
+        remainder.truncate(width);
+        (quotient, remainder)
+    }
+
+    /// Bit by bit `a` where `c` is true, `b` where it is false.
+    fn choose(&mut self, c: Literal, a: &[Literal], b: &[Literal]) -> Vec<Literal> {
+        let pairs = a.iter().zip(b);
+        pairs.map(|(&a, &b)| self.mux(c, a, b)).collect()
     }
 
     pub fn relation(&mut self, relation: Relation, a: &[Literal], b: &[Literal]) -> Literal {

@@ -23,6 +23,8 @@ const WRITE: u8 = 0x0A;
 const IF: u8 = 0x0B;
 const ELSE: u8 = 0x0C;
 const END_IF: u8 = 0x0D;
+const QUOTIENT: u8 = 0x0E;
+const REMAINDER: u8 = 0x0F;
 
 /// Reads the header by rising offset, so that the first field that is wrong
 /// or missing is the one refused.
@@ -96,7 +98,7 @@ fn operand_count(code: u8) -> Option<usize> {
         END | ELSE | END_IF => Some(0),
         SET => Some(5),
         COPY | CUT | ZERO_EXTEND | SIGN_EXTEND => Some(2),
-        ADD | SUBTRACT | MULTIPLY | READ | WRITE | IF => Some(3),
+        ADD | SUBTRACT | MULTIPLY | QUOTIENT | REMAINDER | READ | WRITE | IF => Some(3),
         _ => None,
     }
 }
@@ -164,6 +166,8 @@ impl<'a> Parser<'a> {
             (ADD, &[d, s, t]) => self.operate(place, Operation::Add, d, s, t),
             (SUBTRACT, &[d, s, t]) => self.operate(place, Operation::Subtract, d, s, t),
             (MULTIPLY, &[d, s, t]) => self.operate(place, Operation::Multiply, d, s, t),
+            (QUOTIENT, &[d, s, t]) => self.operate(place, Operation::Quotient, d, s, t),
+            (REMAINDER, &[d, s, t]) => self.operate(place, Operation::Remainder, d, s, t),
             (CUT, &[d, s]) => self.resize(place, Resize::Cut, d, s),
             (ZERO_EXTEND, &[d, s]) => self.resize(place, Resize::ZeroExtend, d, s),
             (SIGN_EXTEND, &[d, s]) => self.resize(place, Resize::SignExtend, d, s),
