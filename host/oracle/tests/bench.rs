@@ -40,6 +40,9 @@ fn one_array(commands: &[u8]) -> Vec<u8> {
     [&[1, 1, 8, 0, 1, 4, 0], commands].concat()
 }
 
+/// The commands d, s, t on variables of one width.
+const OPERATIONS: [u8; 5] = [0x03, 0x04, 0x05, 0x0E, 0x0F];
+
 /// One 8-bit and one 4-bit variable, no parameter, no array.
 fn two_widths(commands: &[u8]) -> Vec<u8> {
     [&[1, 2, 8, 4, 0, 0], commands].concat()
@@ -181,7 +184,7 @@ fn refusal_2_by_rising_offset() {
 #[test]
 fn refusal_3_and_running_out() {
     assert_refused(&one_variable(&[]), 3, 5);
-    assert_refused(&one_variable(&[0x0E, 0]), 3, 5);
+    assert_refused(&one_variable(&[0x10, 0]), 3, 5);
     assert_refused(&one_variable(&[0xFF]), 3, 5);
     assert_refused(&one_variable(&[0x02, 0, 0]), 3, 8);
     assert_refused(&one_variable(&[0x0B, 0, 0, 0]), 3, 9);
@@ -190,6 +193,11 @@ fn refusal_3_and_running_out() {
     // Cut, though an operand that is there is out of range.
     assert_refused(&one_variable(&[0x02, 9]), 3, 5);
     assert_refused(&one_variable(&[0x01, 9, 0, 0, 0]), 3, 5);
+    for code in OPERATIONS {
+        for operands in [[].as_slice(), &[9], &[9, 9]] {
+            assert_refused(&one_variable(&[&[code], operands].concat()), 3, 5);
+        }
+    }
 }
 
 #[test]
@@ -201,7 +209,11 @@ fn refusal_4() {
     assert_refused(&one_variable(&[0x09, 0, 0, 0, 0]), 4, 5);
     assert_refused(&one_variable(&[0x0A, 0, 0, 0, 0]), 4, 5);
     // Range before widths.
-    assert_refused(&two_widths(&[0x03, 0, 1, 2, 0]), 4, 6);
+    for code in OPERATIONS {
+        for [d, s, t] in [[0, 1, 2], [0, 2, 1], [2, 0, 1]] {
+            assert_refused(&two_widths(&[code, d, s, t, 0]), 4, 6);
+        }
+    }
     // Every constant fits a variable of 32 bits.
     let widest = [1, 1, 32, 0, 0, 0x01, 0, 0xFF, 0xFF, 0xFF, 0xFF, 0];
     assert_eq!(ample_run(&widest, &[]).values, [u32::MAX]);
@@ -220,7 +232,7 @@ fn refusal_5() {
     ] {
         assert_refused(&two_widths(&unequal), 5, 6);
     }
-    for code in 3..=5 {
+    for code in OPERATIONS {
         assert_refused(&two_widths(&[code, 0, 0, 1, 0]), 5, 6);
         assert_refused(&two_widths(&[code, 0, 1, 0, 0]), 5, 6);
         assert_refused(&two_widths(&[code, 1, 0, 0, 0]), 5, 6);

@@ -5,6 +5,9 @@
 use oracle::exhaustive::{check_every_input, input_bits, Lists, MAX_INPUT_BITS};
 use oracle::{parse, translate, Clauses};
 
+/// The commands d, s, t on variables of one width.
+const OPERATIONS: [u8; 5] = [0x03, 0x04, 0x05, 0x0E, 0x0F];
+
 /// Checks every access and side of a routine, with every list of decisions,
 /// and adds up what the input lists came to.
 fn check_all(routine: &[u8]) -> Lists {
@@ -66,7 +69,7 @@ fn indices() {
 
 #[test]
 fn operations() {
-    for code in 0x03..=0x05 {
+    for code in OPERATIONS {
         for width in 1..=5 {
             for size in sizes(width) {
                 let header = [1, 3, width, width, width, 2, 1, size, 0];
@@ -80,7 +83,7 @@ fn operations() {
 /// The index is one of the operands itself, and the two operands are one.
 #[test]
 fn operations_in_place() {
-    for code in 0x03..=0x05 {
+    for code in OPERATIONS {
         for width in 1..=5 {
             for operands in [[0, 0, 1], [1, 0, 1], [0, 0, 0], [0, 1, 1]] {
                 let header = [1, 2, width, width, 2, 1, 3, 0];
@@ -88,6 +91,48 @@ fn operations_in_place() {
                 let commands = [code, d, s, t, 0x0A, 0, d, 0, 0];
                 check_all(&[header.as_slice(), &commands].concat());
             }
+        }
+    }
+}
+
+/// Comes to its access just where a third parameter is the result, so that every
+/// bit of it counts.
+#[test]
+fn results_of_operations() {
+    for code in OPERATIONS {
+        for width in 1..=3 {
+            let header = [1, 4, width, width, width, width, 3, 1, 1, 0];
+            let commands = [
+                [code, 3, 0, 1].as_slice(),
+                &[0x0B, 0, 3, 2, 0x0A, 0, 2, 0, 0x0C, 0x0D, 0],
+            ]
+            .concat();
+            let lists = check_all(&[header.as_slice(), &commands].concat());
+            // One third parameter for each pair, for both sides and under the
+            // decisions 0 and 2.
+            assert_eq!(lists.arriving, 2 * 2 << (2 * width));
+        }
+    }
+}
+
+/// Quotient and remainder of each other's results, one of them in an arm that a
+/// divisor of zero does not come to.
+#[test]
+fn divisions_in_arms() {
+    for (code, other) in [(0x0E, 0x0F), (0x0F, 0x0E)] {
+        for width in 1..=4 {
+            let header = [1, 3, width, width, width, 2, 1, 1, 0];
+            let commands = [
+                [0x0B, 1, 1, 2].as_slice(), // if v1 ≠ v2, which is 0
+                &[code, 2, 0, 1],           //   v2 := v0 by v1
+                &[0x0A, 0, 2, 0],           //   array 0 at v2 := v0
+                &[0x0C, other, 0, 0, 1],    // else v0 := v0 by 0
+                &[0x0D, other, 2, 0, 2],    // v2 := v0 by v2
+                &[0x0A, 0, 2, 0, 0],        // array 0 at v2 := v0
+            ]
+            .concat();
+            let lists = check_all(&[header.as_slice(), &commands].concat());
+            assert!(lists.on_side > 0 && lists.on_side < lists.arriving);
         }
     }
 }
