@@ -13,6 +13,7 @@ import subprocess
 SEED = 20260101
 WIDTHS = range(1, 33)
 OPERATIONS = {"add": "bvadd", "subtract": "bvsub", "multiply": "bvmul"}
+DIVISIONS = {"quotient": "bvudiv", "remainder": "bvurem"}
 # In the order of the relations' numbers, 0 to 9.
 RELATIONS = {
     "=": "=",
@@ -55,7 +56,7 @@ def constant(value, width):
 
 
 def binary(name, width, a, b):
-    smt = OPERATIONS.get(name) or RELATIONS[name]
+    smt = {**OPERATIONS, **DIVISIONS, **RELATIONS}[name]
     term = f"({smt} {constant(a, width)} {constant(b, width)})"
     return f"{name} {width} {a} {b}", term
 
@@ -113,6 +114,24 @@ def resizes(rng):
                     yield resize(name, width, to, value)
 
 
+def division_pairs(rng, width):
+    """Divisors 0 and 1, equal operands, a dividend below its divisor, and shorter divisors."""
+    most = (1 << width) - 1
+    divisor = rng.randint(1, most)
+    chosen = [(a, b) for b in (0, 1) for a in (0, most, rng.getrandbits(width))]
+    chosen += [(divisor, divisor), (rng.randrange(divisor), divisor), (most, most // 3 or 1)]
+    for bits in (2, width // 3, width // 2, width - 1):
+        chosen.append((rng.getrandbits(width), rng.getrandbits(bits) & most | 1))
+    return list(dict.fromkeys(chosen + pairs(rng, width, 9)))
+
+
+def divisions(rng):
+    for name in DIVISIONS:
+        for width in WIDTHS:
+            for a, b in division_pairs(rng, width):
+                yield binary(name, width, a, b)
+
+
 def simplified(terms):
     """What z3 makes of each term, as a number; true is 1 and false is 0."""
     text = "".join(f"(simplify {term})\n" for term in terms)
@@ -131,7 +150,8 @@ def number(text):
 
 def main():
     rng = random.Random(SEED)
-    vectors = [*worked(), *operations(rng), *relations(rng), *resizes(rng)]
+    # What was drawn first stays the same when more is drawn behind it.
+    vectors = [*worked(), *operations(rng), *relations(rng), *resizes(rng), *divisions(rng)]
     version = subprocess.run(["z3", "--version"], capture_output=True, text=True, check=True)
     print("# Bit-vector results, made by make.py with " + version.stdout.strip() + ".")
     print("# OPERATION WIDTH A B RESULT, RELATION WIDTH A B 1 (holds) or 0,")

@@ -14,10 +14,31 @@ const RELATION_NAMES: [&str; 10] = [
     "=", "!=", "<u", "<=u", ">u", ">=u", "<s", "<=s", ">s", ">=s",
 ];
 
+const OPERATIONS: [(&str, u8, Operation); 5] = [
+    ("add", 0x03, Operation::Add),
+    ("subtract", 0x04, Operation::Subtract),
+    ("multiply", 0x05, Operation::Multiply),
+    ("quotient", 0x0E, Operation::Quotient),
+    ("remainder", 0x0F, Operation::Remainder),
+];
+
 enum Term {
-    Operate { code: u8, a: u32, b: u32 },
-    Relate { number: u8, a: u32, b: u32 },
-    Resize { code: u8, to: u8, a: u32 },
+    Operate {
+        code: u8,
+        operation: Operation,
+        a: u32,
+        b: u32,
+    },
+    Relate {
+        number: u8,
+        a: u32,
+        b: u32,
+    },
+    Resize {
+        code: u8,
+        to: u8,
+        a: u32,
+    },
 }
 
 struct Vector {
@@ -49,13 +70,17 @@ fn parse(line: &'static str) -> Option<Vector> {
         to: second as u8,
         a: third,
     };
-    let term = match name {
-        "add" => Term::Operate { code: 0x03, a, b },
-        "subtract" => Term::Operate { code: 0x04, a, b },
-        "multiply" => Term::Operate { code: 0x05, a, b },
-        "cut" => resize(0x06),
-        "zero-extend" => resize(0x07),
-        "sign-extend" => resize(0x08),
+    let operation = OPERATIONS.iter().find(|known| known.0 == name);
+    let term = match (name, operation) {
+        (_, Some(&(_, code, operation))) => Term::Operate {
+            code,
+            operation,
+            a,
+            b,
+        },
+        ("cut", _) => resize(0x06),
+        ("zero-extend", _) => resize(0x07),
+        ("sign-extend", _) => resize(0x08),
         _ => {
             let number = RELATION_NAMES.iter().position(|&known| known == name)? as u8;
             Term::Relate { number, a, b }
@@ -73,10 +98,9 @@ impl Vector {
     fn by_arithmetic(&self) -> u32 {
         let width = u32::from(self.width);
         match self.term {
-            Term::Operate { code, a, b } => {
-                let operations = [Operation::Add, Operation::Subtract, Operation::Multiply];
-                operate(operations[usize::from(code - 0x03)], a, b, width)
-            }
+            Term::Operate {
+                operation, a, b, ..
+            } => operate(operation, a, b, width),
             Term::Relate { number, a, b } => {
                 u32::from(holds(RELATIONS[usize::from(number)], a, b, width))
             }
@@ -178,6 +202,37 @@ fn arithmetic_agrees() {
     assert!(vectors.len() > 3000);
     for vector in vectors {
         assert_eq!(vector.by_arithmetic(), vector.result, "{}", vector.line);
+    }
+}
+
+/// Each kind of division stands among the vectors at every width; a quotient
+/// above 1 of a divisor above 1 needs three bits.
+#[test]
+fn every_kind_of_division_is_there() {
+    type Kind = (&'static str, fn(u32, u32) -> bool);
+    let kinds: [Kind; 6] = [
+        ("zero by zero", |a, b| a == 0 && b == 0),
+        ("a divisor of zero", |a, b| a != 0 && b == 0),
+        ("a divisor of one", |a, b| a != 0 && b == 1),
+        ("equal operands", |a, b| a == b && b != 0),
+        ("a dividend below its divisor", |a, b| a < b),
+        ("a quotient above 1", |a, b| b > 1 && a / b > 1),
+    ];
+    let vectors = vectors();
+    for wanted in [Operation::Quotient, Operation::Remainder] {
+        for width in 1..=32 {
+            let is_there = |holds: fn(u32, u32) -> bool| {
+                vectors.iter().any(|vector| match vector.term {
+                    Term::Operate {
+                        operation, a, b, ..
+                    } => operation == wanted && vector.width == width && holds(a, b),
+                    _ => false,
+                })
+            };
+            for (name, holds) in &kinds[..if width < 3 { 5 } else { 6 }] {
+                assert!(is_there(*holds), "{wanted:?} in {width} bits: {name}");
+            }
+        }
     }
 }
 
