@@ -108,7 +108,7 @@ fn is_counter_run(claim: &Claim, routine: &Routine, inputs: &[u32]) -> Result<()
     let before = run.events.iter().take_while(|&&event| event != named);
     let keeps = |event: &Event| match event {
         Event::If { number, arm } => claim.decisions[*number] + arm.byte() != 1,
-        Event::Access { .. } => true,
+        Event::Access { .. } | Event::Division { .. } => true,
     };
     let goes = run.events.contains(&named) && before.clone().all(keeps);
     let ifs = routine.ifs;

@@ -22,6 +22,8 @@ pub struct Lists {
     pub arriving: usize,
     /// And its index lies on the named side.
     pub on_side: usize,
+    /// The run divides by zero on its way to the named access.
+    pub past_zero: usize,
 }
 
 /// What one input list says about a claim.
@@ -88,6 +90,7 @@ pub fn check_every_input(
         lists.all += 1;
         lists.arriving += usize::from(expected.0);
         lists.on_side += usize::from(expected.1);
+        lists.past_zero += usize::from(expected.0 && divides_by_zero(&run, &named));
     }
     Ok(lists)
 }
@@ -139,19 +142,26 @@ fn extend(
     }
 }
 
+/// Whether a run divides by zero before it comes to the named access.
+fn divides_by_zero(run: &Run, named: &Named) -> bool {
+    let by_zero = |event: &Event| matches!(event, Event::Division { by_zero: true, .. });
+    run.events
+        .iter()
+        .take_while(|&&event| event != named.come_to())
+        .any(by_zero)
+}
+
 /// Whether a run comes to the named access by the decisions, and whether its
 /// index then lies on the named side.
 fn meaning(run: &Run, named: &Named) -> (bool, bool) {
-    let came_to = Event::Access {
-        number: named.access,
-    };
-    let before = match run.events.iter().position(|&event| event == came_to) {
+    let come_to = named.come_to();
+    let before = match run.events.iter().position(|&event| event == come_to) {
         None => return (false, false),
         Some(position) => &run.events[..position],
     };
     let by_the_decisions = before.iter().all(|event| match *event {
         Event::If { number, arm } => named.decisions[number].allows(arm),
-        Event::Access { .. } => true,
+        Event::Access { .. } | Event::Division { .. } => true,
     });
     let on_side = match run.outcome {
         Outcome::Stopped { access, side, .. } => access == named.access && side == named.side,

@@ -94,7 +94,7 @@ fn witnessed(routine: &Routine, lead: &Lead, site: Site) -> Result<i64, Refusal>
                     _ => Err(Refusal::new(NOT_ON_SIDE, named.access)),
                 };
             }
-            Event::Access { .. } => {}
+            Event::Access { .. } | Event::Division { .. } => {}
         }
     }
     Err(Refusal::new(NOT_COME_TO, named.access))

@@ -1,6 +1,6 @@
 //! The run of a routine on a list of inputs, and the refusals 9, 10 and 16.
 
-use crate::arithmetic::{holds, modulus, operate, resize, signed};
+use crate::arithmetic::{holds, modulus, operate, resize, signed, Operation};
 use crate::refusal::{Refusal, BUFFER, INPUT_COUNT, INPUT_RANGE, TRAIL_BUFFER, VALUES_BUFFER};
 use crate::routine::{parse, Branch, Command, Routine};
 use std::ops::ControlFlow;
@@ -49,11 +49,13 @@ pub enum Event {
     If { number: usize, arm: Arm },
     /// The access of this number, whether the run stops there or not.
     Access { number: usize },
+    /// A quotient or remainder, and whether its divisor is zero.
+    Division { operation: Operation, by_zero: bool },
 }
 
 /// A finished run: the values of all variables and the trail, both as they
-/// were when the run ended or stopped, and the ifs and accesses that it came
-/// to, in their order.
+/// were when the run ended or stopped, and the ifs, accesses and divisions that it
+/// came to, in their order.
 #[derive(Clone, Debug, PartialEq, Eq)]
 pub struct Run {
     pub outcome: Outcome,
@@ -153,9 +155,7 @@ impl Machine<'_> {
         match *command {
             Command::Set { d, c } => self.values[d] = c,
             Command::Copy { d, s } => self.values[d] = self.values[s],
-            Command::Operate { operation, d, s, t } => {
-                self.values[d] = operate(operation, self.values[s], self.values[t], self.width(d));
-            }
+            Command::Operate { operation, d, s, t } => self.operate(operation, d, s, t),
             Command::Resize { kind, d, s } => {
                 self.values[d] = resize(kind, self.values[s], self.width(s), self.width(d));
             }
@@ -176,6 +176,15 @@ impl Machine<'_> {
             Command::If(ref branch) => self.branch(branch)?,
         }
         ControlFlow::Continue(())
+    }
+
+    fn operate(&mut self, operation: Operation, d: usize, s: usize, t: usize) {
+        let (a, b) = (self.values[s], self.values[t]);
+        if let Operation::Quotient | Operation::Remainder = operation {
+            let by_zero = b == 0;
+            self.events.push(Event::Division { operation, by_zero });
+        }
+        self.values[d] = operate(operation, a, b, self.width(d));
     }
 
     /// The arm is chosen by the relation and noted before it is walked, so

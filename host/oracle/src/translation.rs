@@ -7,7 +7,7 @@ use crate::netlist::Netlist;
 use crate::propagation::Assignment;
 use crate::refusal::{Refusal, BUFFER, LEAD_LENGTH, LEAD_RANGE, STARTS_BUFFER, WORDS_BUFFER};
 use crate::routine::{parse, Branch, Command, Header, Routine};
-use crate::run::{Arm, Side};
+use crate::run::{Arm, Event, Side};
 use std::mem::replace;
 use std::ops::ControlFlow;
 
@@ -106,6 +106,12 @@ pub(crate) struct Named {
 }
 
 impl Named {
+    /// What a run comes to where it comes to the named access.
+    pub fn come_to(&self) -> Event {
+        let number = self.access;
+        Event::Access { number }
+    }
+
     pub fn new(routine: &Routine, access: u8, side: u8, decisions: &[u8]) -> Result<Self, Refusal> {
         if decisions.len() != routine.ifs {
             return Err(Refusal::new(LEAD_LENGTH, decisions.len()));

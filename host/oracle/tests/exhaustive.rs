@@ -7,6 +7,7 @@ use oracle::{parse, translate, Clauses};
 
 /// The commands d, s, t on variables of one width.
 const OPERATIONS: [u8; 5] = [0x03, 0x04, 0x05, 0x0E, 0x0F];
+const DIVISIONS: [u8; 2] = [0x0E, 0x0F];
 
 /// Checks every access and side of a routine, with every list of decisions,
 /// and adds up what the input lists came to.
@@ -22,6 +23,7 @@ fn check_all(routine: &[u8]) -> Lists {
                 lists.all += found.all;
                 lists.arriving += found.arriving;
                 lists.on_side += found.on_side;
+                lists.past_zero += found.past_zero;
             }
         }
     }
@@ -74,7 +76,8 @@ fn operations() {
             for size in sizes(width) {
                 let header = [1, 3, width, width, width, 2, 1, size, 0];
                 let commands = [code, 2, 0, 1, 0x0A, 0, 2, 0, 0];
-                check_all(&[header.as_slice(), &commands].concat());
+                let lists = check_all(&[header.as_slice(), &commands].concat());
+                assert_eq!(lists.past_zero > 0, DIVISIONS.contains(&code));
             }
         }
     }
@@ -89,7 +92,8 @@ fn operations_in_place() {
                 let header = [1, 2, width, width, 2, 1, 3, 0];
                 let [d, s, t] = operands;
                 let commands = [code, d, s, t, 0x0A, 0, d, 0, 0];
-                check_all(&[header.as_slice(), &commands].concat());
+                let lists = check_all(&[header.as_slice(), &commands].concat());
+                assert_eq!(lists.past_zero > 0, DIVISIONS.contains(&code));
             }
         }
     }
@@ -133,6 +137,7 @@ fn divisions_in_arms() {
             .concat();
             let lists = check_all(&[header.as_slice(), &commands].concat());
             assert!(lists.on_side > 0 && lists.on_side < lists.arriving);
+            assert!(lists.past_zero > 0 && lists.past_zero < lists.arriving);
         }
     }
 }

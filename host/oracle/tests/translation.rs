@@ -140,7 +140,8 @@ fn free_if_to_the_last_literal() {
         Lists {
             all: 4,
             arriving: 4,
-            on_side: 3
+            on_side: 3,
+            past_zero: 0,
         }
     );
 }
@@ -165,7 +166,8 @@ fn decided_if_and_an_access_inside_an_arm() {
         Lists {
             all: 8,
             arriving: 4,
-            on_side: 2
+            on_side: 2,
+            past_zero: 0,
         }
     );
     // Named itself, the read gets no variables; before the last access it gets
