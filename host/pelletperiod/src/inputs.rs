@@ -5,7 +5,7 @@ use crate::refused::{accepted, Refused};
 use std::fmt;
 
 /// How many bytes of operands a command has, by its byte.
-const OPERANDS: [usize; 14] = [0, 5, 2, 3, 3, 3, 2, 2, 2, 3, 3, 3, 0, 0];
+const OPERANDS: [usize; 16] = [0, 5, 2, 3, 3, 3, 2, 2, 2, 3, 3, 3, 0, 0, 3, 3];
 const READ: u8 = 0x09;
 const WRITE: u8 = 0x0A;
 
