@@ -49,8 +49,8 @@ pub fn damage_once(rng: &mut Rng, text: &mut Text) {
         0 | 1 => text.bytes[at] ^= 1 << rng.below(8),
         2 => text.bytes[at] = rng.byte(),
         // A byte that is some command or its neighbour.
-        3 | 4 => text.bytes[at] = rng.below(16) as u8,
-        5 => text.bytes.insert(at, rng.below(16) as u8),
+        3 | 4 => text.bytes[at] = rng.below(17) as u8,
+        5 => text.bytes.insert(at, rng.below(17) as u8),
         6 => drop(text.bytes.remove(at)),
         7 => text.truncate(at),
         8 => append(rng, text),

@@ -3,7 +3,7 @@
 
 use crate::damage::{append, damage_once, Text};
 use crate::draft::{Draft, Header, MAX_ACCESSES, MAX_BYTES, MAX_DEPTH, MAX_IFS, TOP};
-use crate::plan::{condition, equal, plain, set_to, Plan};
+use crate::plan::{condition, equal, plain, set_to, Plan, OPERATIONS};
 use crate::rng::Rng;
 
 /// The numbers that can be aimed at.
@@ -86,7 +86,7 @@ fn command(rng: &mut Rng) -> Text {
     let mut draft = valid(rng);
     match rng.below(4) {
         0 => {
-            let unknown = rng.pick(&[0x0E, 0x0F, 0x10, 0x80, 0xFF]);
+            let unknown = rng.pick(&[0x10, 0x10, 0x11, 0x80, 0xFF]);
             let list = draft.any_list(rng);
             draft.insert(rng, list, vec![unknown]);
             Text::new(draft.encode())
@@ -111,7 +111,7 @@ fn command(rng: &mut Rng) -> Text {
 fn cut_command(rng: &mut Rng, draft: &Draft) -> Text {
     let mut text = Text::new(draft.encode());
     text.bytes.pop();
-    let code = rng.within(0x01, 0x0B) as u8;
+    let code = rng.pick(&WITH_OPERANDS);
     let count = if code == 0x01 {
         5
     } else {
@@ -149,6 +149,11 @@ fn inserted(rng: &mut Rng, aim: usize) -> Text {
     Text::new(draft.encode())
 }
 
+/// The commands that have operands.
+const WITH_OPERANDS: [u8; 13] = [
+    0x01, 0x02, 0x03, 0x04, 0x05, 0x06, 0x07, 0x08, 0x09, 0x0A, 0x0B, 0x0E, 0x0F,
+];
+
 #[derive(Clone, Copy)]
 enum Operand {
     Variable,
@@ -161,7 +166,7 @@ fn operands(code: u8) -> &'static [Operand] {
     use Operand::{Array, Relation, Variable};
     match code {
         0x02 | 0x06..=0x08 => &[Variable, Variable],
-        0x03..=0x05 => &[Variable, Variable, Variable],
+        0x03..=0x05 | 0x0E | 0x0F => &[Variable, Variable, Variable],
         0x09 => &[Variable, Array, Variable],
         0x0A => &[Array, Variable, Variable],
         0x0B => &[Relation, Variable, Variable],
@@ -178,7 +183,7 @@ fn out_of_range(rng: &mut Rng, draft: &mut Draft, list: usize) {
         let constant = rng.pick(&[least, least + 1, 1 << 31, u32::MAX]);
         return draft.insert(rng, list, set_to(0, constant));
     }
-    let code = rng.within(0x01, 0x0B) as u8;
+    let code = rng.pick(&WITH_OPERANDS);
     let command = if code == 0x01 {
         set_to(operand(rng, &draft.header, Operand::Variable, false), 0)
     } else {
@@ -234,9 +239,9 @@ fn wrong_widths(rng: &mut Rng, draft: &mut Draft, list: usize) {
             }
             1 => vec![rng.pick(&[0x07, 0x08]), d, s],
             2 => vec![0x02, d, s],
-            3 => vec![rng.pick(&[0x03, 0x04, 0x05]), d, same, s],
-            4 => vec![rng.pick(&[0x03, 0x04, 0x05]), d, s, same],
-            5 => vec![rng.pick(&[0x03, 0x04, 0x05]), d, s, s],
+            3 => vec![rng.pick(&OPERATIONS), d, same, s],
+            4 => vec![rng.pick(&OPERATIONS), d, s, same],
+            5 => vec![rng.pick(&OPERATIONS), d, s, s],
             _ => vec![0x0B, rng.below(10) as u8, d, s],
         },
     };

@@ -65,7 +65,7 @@ fn compute(rng: &mut Rng, header: &Header) -> Vec<u8> {
     let mut commands = vec![0x02, INDEX, any()];
     let (s, t) = (any(), any());
     for _ in 0..rng.pick(&[0, 1, 1, 2, 3]) {
-        let operation = rng.pick(&[0x03, 0x04, 0x05, 0x05]);
+        let operation = rng.pick(&[0x03, 0x04, 0x05, 0x05, 0x0E, 0x0F]);
         let (s, t) = (rng.pick(&[s, INDEX]), rng.pick(&[t, INDEX]));
         commands.extend([operation, INDEX, s, t]);
     }

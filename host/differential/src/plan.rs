@@ -3,6 +3,9 @@
 use crate::draft::{Draft, Header, MAX_ACCESSES, MAX_DEPTH, MAX_IFS, TOP};
 use crate::rng::Rng;
 
+/// The commands d, s, t on variables of one width; the last two divide.
+pub const OPERATIONS: [u8; 5] = [0x03, 0x04, 0x05, 0x0E, 0x0F];
+
 /// What a routine is to be made of.
 pub struct Plan {
     pub header: Header,
@@ -190,19 +193,19 @@ pub fn draw_value(rng: &mut Rng, width: u8, sizes: &[u16]) -> u32 {
 /// A command that is neither an if nor an access.
 pub fn plain(rng: &mut Rng, header: &Header) -> Vec<u8> {
     let d = header.any_variable(rng);
-    match rng.below(8) {
+    match rng.below(10) {
         0 => set(rng, header, d),
         1 => vec![0x02, d, equal(rng, header, d)],
-        code @ 2..=4 => {
+        2..=6 => {
             let (s, t) = (equal(rng, header, d), equal(rng, header, d));
-            vec![code as u8 + 1, d, s, t]
+            vec![rng.pick(&OPERATIONS), d, s, t]
         }
-        5 => match header.variable_where(rng, d, |width, d| width > d) {
+        7 => match header.variable_where(rng, d, |width, d| width > d) {
             Some(s) => vec![0x06, d, s],
             None => set(rng, header, d),
         },
         code => match header.variable_where(rng, d, |width, d| width < d) {
-            Some(s) => vec![code as u8 + 1, d, s],
+            Some(s) => vec![code as u8 - 1, d, s],
             None => set(rng, header, d),
         },
     }

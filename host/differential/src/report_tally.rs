@@ -5,6 +5,7 @@ use crate::compare::Verdict;
 use crate::counter::Counter;
 use crate::report_case::{Kind, ReportCase};
 use crate::truth::{lead_parts, LeadParts};
+use oracle::arithmetic::Operation;
 use oracle::exhaustive::{input_bits, MAX_INPUT_BITS};
 use oracle::refusal::{BUFFER, INPUT_COUNT, PROOF_COMMAND};
 use oracle::{lead_len, Finding, Refusal, Routine, Side};
@@ -77,6 +78,19 @@ impl Facts<'_> {
         decisions.iter().any(|&decision| wanted(decision))
     }
 
+    /// Whether the witness's run comes to such a division, of this operation and
+    /// by zero or not.
+    fn divides(&self, wanted: impl Fn(Operation, bool) -> bool) -> bool {
+        let run = self
+            .lead()
+            .and_then(|lead| oracle::run(self.case.routine.slice(), &lead.witness, 32, 32).ok());
+        let mut events = run.iter().flat_map(|run| &run.events);
+        events.any(|event| match *event {
+            oracle::Event::Division { operation, by_zero } => wanted(operation, by_zero),
+            _ => false,
+        })
+    }
+
     /// Whether the witness's run, gone on as far as it goes, comes to the named
     /// access, and whether it takes another arm than a decided one anywhere.
     fn whole_run(&self) -> Option<(bool, bool)> {
@@ -117,6 +131,25 @@ const SHAPES: &[Shape] = &[
         let routine = f.routine.as_ref();
         let is_wide = |routine: &Routine| input_bits(routine) > MAX_INPUT_BITS;
         f.is_accepted(|_| routine.into_iter().any(is_wide))
+    }),
+    ("accepted past a quotient", 100, |f| {
+        f.is_accepted(|_| f.divides(|operation, _| operation == Operation::Quotient))
+    }),
+    ("accepted past a remainder", 100, |f| {
+        f.is_accepted(|_| f.divides(|operation, _| operation == Operation::Remainder))
+    }),
+    ("accepted past a quotient by zero", 30, |f| {
+        f.is_accepted(|_| {
+            f.divides(|operation, by_zero| operation == Operation::Quotient && by_zero)
+        })
+    }),
+    ("accepted past a remainder by zero", 30, |f| {
+        f.is_accepted(|_| {
+            f.divides(|operation, by_zero| operation == Operation::Remainder && by_zero)
+        })
+    }),
+    ("forged past a division by zero", 30, |f| {
+        f.case.kind == Kind::Forged && f.divides(|_, by_zero| by_zero)
     }),
     ("accepted with an index below -4096", 10, |f| {
         f.is_accepted(|finding| finding.index < -4096)

@@ -1,6 +1,6 @@
-//! What the ifs and accesses of a routine look like, in text order.
+//! What the ifs, accesses and divisions of a routine look like, in text order.
 
-use oracle::arithmetic::Relation;
+use oracle::arithmetic::{Operation, Relation};
 use oracle::{Branch, Command, Routine};
 
 pub struct IfSite {
@@ -27,10 +27,21 @@ impl AccessSite {
     }
 }
 
+pub struct DivisionSite {
+    /// Quotient or remainder.
+    pub operation: Operation,
+    pub d: usize,
+    pub s: usize,
+    pub t: usize,
+    /// How many accesses stand before it.
+    pub accesses_before: usize,
+}
+
 #[derive(Default)]
 pub struct Survey {
     pub ifs: Vec<IfSite>,
     pub accesses: Vec<AccessSite>,
+    pub divisions: Vec<DivisionSite>,
 }
 
 impl Survey {
@@ -48,11 +59,24 @@ impl Survey {
     fn list(&mut self, routine: &Routine, commands: &[Command], depth: usize) {
         for command in commands {
             match *command {
+                Command::Operate { operation, d, s, t } => self.operation(operation, d, s, t),
                 Command::Read { array, i, .. } => self.access(routine, depth, true, array, i),
                 Command::Write { array, i, .. } => self.access(routine, depth, false, array, i),
                 Command::If(ref branch) => self.branch(routine, branch, depth + 1),
                 _ => {}
             }
+        }
+    }
+
+    fn operation(&mut self, operation: Operation, d: usize, s: usize, t: usize) {
+        if let Operation::Quotient | Operation::Remainder = operation {
+            self.divisions.push(DivisionSite {
+                operation,
+                d,
+                s,
+                t,
+                accesses_before: self.accesses.len(),
+            });
         }
     }
 

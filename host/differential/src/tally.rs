@@ -5,10 +5,15 @@ use crate::case::Case;
 use crate::compare::{Verdict, Verdicts};
 use crate::counter::Counter;
 use crate::survey::{AccessSite, IfSite, Survey};
-use oracle::refusal::{BUFFER, COMMAND, TRAIL_BUFFER, VALUES_BUFFER};
+use oracle::arithmetic::Operation;
+use oracle::refusal::{BUFFER, COMMAND, RANGE, TRAIL_BUFFER, VALUES_BUFFER, WIDTHS};
 use oracle::{Arm, Counts, Outcome, Refusal, Routine, Run, Side};
 use pellet::ANSWER_LEN;
 use std::fmt;
+
+const QUOTIENT: u8 = 0x0E;
+const REMAINDER: u8 = 0x0F;
+const FIRST_UNKNOWN: u8 = 0x10;
 
 /// Something a case can come to.
 #[derive(Clone, Copy, Debug, PartialEq, Eq, PartialOrd, Ord)]
@@ -17,6 +22,8 @@ pub enum Event {
     RunRefused(u8),
     /// The bytes ran out where a command was to stand.
     RanOut,
+    /// Refused at the command of this byte.
+    RefusedAt(u8, u8),
     BufferRefused(usize),
     /// That buffer has no entries at all.
     EmptyBufferRefused(usize),
@@ -30,6 +37,8 @@ pub enum Event {
     LedIntoFirst(usize),
     /// Or into its else.
     LedIntoElse(usize),
+    /// A run came to a quotient or remainder, by zero or not.
+    Divided(&'static str, bool),
     Shape(&'static str),
 }
 
@@ -39,6 +48,7 @@ impl fmt::Display for Event {
             Event::CheckRefused(number) => write!(f, "check refused {number}"),
             Event::RunRefused(number) => write!(f, "run refused {number}"),
             Event::RanOut => write!(f, "refused 3 at the length"),
+            Event::RefusedAt(number, code) => write!(f, "refused {number} at a {code:#04X}"),
             Event::BufferRefused(buffer) => write!(f, "run refused 16, buffer {buffer}"),
             Event::EmptyBufferRefused(buffer) => {
                 write!(f, "run refused 16, buffer {buffer} of no entries")
@@ -53,6 +63,8 @@ impl fmt::Display for Event {
                 write!(f, "relation {relation} led into the first arm")
             }
             Event::LedIntoElse(relation) => write!(f, "relation {relation} led into the else"),
+            Event::Divided(what, true) => write!(f, "run takes a {what} by zero"),
+            Event::Divided(what, false) => write!(f, "run takes a {what} by another number"),
             Event::Shape(name) => write!(f, "{name}"),
         }
     }
@@ -131,6 +143,19 @@ const ROUTINE_SHAPES: &[Shape] = &[
     ("1 variable", 5000, |f| f.counts.variables == 1),
     ("32 variables", 5000, |f| f.counts.variables == 32),
     ("32 parameters", 1000, |f| f.counts.parameters == 32),
+    ("a division of which d is s", 5000, |f| {
+        f.survey.divisions.iter().any(|site| site.d == site.s)
+    }),
+    ("a division of which d is t", 5000, |f| {
+        f.survey.divisions.iter().any(|site| site.d == site.t)
+    }),
+    ("a division of which s is t", 5000, |f| {
+        f.survey.divisions.iter().any(|site| site.s == site.t)
+    }),
+    ("a division of three variables", 5000, |f| {
+        let mut sites = f.survey.divisions.iter();
+        sites.any(|site| site.d != site.s && site.d != site.t && site.s != site.t)
+    }),
     ("an index too narrow to be above", 5000, |f| {
         f.survey.accesses.iter().any(AccessSite::never_above)
     }),
@@ -196,6 +221,11 @@ fn goals() -> Vec<(Event, u64)> {
     goals.extend((1..=8).map(|number| (Event::CheckRefused(number), 5000)));
     goals.extend((1..=10).map(|number| (Event::RunRefused(number), 3000)));
     goals.push((Event::RanOut, 2000));
+    for code in [QUOTIENT, REMAINDER] {
+        let numbers = [COMMAND, RANGE, WIDTHS];
+        goals.extend(numbers.map(|number| (Event::RefusedAt(number, code), 200)));
+    }
+    goals.push((Event::RefusedAt(COMMAND, FIRST_UNKNOWN), 500));
     goals.push((Event::RunRefused(BUFFER), 10_000));
     goals.push((Event::BufferRefused(VALUES_BUFFER), 5000));
     goals.push((Event::BufferRefused(TRAIL_BUFFER), 5000));
@@ -209,6 +239,9 @@ fn goals() -> Vec<(Event, u64)> {
     goals.push((Event::StoppedAbove, 5000));
     goals.extend((0..10).map(|relation| (Event::LedIntoFirst(relation), 2000)));
     goals.extend((0..10).map(|relation| (Event::LedIntoElse(relation), 2000)));
+    for what in ["quotient", "remainder"] {
+        goals.extend([true, false].map(|by_zero| (Event::Divided(what, by_zero), 5000)));
+    }
     for &(name, least, _) in ROUTINE_SHAPES.iter().chain(RUN_SHAPES) {
         goals.push((Event::Shape(name), least));
     }
@@ -250,8 +283,12 @@ impl Tally {
 
     fn check_refused(&mut self, case: &Case, refusal: &Refusal) {
         self.hit(Event::CheckRefused(refusal.number));
-        if refusal.number == COMMAND && refusal.place == case.routine.len() {
-            self.hit(Event::RanOut);
+        match case.routine.slice().get(refusal.place) {
+            None if refusal.number == COMMAND => self.hit(Event::RanOut),
+            Some(&code) if (COMMAND..=WIDTHS).contains(&refusal.number) => {
+                self.hit(Event::RefusedAt(refusal.number, code));
+            }
+            _ => {}
         }
     }
 
@@ -300,6 +337,22 @@ impl Tally {
             }
         }
         self.decisions(&survey, run);
+        self.divisions(run);
+    }
+
+    fn divisions(&mut self, run: &Run) {
+        for event in &run.events {
+            match *event {
+                oracle::Event::Division {
+                    operation: Operation::Quotient,
+                    by_zero,
+                } => self.hit(Event::Divided("quotient", by_zero)),
+                oracle::Event::Division { by_zero, .. } => {
+                    self.hit(Event::Divided("remainder", by_zero));
+                }
+                _ => {}
+            }
+        }
     }
 
     fn decisions(&mut self, survey: &Survey, run: &Run) {

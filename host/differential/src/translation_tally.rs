@@ -3,8 +3,9 @@
 
 use crate::compare::Verdict;
 use crate::counter::Counter;
-use crate::survey::{AccessSite, Survey};
+use crate::survey::{AccessSite, DivisionSite, Survey};
 use crate::translation_case::TranslationCase;
+use oracle::arithmetic::Operation;
 use oracle::refusal::{BUFFER, LEAD_LENGTH, LEAD_RANGE, STARTS_BUFFER, WORDS_BUFFER};
 use oracle::{Literal, Refusal, Routine, Translation};
 use pellet::ANSWER_LEN;
@@ -59,6 +60,13 @@ impl Facts<'_> {
         self.case.side == 1
     }
 
+    /// Whether such a division stands before the named access.
+    fn divides(&self, wanted: impl Fn(&DivisionSite) -> bool) -> bool {
+        let access = usize::from(self.case.access);
+        let mut sites = self.survey.divisions.iter();
+        sites.any(|site| site.accesses_before <= access && wanted(site))
+    }
+
     /// How many reads stand before the named access.
     fn reads(&self) -> usize {
         let reads = &self.translation.inputs[self.routine.header.parameters..];
@@ -86,6 +94,21 @@ const SHAPES: &[Shape] = &[
         f.survey.ifs.iter().any(|site| site.reads_in_both_arms)
     }),
     ("ten reads translated", 100, |f| f.reads() >= 10),
+    ("a quotient translated", 500, |f| {
+        f.divides(|site| site.operation == Operation::Quotient)
+    }),
+    ("a remainder translated", 500, |f| {
+        f.divides(|site| site.operation == Operation::Remainder)
+    }),
+    ("a division translated of which d is s", 300, |f| {
+        f.divides(|site| site.d == site.s && site.s != site.t)
+    }),
+    ("a division translated of which d is t", 300, |f| {
+        f.divides(|site| site.d == site.t && site.s != site.t)
+    }),
+    ("a division translated of which s is t", 300, |f| {
+        f.divides(|site| site.s == site.t)
+    }),
     ("a first arm decided", 500, |f| f.decides(0)),
     ("an else decided", 500, |f| f.decides(1)),
     ("a free if", 500, |f| f.decides(2)),

@@ -36,14 +36,18 @@ fn narrow_translations_say_what_the_runs_say() {
         all.all += lists.all;
         all.arriving += lists.arriving;
         all.on_side += lists.on_side;
+        all.past_zero += lists.past_zero;
         met.all += 1;
         met.arriving += usize::from(lists.arriving > 0);
         met.on_side += usize::from(lists.on_side > 0);
+        met.past_zero += usize::from(lists.past_zero > 0);
     }
     show(&format!("input lists {all:?}, translations {met:?}\n"));
     // Most are to be about something: an access that some run comes to.
     assert!(met.arriving * 3 > met.all && met.on_side * 8 > met.all);
     assert!(all.arriving < all.all && all.on_side < all.arriving);
+    // And a good many come past a division by zero.
+    assert!(met.past_zero * 20 > met.all && all.past_zero < all.arriving);
 }
 
 /// Translates one narrow routine into buffers of just enough entries and

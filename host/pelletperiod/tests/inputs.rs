@@ -3,6 +3,7 @@
 
 use differential::plan::Plan;
 use differential::rng::Rng;
+use differential::survey::Survey;
 use oracle::{translate, Discard};
 use pelletperiod::inputs::{inputs, list, Name};
 use pelletperiod::Claim;
@@ -11,7 +12,7 @@ const CASES: u64 = 400;
 
 #[test]
 fn inputs_are_told_from_gates() {
-    let mut with_reads = 0;
+    let (mut with_reads, mut with_divisions) = (0, 0);
     for case in 0..CASES {
         let rng = &mut Rng::for_case(43, case);
         let routine = Plan::draw(rng).build(rng).encode();
@@ -38,11 +39,14 @@ fn inputs_are_told_from_gates() {
         let variables: Vec<Vec<u32>> = found.iter().map(|i| i.variables.clone()).collect();
         assert_eq!(variables, expected);
         let is_read = |name| matches!(name, Name::Read(_));
+        let parsed = oracle::parse(&claim.routine).expect("a valid routine");
+        with_divisions += u32::from(!Survey::of(&parsed).divisions.is_empty());
         let reads = found.iter().filter(|i| is_read(i.name));
         with_reads += u32::from(reads.clone().any(|i| !i.variables.is_empty()));
         assert_eq!(reads.count(), counts.reads);
     }
     assert!(with_reads > 50, "{with_reads}");
+    assert!(with_divisions > 50, "{with_divisions}");
 }
 
 /// A read of 4 bits into variable 1, an access of which the index is that, and
