@@ -1,16 +1,17 @@
-//! The bench's reports, every length of every buffer around the one needed, and
-//! the limits, compared with the oracle entry by entry.
+//! The bench's reports, divisions at every width, every length of every buffer
+//! around the one needed, and the limits, compared with the oracle entry by entry.
 
 use differential::alike_case::AlikeCase;
 use differential::alike_compare::compare_alike;
 use differential::compare::Verdict;
 use differential::limit::routine_of;
 use differential::proof_draft::encode;
+use differential::refute::{refute, Style};
 use differential::report_case::ReportCase;
 use differential::report_compare::compare_report;
 use differential::report_draft::Report;
 use differential::rng::Rng;
-use oracle::{Finding, Refusal, Room, Side, MAX_ENTRIES, MAX_REPORT};
+use oracle::{translate, Clauses, Finding, Outcome, Refusal, Room, Side, MAX_ENTRIES, MAX_REPORT};
 
 const SEED: u64 = 0x50E1_1E7D_2026_000F;
 
@@ -64,6 +65,96 @@ fn bench_reports() {
     // Missing files are empty ones.
     assert_eq!(judged(&[], REPORT), refused(1, 0));
     assert_eq!(judged(ROUTINE, &[]), refused(11, 0));
+}
+
+/// A write at the quotient or remainder of two constants.
+fn divide_constants(code: u8, width: u8, d: u8, [a, b]: [u32; 2]) -> Vec<u8> {
+    let mut routine = vec![1, 3, width, width, width, 0, 1, 1, 0];
+    for (variable, constant) in [(0, a), (1, b)] {
+        routine.extend([0x01, variable]);
+        routine.extend(constant.to_le_bytes());
+    }
+    routine.extend([code, d, 0, 1, 0x0A, 0, d, 0, 0]);
+    routine
+}
+
+/// Judges a report on access 0 of a routine without ifs, with these inputs. Its
+/// proof is made where propagation alone can make one, which a constant divisor
+/// of zero or two constants make sure of; else there is none.
+fn judge_division(routine: &[u8], side: u8, inputs: &[u32]) -> Verdict<Finding> {
+    let mut clauses = Clauses::default();
+    let needed = translate(routine, 0, side, &[], &mut clauses).expect("a valid claim");
+    let rng = &mut Rng::for_case(SEED, 2);
+    let variables = needed.variables as u32;
+    let proof = refute(rng, &clauses.numbers(), variables, Style::default(), 1);
+    let mut report = vec![0, side];
+    report.extend(inputs.iter().flat_map(|word| word.to_le_bytes()));
+    report.extend(encode(&proof.unwrap_or_default()));
+    let (words, starts) = (needed.words + 1, needed.clauses + 1);
+    agreed(
+        routine,
+        &report,
+        [words, starts, needed.variables + 1, 3, 0],
+    )
+}
+
+/// The side and index of an accepted report.
+fn found(verdict: Verdict<Finding>) -> Option<(Side, i64)> {
+    match verdict {
+        Verdict::Done(finding) => Some((finding.side, finding.index)),
+        _ => None,
+    }
+}
+
+/// Of two constants, with the destination one of them too: a report on the side
+/// on which the index lies is accepted, and on the other refused with 15.
+#[test]
+fn divisions_of_constants_at_every_width() {
+    let mut accepted = [0; 2];
+    for width in 1..=32 {
+        let (half, most) = (1_u32 << (width - 1), u32::MAX >> (32 - width));
+        let operands = [
+            [most, 0],
+            [half, 0],
+            [0, 0],
+            [most, 1],
+            [half - 1, most],
+            [most, most / 3],
+        ];
+        for (number, operands) in operands.into_iter().enumerate() {
+            for code in [0x0E, 0x0F] {
+                let routine = divide_constants(code, width, number as u8 % 3, operands);
+                let run = oracle::run(&routine, &[], 3, 0).expect("an accepted run");
+                for (byte, side) in [(0, Side::Below), (1, Side::Above)] {
+                    let verdict = judge_division(&routine, byte, &[]);
+                    match run.outcome {
+                        Outcome::Stopped {
+                            side: on, index, ..
+                        } if on == side => {
+                            assert_eq!(found(verdict), Some((side, index)));
+                            accepted[usize::from(byte)] += 1;
+                        }
+                        _ => assert_eq!(verdict, refused(15, 0)),
+                    }
+                }
+            }
+        }
+    }
+    assert!(accepted[0] > 100 && accepted[1] > 50, "{accepted:?}");
+}
+
+/// By a zero that is no parameter the quotient is -1 for every dividend.
+#[test]
+fn quotients_by_zero_at_every_width() {
+    for width in 1..=32 {
+        let routine = [
+            1, 2, width, width, 1, 1, 1, 0, 0x0E, 1, 0, 1, 0x0A, 0, 1, 0, 0,
+        ];
+        for dividend in [0, 1, u32::MAX >> (32 - width)] {
+            let verdict = judge_division(&routine, 0, &[dividend]);
+            assert_eq!(found(verdict), Some((Side::Below, -1)));
+        }
+    }
 }
 
 /// A report of at least so many steps, and what judging it needs.
