@@ -115,6 +115,25 @@ fn arithmetic_of_the_bench() {
     }
 }
 
+/// A divisor of zero gives all ones and the dividend.
+#[test]
+fn divisions() {
+    for (a, b, quotient, remainder) in [
+        (200, 60, 3, 20),
+        (60, 200, 0, 60),
+        (200, 200, 1, 0),
+        (200, 1, 200, 0),
+        (200, 0, 255, 200),
+        (0, 0, 255, 0),
+    ] {
+        for (code, result) in [(0x0E, quotient), (0x0F, remainder)] {
+            let ran = run(&[1, 3, 8, 8, 8, 2, 0, code, 2, 0, 1, 0], &[a, b]);
+            assert_eq!((ran.status, ran.answer), (0, answer(&[0])));
+            assert_eq!(ran.values, values(&[a, b, result]));
+        }
+    }
+}
+
 #[test]
 fn refusals_of_routines() {
     assert_refused(&[], 1, 0);
@@ -125,11 +144,15 @@ fn refusals_of_routines() {
     assert_refused(&[1, 1, 8, 2, 0, 0], 2, 3);
     assert_refused(&[1, 1, 8, 0, 0], 3, 5);
     assert_refused(&[1, 1, 8, 0, 0, 0x02, 9], 3, 5);
+    assert_refused(&[1, 1, 8, 0, 0, 0x0E, 9, 9], 3, 5);
+    assert_refused(&[1, 1, 8, 0, 0, 0x10, 0, 0, 0, 0], 3, 5);
     assert_refused(&[1, 1, 8, 0, 0, 0x0B, 0, 0, 0], 3, 9);
     assert_refused(&[1, 1, 8, 0, 0, 0x01, 0, 0, 1, 0, 0, 0], 4, 5);
     assert_refused(&[1, 1, 8, 0, 0, 0x0A, 0, 0, 0, 0], 4, 5);
+    assert_refused(&[1, 1, 8, 0, 0, 0x0F, 0, 0, 1, 0], 4, 5);
     assert_refused(&[1, 1, 8, 0, 0, 0x0B, 10, 0, 0, 0x0C, 0x0D, 0], 4, 5);
     assert_refused(&[1, 2, 8, 4, 0, 0, 0x02, 0, 1, 0], 5, 6);
+    assert_refused(&[1, 2, 8, 4, 0, 0, 0x0E, 0, 0, 1, 0], 5, 6);
     assert_refused(&[1, 1, 8, 0, 0, 0x0B, 0, 0, 0, 0x00], 6, 9);
     assert_refused(&[1, 1, 8, 0, 0, 0x0B, 0, 0, 0, 0x0D, 0], 6, 9);
     assert_refused(&[1, 1, 8, 0, 0, 0x0B, 0, 0, 0, 0x0C, 0x0C], 6, 10);

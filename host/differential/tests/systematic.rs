@@ -1,10 +1,13 @@
 //! Cases gone through one after the other instead of drawn: every operation,
-//! change of width, relation and index at every width, and every one-byte
-//! change and every cut of a routine that has every command in it.
+//! change of width, relation and index at every width, the refusals of every
+//! operation, and every one-byte change and every cut of a routine that has every
+//! command in it.
 
 use differential::case::Case;
-use differential::compare::{compare, Verdicts};
+use differential::compare::{compare, Verdict, Verdicts};
+use differential::plan::OPERATIONS;
 use differential::rng::Rng;
+use oracle::Refusal;
 
 const SEED: u64 = 0x50E1_1E7D_2026_0002;
 
@@ -31,12 +34,55 @@ fn pairs(width: u8) -> Vec<[u32; 2]> {
 fn operations_at_every_width() {
     let rng = &mut Rng::for_case(SEED, 0);
     for width in 1..=32 {
-        for code in 0x03..=0x05 {
-            let routine = [1, 3, width, width, width, 2, 0, code, 2, 0, 1, 0];
-            for inputs in pairs(width) {
-                agree(rng, &routine, &inputs);
+        for code in OPERATIONS {
+            for [d, s, t] in [[2, 0, 1], [0, 0, 1], [1, 0, 1], [0, 0, 0], [2, 0, 2]] {
+                let routine = [1, 3, width, width, width, 2, 0, code, d, s, t, 0];
+                for inputs in pairs(width) {
+                    agree(rng, &routine, &inputs);
+                }
             }
         }
+    }
+}
+
+/// Asserts this refusal of the routine with these commands, whose variables have
+/// 8, 8 and 7 bits and which begin at offset 7.
+fn assert_refused(rng: &mut Rng, commands: &[u8], number: u8) {
+    let routine = [&[1, 3, 8, 8, 7, 0, 0], commands].concat();
+    let place = 7;
+    match agree(rng, &routine, &[]).check {
+        Verdict::Refused(refusal) => assert_eq!(refusal, Refusal { number, place }),
+        verdict => panic!("{routine:02X?}: {verdict:?}"),
+    }
+}
+
+/// Cut short whatever the operands that are there; any operand out of range
+/// whatever the widths of the others; then any operand of another width.
+#[test]
+fn refusals_of_operations() {
+    let rng = &mut Rng::for_case(SEED, 10);
+    for code in OPERATIONS {
+        for operand in [0, 2, 3, 255] {
+            for operands in 0..3 {
+                let commands = [vec![code], vec![operand; operands]].concat();
+                assert_refused(rng, &commands, 3);
+            }
+        }
+        for at in 1..=3 {
+            for other in [0, 2] {
+                for operand in [3, 4, 32, 255] {
+                    let mut commands = [code, 0, other, 0, 0];
+                    commands[at] = operand;
+                    assert_refused(rng, &commands, 4);
+                }
+            }
+            let mut commands = [code, 0, 1, 0, 0];
+            commands[at] = 2;
+            assert_refused(rng, &commands, 5);
+        }
+    }
+    for code in 0x10..=0xFF {
+        assert_refused(rng, &[code, 0, 0, 0, 0], 3);
     }
 }
 
@@ -128,10 +174,12 @@ const EVERY_COMMAND: &[u8] = &[
     0x0C, // else
     0x04, 0, 0, 1, // v0 := v0 - v1
     0x05, 0, 0, 0, // v0 := v0 * v0
+    0x0E, 0, 0, 1, // v0 := v0 / v1
     0x0A, 0, 0, 3,    // array 0 at v0 := v3
     0x0D, // end of if
     0x06, 2, 1, // v2 := v1 cut
     0x07, 1, 2, // v1 := v2 zero-extended
+    0x0F, 1, 0, 1, // v1 := v0 % v1
     0x08, 0, 3, // v0 := v3 sign-extended
     0x0A, 1, 1, 0,    // array 1 at v1 := v0
     0x00, // end
@@ -168,7 +216,7 @@ fn every_change_of_one_byte() {
 fn every_insertion_of_a_command_byte() {
     let rng = &mut Rng::for_case(SEED, 6);
     for at in 0..=EVERY_COMMAND.len() {
-        for byte in 0..=0x0E {
+        for byte in 0..=0x10 {
             let mut routine = EVERY_COMMAND.to_vec();
             routine.insert(at, byte);
             agree_on_all(rng, &routine);

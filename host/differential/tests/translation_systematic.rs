@@ -4,6 +4,7 @@
 
 use differential::compare::Verdict;
 use differential::limit::routine_of;
+use differential::plan::OPERATIONS;
 use differential::rng::Rng;
 use differential::translation_case::TranslationCase;
 use differential::translation_compare::compare_translation;
@@ -125,8 +126,16 @@ fn refusals_in_their_order() {
 fn operations_at_every_width() {
     let rng = &mut Rng::for_case(SEED, 0);
     for width in 1..=32 {
-        for code in 0x03..=0x05 {
-            for [d, s, t] in [[2, 0, 1], [0, 0, 1], [1, 0, 1], [0, 0, 0]] {
+        for code in OPERATIONS {
+            // The last variable is no parameter and begins as 0.
+            for [d, s, t] in [
+                [2, 0, 1],
+                [0, 0, 1],
+                [1, 0, 1],
+                [0, 0, 0],
+                [0, 0, 2],
+                [2, 2, 0],
+            ] {
                 let header = [1, 3, width, width, width, 2, 1, 1, 0];
                 let commands = [code, d, s, t, 0x0A, 0, d, 0, 0];
                 let routine = [header.as_slice(), &commands].concat();
@@ -135,6 +144,60 @@ fn operations_at_every_width() {
                 }
             }
         }
+    }
+}
+
+/// Held against the numbers written here, whatever the oracle says: a division
+/// takes 4 gates, which are 18 clauses and 72 words, for each of its w times
+/// w + 1 bits.
+#[test]
+fn counts_of_divisions() {
+    for width in 1..=32_u8 {
+        for code in [0x0E, 0x0F] {
+            for [d, s, t] in [[2, 0, 1], [0, 0, 1], [1, 0, 1], [0, 0, 0], [0, 0, 2]] {
+                let header = [1, 3, width, width, width, 2, 1, 1, 0];
+                let commands = [code, d, s, t, 0x0A, 0, d, 0, 0];
+                let routine = [header.as_slice(), &commands].concat();
+                let (mut words, mut starts) = (vec![0; 80_000], vec![0; 20_000]);
+                let mut answer = [9; ANSWER_LEN];
+                let lent = (&mut words[..], &mut starts[..]);
+                let status = pellet::translate(&routine, 0, 0, &[], lent.0, lent.1, &mut answer);
+                assert_eq!(status, 0);
+                let width = u64::from(width);
+                let bits = width * (width + 1);
+                let counts = [3 + 18 * bits, 6 + 72 * bits, 1 + 2 * width + 4 * bits];
+                assert_eq!(answer[..3], counts);
+            }
+        }
+    }
+}
+
+/// Quotient and remainder of two 1-bit parameters, to the last word.
+#[test]
+fn one_bit_divisions() {
+    let gates = [
+        [1, 2].as_slice(),
+        &[3, 9, 4, 7, 3, 9, 5, 6, 3, 8, 5, 7, 3, 8, 4, 6], // 4 = XOR(2, -3)
+        &[3, 11, 8, 2, 3, 11, 9, 3, 3, 10, 9, 2, 3, 10, 8, 3], // 5 = XOR(4, true)
+        &[3, 5, 6, 12, 3, 5, 3, 12, 3, 6, 3, 12],          // 6 = MAJ(2, -3, true)
+        &[3, 4, 7, 13, 3, 4, 2, 13, 3, 7, 2, 13],
+        &[3, 15, 3, 2, 3, 15, 2, 3, 3, 14, 2, 2, 3, 14, 3, 3], // 7 = XOR(false, true)
+        &[3, 17, 14, 12, 3, 17, 15, 13, 3, 16, 15, 12, 3, 16, 14, 13], // 8 = XOR(7, 6)
+        &[3, 2, 3, 18, 3, 2, 13, 18, 3, 3, 13, 18],            // 9 = MAJ(false, true, 6)
+        &[3, 3, 2, 19, 3, 3, 12, 19, 3, 2, 12, 19],
+        &[3, 19, 11, 20, 3, 19, 10, 21, 3, 18, 5, 20, 3, 18, 4, 21], // 10 = MUX(9, 5, 2)
+        &[3, 19, 17, 22, 3, 19, 16, 23, 3, 18, 2, 22, 3, 18, 3, 23], // 11 = MUX(9, 8, false)
+    ]
+    .concat();
+    for (code, opposite) in [(0x0E, 19), (0x0F, 21)] {
+        let routine = [1, 3, 1, 1, 1, 2, 1, 1, 0, code, 2, 0, 1, 0x0A, 0, 2, 0, 0];
+        let expected = [gates.as_slice(), &[1, 2, 1, opposite]].concat();
+        let mut words = vec![0; expected.len()];
+        let (mut starts, mut answer) = ([0; 39], [0; ANSWER_LEN]);
+        let status = pellet::translate(&routine, 0, 0, &[], &mut words, &mut starts, &mut answer);
+        assert_eq!(status, 0);
+        assert_eq!(words, expected);
+        assert_eq!(answer[..3], [39, expected.len() as u64, 11]);
     }
 }
 
@@ -256,13 +319,15 @@ fn one_entry_short_of_the_most_words() {
     );
 }
 
-/// Some 64 million words: four times the most that are used.
+/// Some 64 and 78 million words: more than four times the most that are used.
 #[test]
-fn longest_routine_of_products() {
+fn longest_routines() {
     let rng = &mut Rng::for_case(SEED, 7);
-    let mut routine = vec![1, 1, 32, 1, 1, 1, 0];
-    routine.extend([0x05, 0, 0, 0].repeat(1021));
-    routine.extend([0x0A, 0, 0, 0, 0]);
-    let lent = (MAX_ENTRIES, MAX_ENTRIES);
-    assert_eq!(agree(rng, &routine, (0, 1, &[]), lent), too_small(0));
+    for code in [0x05, 0x0E] {
+        let mut routine = vec![1, 1, 32, 1, 1, 1, 0];
+        routine.extend([code, 0, 0, 0].repeat(1021));
+        routine.extend([0x0A, 0, 0, 0, 0]);
+        let lent = (MAX_ENTRIES, MAX_ENTRIES);
+        assert_eq!(agree(rng, &routine, (0, 1, &[]), lent), too_small(0));
+    }
 }
