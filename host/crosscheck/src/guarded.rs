@@ -7,7 +7,7 @@ use pelletperiod::Claim;
 /// Two parameters come before these.
 const INDEX: u8 = 2;
 const BOUND: u8 = 3;
-/// Wider products take the solvers long.
+/// Wider products and divisions take the solvers long.
 const WIDEST_PRODUCT: u8 = 6;
 
 pub fn draw_guarded(rng: &mut Rng) -> Claim {
@@ -35,7 +35,7 @@ pub fn draw_guarded(rng: &mut Rng) -> Claim {
 fn compute(rng: &mut Rng, width: u8) -> Vec<u8> {
     let mut commands = vec![0x02, INDEX, 0];
     let operations: &[u8] = match width <= WIDEST_PRODUCT {
-        true => &[0x03, 0x04, 0x05],
+        true => &[0x03, 0x04, 0x05, 0x0E, 0x0F],
         false => &[0x03, 0x04],
     };
     for _ in 0..rng.below(8) {
