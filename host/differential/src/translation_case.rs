@@ -89,7 +89,7 @@ fn draw_plan(rng: &mut Rng) -> Plan {
     if plan.accesses == 0 && !plan.header.sizes.is_empty() && rng.chance(80) {
         plan.accesses = rng.within(1, 8);
     }
-    plan.full &= rng.chance(30);
+    plan.full &= rng.chance(15);
     draw_sizes(rng, &mut plan.header);
     plan
 }
