@@ -106,6 +106,7 @@ impl Walk<'_> {
             0x0B => self.branch(rest),
             0x0C => self.enter_else(rest, place),
             0x0D => self.leave(rest, place),
+            0x0E | 0x0F => self.compute(rest),
             _ => Err(COMMAND),
         };
         next.map(Some)

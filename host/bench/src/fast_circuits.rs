@@ -39,7 +39,7 @@ pub struct Net<S> {
 impl<S: Sink> Net<S> {
     /// The first literal of so many new variables.
     #[inline]
-    fn take(&mut self, variables: usize) -> u32 {
+    pub fn take(&mut self, variables: usize) -> u32 {
         let first = self.next;
         self.next = first.wrapping_add(2 * variables as u32);
         first

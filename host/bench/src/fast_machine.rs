@@ -1,7 +1,7 @@
 //! The run of a checked routine: nothing that the check told is tested again.
 
 use crate::fast_check::{Arms, Place, Routine};
-use crate::fast_word::{holds, reduce, sign_extended, signed};
+use crate::fast_word::{divided, holds, reduce, sign_extended, signed};
 
 /// How a run came out.
 #[derive(Clone, Copy)]
@@ -90,6 +90,7 @@ impl<'a, W: Watch> Machine<'a, W> {
                 0x03 => self.compute(rest, u32::wrapping_add),
                 0x04 => self.compute(rest, u32::wrapping_sub),
                 0x05 => self.compute(rest, u32::wrapping_mul),
+                op @ (0x0E | 0x0F) => self.divide(op, rest),
                 0x06 => self.convert(rest, |x, to, _| reduce(x, to)),
                 0x08 => self.convert(rest, sign_extended),
                 0x0B => match self.branch(rest) {
@@ -132,6 +133,20 @@ impl<'a, W: Watch> Machine<'a, W> {
         let width = self.routine.header.width(d);
         self.values[d as usize] = reduce(op(self.value(s), self.value(t)), width);
         rest
+    }
+
+    /// A processor's division gives both, and one of them is chosen without a
+    /// jump.
+    #[inline(always)]
+    fn divide<'b>(&mut self, op: u8, rest: &'b [u8]) -> &'b [u8] {
+        self.compute(rest, |a, b| {
+            let (quotient, remainder) = divided(a, b);
+            if op == 0x0E {
+                quotient
+            } else {
+                remainder
+            }
+        })
     }
 
     #[inline(always)]

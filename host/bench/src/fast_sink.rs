@@ -13,6 +13,9 @@ pub trait Sink {
     /// Three gates for each place; where `turned` is 1, it takes the opposites
     /// of b.
     fn adder(&mut self, g: u32, a: &[u32], b: &[u32], turned: u32, carry: u32);
+    /// A step for each bit of s from the top: an adder over one place more, and a
+    /// choice for each of these.
+    fn division(&mut self, g: u32, s: &[u32], t: &[u32]);
     /// Two gates for each place.
     fn equality(&mut self, g: u32, a: &[u32], b: &[u32]);
     /// How many clauses and words it took.
@@ -58,6 +61,11 @@ impl Sink for Counter {
     #[inline]
     fn adder(&mut self, _: u32, a: &[u32], _: &[u32], _: u32, _: u32) {
         self.add(a.len(), 4 + 4 + 6, 16 + 16 + 24);
+    }
+
+    #[inline]
+    fn division(&mut self, _: u32, s: &[u32], _: &[u32]) {
+        self.add(s.len() * (s.len() + 1), 4 + 4 + 6 + 4, 16 + 16 + 24 + 16);
     }
 
     #[inline]

@@ -1,6 +1,7 @@
 //! The walk of a translation over the bytes of a checked routine.
 
 use crate::fast_circuits::{constant, spaced, Bits, Net, FALSE, ROW, SUM, TRUE};
+use crate::fast_division::{quotient_bits, remainder_bits};
 use crate::fast_header::Header;
 use crate::fast_sink::Sink;
 use crate::fast_translate::{Claim, Size};
@@ -70,7 +71,7 @@ impl<S: Sink, const V: usize> Walk<'_, S, V> {
                     constant(&mut self.bits[place::<V>(d)], value);
                     rest
                 }
-                [op @ 0x03..=0x05, d, s, t, ref rest @ ..] => {
+                [op @ (0x03..=0x05 | 0x0E | 0x0F), d, s, t, ref rest @ ..] => {
                     self.compute(op, d, s, t);
                     rest
                 }
@@ -107,9 +108,15 @@ impl<S: Sink, const V: usize> Walk<'_, S, V> {
         let first = match op {
             0x03 => self.net.add(a, b),
             0x04 => self.net.subtract(a, b),
-            _ => self.net.multiply(a, b),
+            0x05 => self.net.multiply(a, b),
+            _ => self.net.divide(a, b),
         };
-        spaced(&mut self.bits[place::<V>(d)], first, SUM);
+        let bits = &mut self.bits[place::<V>(d)];
+        match op {
+            0x0E => quotient_bits(&mut bits[..width], first),
+            0x0F => remainder_bits(&mut bits[..width], first),
+            _ => spaced(bits, first, SUM),
+        }
     }
 
     #[inline(always)]

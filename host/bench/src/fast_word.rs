@@ -19,6 +19,17 @@ pub fn reduce(x: u32, width: u8) -> u32 {
     x & ONES[width as usize]
 }
 
+/// The quotient and the remainder. Where the divisor is 0, all ones, of which the
+/// width leaves as many as it has, and the dividend.
+#[inline]
+pub fn divided(a: u32, b: u32) -> (u32, u32) {
+    if b == 0 {
+        (u32::MAX, a)
+    } else {
+        (a / b, a % b)
+    }
+}
+
 /// As a two's complement number.
 #[inline]
 pub fn signed(x: u32, width: u8) -> i32 {

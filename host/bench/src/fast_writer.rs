@@ -1,7 +1,9 @@
 //! The clauses of the circuits, written into buffers that suffice. A circuit
 //! takes its part of both buffers at once, so that the room is tested once.
 
+use crate::fast_circuits::{spaced, FALSE, ROW, SUM, TRUE};
 use crate::fast_clauses::{and, majority, mux, xor};
+use crate::fast_division::step_choices;
 use crate::fast_sink::Sink;
 use std::mem::take;
 
@@ -65,6 +67,31 @@ fn start_gates<const CLAUSES: usize>(
     }
 }
 
+/// Three gates for each place.
+#[inline(always)]
+fn write_adder(words: &mut [u32], mut g: u32, a: &[u32], b: &[u32], turned: u32, mut carry: u32) {
+    for ((place, &a), &b) in words.chunks_exact_mut(56).zip(a).zip(b) {
+        let (b, sum, next) = (b ^ turned, g.wrapping_add(2), g.wrapping_add(4));
+        place[..16].copy_from_slice(&xor(g, a, b));
+        place[16..32].copy_from_slice(&xor(sum, g, carry));
+        place[32..].copy_from_slice(&majority(next, a, b, carry));
+        carry = next;
+        g = g.wrapping_add(6);
+    }
+}
+
+/// The sum from this literal on, or the other bits: by the last carry, which is
+/// the gate before the first choice.
+#[inline(always)]
+fn write_choices(words: &mut [u32], mut g: u32, mut sum: u32, other: &[u32]) {
+    let carry = g.wrapping_sub(2);
+    for (gate, &b) in words.chunks_exact_mut(16).zip(other) {
+        gate.copy_from_slice(&mux(g, carry, sum, b));
+        sum = sum.wrapping_add(SUM);
+        g = g.wrapping_add(2);
+    }
+}
+
 impl Sink for Writer<'_> {
     #[inline(always)]
     fn unit(&mut self, a: u32) {
@@ -100,17 +127,30 @@ impl Sink for Writer<'_> {
     }
 
     #[inline(always)]
-    fn adder(&mut self, mut g: u32, a: &[u32], b: &[u32], turned: u32, mut carry: u32) {
+    fn adder(&mut self, g: u32, a: &[u32], b: &[u32], turned: u32, carry: u32) {
         let (words, starts, at) = self.next(56 * a.len(), 14 * a.len());
-        for ((place, &a), &b) in words.chunks_exact_mut(56).zip(a).zip(b) {
-            let (b, sum, next) = (b ^ turned, g.wrapping_add(2), g.wrapping_add(4));
-            place[..16].copy_from_slice(&xor(g, a, b));
-            place[16..32].copy_from_slice(&xor(sum, g, carry));
-            place[32..].copy_from_slice(&majority(next, a, b, carry));
-            carry = next;
-            g = g.wrapping_add(6);
-        }
+        write_adder(words, g, a, b, turned, carry);
         start_threes(starts, at);
+    }
+
+    /// A step takes its own part of the buffers: writing the starts of a whole
+    /// division behind all of its words takes longer.
+    fn division(&mut self, mut g: u32, s: &[u32], t: &[u32]) {
+        let places = s.len() + 1;
+        let mut divisor = [FALSE; 33];
+        divisor[..s.len()].copy_from_slice(t);
+        let mut shifted = [FALSE; 33];
+        for &bit in s.iter().rev() {
+            shifted[0] = bit;
+            let (words, starts, at) = self.next(72 * places, 18 * places);
+            let (adder, choices) = words.split_at_mut(56 * places);
+            write_adder(adder, g, &shifted[..places], &divisor[..places], 1, TRUE);
+            let chosen = step_choices(g, places);
+            write_choices(choices, chosen, g.wrapping_add(2), &shifted[..places]);
+            start_threes(starts, at);
+            spaced(&mut shifted[1..], chosen, ROW);
+            g = g.wrapping_add(8 * places as u32);
+        }
     }
 
     #[inline(always)]

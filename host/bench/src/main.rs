@@ -7,6 +7,7 @@ mod agreement;
 mod fast_check;
 mod fast_circuits;
 mod fast_clauses;
+mod fast_division;
 mod fast_header;
 mod fast_judge;
 mod fast_machine;
