@@ -1,5 +1,5 @@
-//! A routine of 4,096 bytes with all kinds of commands, as many ifs and accesses
-//! as there may be, and inputs with which it runs to its end.
+//! A routine of 4,096 bytes with all kinds of commands but divisions, as many ifs
+//! and accesses as there may be, and inputs with which it runs to its end.
 
 use differential::rng::Rng;
 

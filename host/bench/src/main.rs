@@ -4,6 +4,7 @@
 
 #[cfg(test)]
 mod agreement;
+mod divisions;
 mod fast_check;
 mod fast_circuits;
 mod fast_clauses;

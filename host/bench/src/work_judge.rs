@@ -4,7 +4,7 @@ use crate::fast_judge::judge;
 use crate::lent::Buffers;
 use crate::race::{race, Job, Times};
 use crate::table::{rate, row};
-use crate::{short_steps, solver_like};
+use crate::{divisions, short_steps, solver_like};
 use differential::proof_draft::Refutation;
 use examples::long_report::{bytes, long_report};
 use oracle::Room;
@@ -13,6 +13,10 @@ use pellet::ANSWER_LEN;
 /// Rounds whose translation is almost as long as a buffer may be.
 const SCATTERED_ROUNDS: usize = 250;
 const SCATTERED_STEPS: usize = 100_001;
+
+/// Divisions whose translation and steps are almost as long as a buffer and a
+/// report may be.
+const DIVISIONS: usize = 190;
 
 pub struct Judging {
     routine: Vec<u8>,
@@ -102,6 +106,10 @@ pub fn measure() {
     Judging::new(routine, &report).measure("judge a solver-like report", 80);
     let (routine, report) = short_steps::scattered(1, SCATTERED_ROUNDS, SCATTERED_STEPS);
     Judging::new(routine, &report).measure("judge short steps over many clauses", 10);
+    let routine = divisions::of_constants(DIVISIONS);
+    let report = long_report(&routine);
+    let name = format!("judge {DIVISIONS} divisions of 32 bits");
+    Judging::new(routine, &report).measure(&name, 20);
 }
 
 /// Reports of so many short steps, for the cost of a step.

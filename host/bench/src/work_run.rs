@@ -1,5 +1,7 @@
-//! A routine of 4,096 bytes, run again and again.
+//! Routines of about 4,096 bytes, run again and again: one of all kinds of
+//! commands but divisions, and one of divisions alone.
 
+use crate::divisions;
 use crate::fast_run::run;
 use crate::long_routine::draw;
 use crate::race::{race, Job};
@@ -14,6 +16,24 @@ struct Running {
     values: [[u32; 32]; 2],
     trails: [[u8; 32]; 2],
     answers: [[u64; ANSWER_LEN]; 2],
+}
+
+impl Running {
+    fn new(routine: Vec<u8>, inputs: Vec<u32>) -> Self {
+        Running {
+            routine,
+            inputs,
+            values: [[7; 32]; 2],
+            trails: [[7; 32]; 2],
+            answers: [[7; ANSWER_LEN]; 2],
+        }
+    }
+
+    fn measure(&mut self, name: &str) {
+        let times = race(self, 100);
+        row(name, CALLS, times);
+        rate("routine bytes", CALLS * self.routine.len(), times);
+    }
 }
 
 impl Job for Running {
@@ -44,15 +64,10 @@ impl Job for Running {
 
 pub fn measure() {
     let (routine, inputs) = draw(1);
-    let mut job = Running {
-        routine,
-        inputs,
-        values: [[7; 32]; 2],
-        trails: [[7; 32]; 2],
-        answers: [[7; ANSWER_LEN]; 2],
-    };
-    let times = race(&mut job, 100);
+    let mut job = Running::new(routine, inputs);
+    job.measure("run a routine of 4,096 bytes");
     assert_eq!(job.answers[0][0], 0, "the run goes to the end");
-    row("run a routine of 4,096 bytes", CALLS, times);
-    rate("routine bytes", CALLS * job.routine.len(), times);
+    let inputs: [u32; divisions::PARAMETERS] = [0xFEDC_BA98, 0x1234_5678, 0x9ABC, 0xF];
+    let mut job = Running::new(divisions::of_parameters(1000), inputs.to_vec());
+    job.measure("run 1,000 divisions of 32 bits");
 }

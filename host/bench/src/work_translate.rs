@@ -1,5 +1,7 @@
-//! Translations: the largest, and small ones again and again.
+//! Translations: the largest, one of divisions alone, and small ones again and
+//! again.
 
+use crate::divisions;
 use crate::fast_translate::{translate, Claim};
 use crate::lent::Buffers;
 use crate::race::{race, Job};
@@ -7,6 +9,9 @@ use crate::table::{rate, row};
 use differential::limit::routine_of;
 use oracle::{Room, MAX_ENTRIES};
 use pellet::ANSWER_LEN;
+
+/// As many as a buffer has words for.
+const DIVISIONS: usize = 220;
 
 struct Translating {
     routine: Vec<u8>,
@@ -78,6 +83,8 @@ pub fn measure() {
     let (routine, decisions) = routine_of(MAX_ENTRIES);
     let name = "translate the largest (16,777,216 words)";
     Translating::new(routine, decisions, 1).measure(name, 40);
+    let name = format!("translate {DIVISIONS} divisions of 32 bits");
+    Translating::new(divisions::of_parameters(DIVISIONS), vec![], 1).measure(&name, 40);
     for (name, routine) in [
         (
             "translate a small one (two-sensors)",
