@@ -35,8 +35,20 @@ pub fn multiply(d: u8, s: u8, t: u8) -> Vec<u8> {
     vec![0x05, d, s, t]
 }
 
+pub fn quotient(d: u8, s: u8, t: u8) -> Vec<u8> {
+    vec![0x0E, d, s, t]
+}
+
+pub fn remainder(d: u8, s: u8, t: u8) -> Vec<u8> {
+    vec![0x0F, d, s, t]
+}
+
 pub fn cut(d: u8, s: u8) -> Vec<u8> {
     vec![0x06, d, s]
+}
+
+pub fn zero_extend(d: u8, s: u8) -> Vec<u8> {
+    vec![0x07, d, s]
 }
 
 pub fn write(array: u8, i: u8, s: u8) -> Vec<u8> {

@@ -1,7 +1,9 @@
 //! The routines of examples/, each as its bytes.
 
 use crate::assemble::Relation::{AtLeastSigned, AtLeastUnsigned, LessSigned, LessUnsigned};
-use crate::assemble::{add, branch, cut, multiply, routine, set, subtract, write};
+use crate::assemble::{
+    add, branch, cut, multiply, quotient, remainder, routine, set, subtract, write, zero_extend,
+};
 
 /// Two words from sensors, each at least 50; their sum goes into an array of
 /// 100 entries if it is below 100, which it can only be by wrapping around.
@@ -36,6 +38,25 @@ pub fn sum_of_squares() -> Vec<u8> {
         branch(AtLeastUnsigned, REST, THREE, &[write(0, REST, A)], &[]),
     ];
     routine(&[8, 8, 3, 3], 2, &[3], &commands)
+}
+
+/// The count of a repeat is divided by the hooks in a group, which are set at a
+/// switch: so many groups are full, and the rest is left over. A rest that is a
+/// group or more is written at the number of full groups. Only a division by 0
+/// leaves one, and there the quotient is all ones.
+pub fn repeat_groups() -> Vec<u8> {
+    const COUNT: u8 = 0;
+    const SWITCH: u8 = 1;
+    const HOOKS: u8 = 2;
+    const FULL: u8 = 3;
+    const REST: u8 = 4;
+    let commands = [
+        zero_extend(HOOKS, SWITCH),
+        quotient(FULL, COUNT, HOOKS),
+        remainder(REST, COUNT, HOOKS),
+        branch(AtLeastUnsigned, REST, HOOKS, &[write(0, FULL, REST)], &[]),
+    ];
+    routine(&[8, 3, 8, 8, 8], 2, &[64], &commands)
 }
 
 /// A word falls into one of nine bands, by eight ifs inside one another. Eight

@@ -1,7 +1,8 @@
 //! The commands of examples/README.md print what stands there, and the routines
 //! are those that are written out.
 
-use examples::routines::{eight_branches, sum_of_squares, two_sensors};
+use examples::routines::{eight_branches, repeat_groups, sum_of_squares, two_sensors};
+use oracle::Outcome;
 use std::path::Path;
 use std::process::Command;
 
@@ -57,7 +58,7 @@ fn commands_print_what_the_text_says() {
         assert_eq!(carry_out(command), expected, "{command}");
         commands += 1;
     }
-    assert_eq!(commands, 7);
+    assert_eq!(commands, 10);
 }
 
 #[test]
@@ -65,9 +66,22 @@ fn routines_are_those_written_out() {
     for (name, routine) in [
         ("two-sensors", two_sensors()),
         ("sum-of-squares", sum_of_squares()),
+        ("repeat-groups", repeat_groups()),
         ("eight-branches", eight_branches()),
     ] {
         assert_eq!(in_tree(&format!("examples/{name}/routine.bin")), routine);
+    }
+}
+
+/// A rest is a group or more where there are no hooks in a group, and nowhere else.
+#[test]
+fn only_groups_without_hooks_come_to_the_write() {
+    let routine = repeat_groups();
+    for count in 0..=u32::from(u8::MAX) {
+        for hooks in 0..8 {
+            let run = oracle::run(&routine, &[count, hooks], 32, 32).expect("an accepted list");
+            assert_eq!(run.outcome == Outcome::Ended, hooks > 0);
+        }
     }
 }
 
