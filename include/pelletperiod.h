@@ -2,6 +2,10 @@
  * pelletperiod.h - checking, running and translating loop-free pick routines,
  * and judging reports about them.
  *
+ * Routines are those of document 01 with what note 1 of document 02 adds: the
+ * commands 0x0E d, s, t and 0x0F d, s, t, unsigned quotient and remainder of s
+ * by t. By 0 they are all ones and s. 0x10 is the first unknown command.
+ *
  * Every buffer is lent for the time of the call as a pointer and a number of
  * entries. A pointer must not be null, also where the number of entries is 0,
  * and must be aligned for its entries. A buffer that the call may write, one

@@ -1,5 +1,8 @@
 //! Safe bindings over the C interface of the pick-routine library.
 //!
+//! Routines have document 01's commands and, from note 1 of document 02, the
+//! unsigned quotient (0x0E) and remainder (0x0F).
+//!
 //! The functions take slices where C takes pointers and lengths, and hand back
 //! what C returns: 0, the number of a refusal, [`ANSWER_TOO_SHORT`], or from
 //! [`prove`] [`NOT_STANDING`]. What is filled and what is left alone is said in

@@ -17,7 +17,8 @@ cannot be used.";
 const CHECK: &str = "\
 usage: pelletperiod check ROUTINE
 
-Prints the counts of a routine, or why it is refused. ROUTINE is a file of its bytes.";
+Prints the counts of a routine, or why it is refused. ROUTINE is a file of its bytes: the commands
+are document 01's, and 0x0E and 0x0F, unsigned quotient and remainder, from note 1 of document 02.";
 
 const RUN: &str = "\
 usage: pelletperiod run ROUTINE [WORD]...
