@@ -6,7 +6,9 @@ use proof_reader::read_command;
 use slices::entry_at;
 use std::num::wrapping_add_u32;
 ghost use mathlib.Core.Path.{_≡_};
+ghost use lib.ListN.{take};
 ghost use lib.Seq.{slice};
+ghost use Rattle.slices.specs.Bytes.{entry};
 
 // Fewer words than these are fetched fast enough.
 const MANY_WORDS: usize = 8388608;
@@ -14,7 +16,19 @@ const MANY_WORDS: usize = 8388608;
 // The hints that are looked at beforehand.
 const AHEAD: usize = 32;
 
-// Where the last look is used up, reads the first word of the clause of each of the next hints, and returns the offset as far as it looked. What it read matters to
+// Where the words of clause h stand, if it is one of those that were given. A step's clause stands in the proof, and what its entry tells is no place
+// in the words: looked at there, it would fetch what nobody reads.
+fn given_start(starts: &[u32], given: usize, h: u32) -> u32
+    ensures { λ r. ⌜ r ≡ entry (take given (now (starts .entry))) h ⌝ }
+{
+    let i = h as usize;
+    if given <= i {
+        return 0;
+    }
+    entry_at(starts, i)
+}
+
+// Where the last look is used up, reads the first word of each given clause among those of the next hints, and returns the offset as far as it looked. What it read matters to
 // nothing: the sum goes into the trail's next entry, so that it is indeed read, and what was kept in the trail stays.
 pub fn look_ahead(
     proof: &[u8],
@@ -24,6 +38,7 @@ pub fn look_ahead(
     decided: usize,
     ahead: usize,
     here: usize,
+    given: usize,
 ) -> usize
     ensures { λ r. ⌜ slice 0 decided (now (trail .exit)) ≡ slice 0 decided (now (trail .entry)) ⌝ }
 {
@@ -36,7 +51,7 @@ pub fn look_ahead(
     while count < AHEAD {
         match read_command(proof, at) {
             Command::Hint(h) => {
-                named[count] = entry_at(starts, h as usize);
+                named[count] = given_start(starts, given, h);
                 count += 1;
                 at += 5;
             }

@@ -72,7 +72,7 @@ pub fn finish(
     let mut ahead: usize = 0;
     loop {
         let here = q.at - closed.len();
-        ahead = look_ahead(proof, words, starts, trail, q.decided, ahead, here);
+        ahead = look_ahead(proof, words, starts, trail, q.decided, ahead, here, q.given);
         let row = over_hints(closed, proof, words, starts, marks, trail, q);
         let n = row.progress;
         let command = row.command;

@@ -26,16 +26,16 @@ words-set (y ∷ ys) (suc i) x h w zero = w zero
 words-set (y ∷ ys) (suc i) x h w (suc j) = words-set ys i x h (λ k. w (suc k)) j
 
 abbrev Inv-loop : tie.InvT-loop
-Inv-loop proof words starts trail decided ahead here named₀ count₀ at₀ named count at = (count ≤ 32) × Words named
+Inv-loop proof words starts trail decided ahead here given named₀ count₀ at₀ named count at = (count ≤ 32) × Words named
 
 abbrev μ-loop : tie.MeasureT-loop
-μ-loop proof words starts trail decided ahead here named₀ count₀ at₀ named count at = length proof - at
+μ-loop proof words starts trail decided ahead here given named₀ count₀ at₀ named count at = length proof - at
 
 abbrev Inv-loop2 : tie.InvT-loop2
-Inv-loop2 proof words starts trail decided ahead here named count at sum₀ i₀ sum i = i ≤ count
+Inv-loop2 proof words starts trail decided ahead here given named count at sum₀ i₀ sum i = i ≤ count
 
 abbrev μ-loop2 : tie.MeasureT-loop2
-μ-loop2 proof words starts trail decided ahead here named count at sum₀ i₀ sum i = count - i
+μ-loop2 proof words starts trail decided ahead here given named count at sum₀ i₀ sum i = count - i
 
 loop-holds : tie.Need-loop-holds Inv-loop μ-loop Inv-loop2 μ-loop2
 loop-holds c = (omega arith, words-zeros 32)
@@ -53,7 +53,7 @@ loop-less c =
 loop-again : tie.Need-loop-again Inv-loop μ-loop Inv-loop2 μ-loop2
 loop-again c =
     let l = c .before .before .before .before .before .before .loop in
-    (omega arith, words-set (l .named) (l .count) (c .entry-at .result) (omega arith) (l .inv .1))
+    (omega arith, words-set (l .named) (l .count) (c .given-start .result) (omega arith) (l .inv .1))
 
 add-at-2 : tie.Need-add-at-2 Inv-loop μ-loop Inv-loop2 μ-loop2
 add-at-2 c =
@@ -75,8 +75,8 @@ loop-less-3 c =
     let k = c .before .before .read-command in
     omega (arith, close-within (c .before .before .before .before .before .before .before .before .before .before .before .args .proof .now) (c .before .before .before .before .loop .at) (k .result) (k .ensures) (c .enum-told2 .given .1))
 
-cast-entry-at-2 : tie.Need-cast-entry-at-2 Inv-loop μ-loop Inv-loop2 μ-loop2
-cast-entry-at-2 c = omega (arith, c .before .before .before .loop .inv .1 (c .before .loop2 .i))
+cast-entry-at : tie.Need-cast-entry-at Inv-loop μ-loop Inv-loop2 μ-loop2
+cast-entry-at c = omega (arith, c .before .before .before .loop .inv .1 (c .before .loop2 .i))
 
 returns-2 : tie.Need-returns-2 Inv-loop μ-loop Inv-loop2 μ-loop2
 returns-2 c =
@@ -94,7 +94,6 @@ look-ahead-spec =
     (λ c. search needs)
     loop-holds
     (λ c κs. search needs)
-    (λ c. search needs)
     (λ c. search needs)
     (λ c κs. search needs)
     (λ c. search needs)
@@ -116,7 +115,7 @@ look-ahead-spec =
     (λ c. search needs)
     (λ c. search needs)
     (λ c. search needs)
-    cast-entry-at-2
+    cast-entry-at
     (λ c κs. search needs)
     (λ c κs. search needs)
     (λ c. search needs)
