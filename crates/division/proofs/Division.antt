@@ -50,15 +50,11 @@ all-sized g s d w = rw (formula 4 w, formula 18 w, formula 72 w) (steps-sized g 
 pub one-more : (x k : ℕ) → x * k + x ≡ x * (k + 1)
 one-more x k = rw (add-one k) (sym (mul-suc x k))
 
--- the steps before the last ones and one of these do not take more than all
+-- k steps of x each, and one more, are no more than w of them
 pub steps-within : (x k w : ℕ) → k < w → x * k + x ≤ x * w
 steps-within x k w h =
     let m : x * suc k ≤ x * w = mul-le-mul-left x h in
     omega (arith, m, mul-suc x k)
-
--- the last one and those before it are all
-pub last-within : (w : ℕ) → 0 < w → 4 * suc w * (w - 1) + 4 * suc w ≤ 4 * suc w * w
-last-within w h = steps-within (4 * suc w) (w - 1) w (omega arith)
 
 -- ---- the loops that write
 

@@ -35,15 +35,15 @@ fn write_step(
     requires { ⌜ (0 < length (now r)) × (length (now r) ≤ places) ⌝ }
     ensures { λ _. ⌜ Written (now (words .entry)) (now (starts .entry)) at start (netlistClauses first (divisionStep first (litAt (now (r .entry))) (litAt (now (d .entry))) (length (now (r .entry))))) (now (words .exit)) (now (starts .exit)) ⌝ }
 {
-    let w = r.len();
-    let v = w as u32;
+    let v = r.len();
+    let size = v as u32;
     let difference = sum_bits(first);
     write_sum(words, starts, at, start, first, r, d, true, false, 2);
-    let i = at + 56 * v;
-    let k = start + 14 * v;
-    let g = first + 3 * v;
+    let i = at + 56 * size;
+    let k = start + 14 * size;
+    let g = first + 3 * size;
     let carry = 2 * (g - 1);
-    write_choice(words, starts, i, k, g, carry, &difference[..w], r);
+    write_choice(words, starts, i, k, g, carry, &difference[..v], r);
 }
 
 // Writes a division for which there is room. What a step chose is the remainder that the next one shifts up.
@@ -90,10 +90,10 @@ pub fn emit_division(words: &mut [u32], starts: &mut [u32], n: Net, s: &[u32], d
 {
     let store = n.store;
     let w = s.len() as u32;
-    let size = (w + 1) * w;
-    let clauses = 18 * size;
-    let count = 72 * size;
-    let next = counted(n, 4 * size, clauses, count);
+    let places = (w + 1) * w;
+    let clauses = 18 * places;
+    let count = 72 * places;
+    let next = counted(n, 4 * places, clauses, count);
     if fits(words.len(), starts.len(), store, clauses, count) {
         write_division(words, starts, store.words, store.clauses, n.next, s, d);
         return next;

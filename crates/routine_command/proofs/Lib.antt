@@ -1,3 +1,3 @@
 -- The laws for the layers above.
 pub mod Sizes
-mod Bytes
+pub mod Bytes

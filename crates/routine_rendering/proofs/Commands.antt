@@ -7,17 +7,18 @@ use Prim.Native.Nat.{ℕ, _+_, _-_, _≤_, _<_}
 use native.Mathlib.Omega.{arith}
 use lib.ListN.{length, drop}
 use lib.Dec.{leb, eqb}
-use borrow.Author.Tests.{ne-eqb, le-leb, lt-leb, eqb-true, leb-true}
+use borrow.Author.Tests.{eqb-true, leb-true}
 use Rattle.slices.specs.Bytes.{entry, word, wordBytes}
 use Rattle.routine_header.specs.Header.{between}
 use Rattle.routine_command.specs.Command.{commandSize, simpleSize, commandBy, commandOf, commandAt}
 use Rattle.routine_rendering.specs.Render.{simpleBytes}
-use Rattle.routine_rendering.specs.WellFormed.{Between}
+use Rattle.routine_rendering.specs.WellFormed.{Between, Computes}
 use Rattle.routine_command.specs.declared.Simple.{Simple}
 use Rattle.routine_command.specs.declared.Condition.{Condition}
 use Rattle.routine_command.specs.declared.Command.{Command}
 use Rattle.routine_rendering.specs.Exactly.{AreBytes}
 use Rattle.routine_command.proofs.Sizes.{whole}
+use Rattle.routine_command.proofs.Bytes.{converts, computes, divides, closes}
 use Rattle.routine_faults.proofs.Tests.{both}
 use Rattle.slices.proofs.Digits.{word-digits, word-value}
 use Rattle.routine_rendering.proofs.Bytes.{next, here, entry-at, entry-here, bytes-left, word-at}
@@ -40,7 +41,7 @@ whole-here ys c e l = let m : commandSize c ≤ length ys - 0 = omega arith in s
 abbrev pub Kind : Simple → Type 0
 Kind (Simple.Set d c) = c < 4294967296
 Kind (Simple.Convert op d s) = (op ≡ 0x02) ⊎ Between 0x06 0x08 op
-Kind (Simple.Compute op d s t) = Between 0x03 0x05 op ⊎ Between 0x0E 0x0F op
+Kind (Simple.Compute op d s t) = Computes op
 Kind (Simple.Read d array i) = Unit {0}
 Kind (Simple.Write array i s) = Unit {0}
 
@@ -52,43 +53,16 @@ module _ (op a b c k : ℕ) where
   by-convert : (op ≡ 0x02) ⊎ Between 0x06 0x08 op → commandBy op a b c k ≡ Command.Simple (Simple.Convert op a b)
   unfolding commandBy
   by-convert (inl e) = rw e
-  by-convert (inr l) = simp (ne-eqb op 1 (λ e. omega arith), ne-eqb op 2 (λ e. omega arith), le-leb 6 op (l .low), le-leb op 8 (l .high))
+  by-convert (inr l) = sym (converts op a b c k (l .low) (l .high))
 
-  by-compute : Between 0x03 0x05 op ⊎ Between 0x0E 0x0F op → commandBy op a b c k ≡ Command.Simple (Simple.Compute op a b c)
-  unfolding commandBy
-  by-compute (inl l) =
-      simp (ne-eqb op 1 (λ e. omega arith), ne-eqb op 2 (λ e. omega arith), lt-leb 6 op (omega arith), le-leb 3 op (l .low), le-leb op 5 (l .high))
-  by-compute (inr l) =
-      simp (
-        ne-eqb op 1 (λ e. omega arith),
-        ne-eqb op 2 (λ e. omega arith),
-        le-leb 6 op (omega arith),
-        lt-leb op 8 (omega arith),
-        le-leb 3 op (omega arith),
-        lt-leb op 5 (omega arith),
-        le-leb 14 op (l .low),
-        le-leb op 15 (l .high),
-      )
+  by-compute : Computes op → commandBy op a b c k ≡ Command.Simple (Simple.Compute op a b c)
+  by-compute (inl l) = sym (computes op a b c k (omega (arith, l .low)) (omega (arith, l .high)))
+  by-compute (inr l) = sym (divides op a b c k (omega (arith, l .low)) (omega (arith, l .high)))
 
   by-close : Mark op → commandBy op a b c k ≡ Command.Close op
   unfolding commandBy
   by-close (inl e) = rw e
-  by-close (inr l) =
-      simp (
-        ne-eqb op 0 (λ e. omega arith),
-        ne-eqb op 1 (λ e. omega arith),
-        ne-eqb op 2 (λ e. omega arith),
-        ne-eqb op 9 (λ e. omega arith),
-        ne-eqb op 10 (λ e. omega arith),
-        ne-eqb op 11 (λ e. omega arith),
-        le-leb 6 op (omega arith),
-        lt-leb op 8 (omega arith),
-        le-leb 3 op (omega arith),
-        lt-leb op 5 (omega arith),
-        lt-leb 14 op (omega arith),
-        le-leb 12 op (l .low),
-        le-leb op 13 (l .high),
-      )
+  by-close (inr l) = sym (closes op a b c k (l .low) (l .high))
 
 -- a command stands where its bytes do
 simple-bytes : (c : Simple) (tail : List ℕ) → Kind c → commandAt (simpleBytes c ++ tail) 0 ≡ Command.Simple c

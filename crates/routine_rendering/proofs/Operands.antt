@@ -14,7 +14,7 @@ use Rattle.routine_header.specs.Header.{width}
 use Rattle.routine_faults.specs.Step.{inRange, converts, widthsFit}
 use Rattle.routine_faults.specs.Inner.Sound.{Sound, SoundIf}
 use Rattle.routine_rendering.specs.Syntax.{Syntax}
-use Rattle.routine_rendering.specs.WellFormed.{Between, Variable, widthOf, Converts, Computes, Good, GoodIf}
+use Rattle.routine_rendering.specs.WellFormed.{Between, Variable, widthOf, Converts, Good, GoodIf}
 use Rattle.routine_header.specs.declared.Header.{Header}
 use Rattle.routine_command.specs.declared.Simple.{Simple}
 use Rattle.routine_command.specs.declared.Condition.{Condition}
@@ -51,15 +51,11 @@ converts-kind op w x (inl e) = inl (e .0)
 converts-kind op w x (inr (inl e)) = inr (record { low = omega arith; high = omega arith })
 converts-kind op w x (inr (inr e)) = inr (record { low = omega arith; high = omega arith })
 
-computes-kind : (op : ℕ) → Computes op → Between 0x03 0x05 op ⊎ Between 0x0E 0x0F op
-computes-kind op (inl l) = inl (record { low = omega arith; high = omega arith })
-computes-kind op (inr l) = inr (record { low = omega arith; high = omega arith })
-
 -- the byte of a good command is one of its kind, and its constant has four bytes
 pub good-kind : (p : Syntax) → ((v : ℕ) → Variable p v → widthOf p v ≤ 32) → (c : Simple) → Good p c → Kind c
 good-kind p f (Simple.Set d c) g = lt-of-lt-of-le (g .1) (pow-mono (f d (g .0)))
 good-kind p f (Simple.Convert op d s) g = converts-kind op (widthOf p d) (widthOf p s) (g .2)
-good-kind p f (Simple.Compute op d s t) g = computes-kind op (g .0)
+good-kind p f (Simple.Compute op d s t) g = g .0
 good-kind p f (Simple.Read d array i) g = tt
 good-kind p f (Simple.Write array i s) g = tt
 

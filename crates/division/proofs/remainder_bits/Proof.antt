@@ -2,7 +2,7 @@ use mathlib.Core.Path.{_∙_}
 use Prim.Native.Nat.{_*_, _+_, _-_, _≤_, suc}
 use native.Mathlib.Omega.{arith}
 use borrow.Author.Needs.{needs}
-use Rattle.division.proofs.Division.{last-chosen, last-within}
+use Rattle.division.proofs.Division.{last-chosen, steps-within}
 use Rattle.arithmetic.proofs.Laws.{tabulate-cong}
 use Rattle.arithmetic.specs.Bits.{places}
 use Rattle.division.proofs.remainder_bits.Statement.{statement}
@@ -10,7 +10,7 @@ use Rattle.division.proofs.remainder_bits.Tie as tie
 
 -- the last step's variables are the division's
 below : (c : tie.Start) → 4 * suc (c .args .w) * (c .args .w - 1) + 4 * suc (c .args .w) ≤ 4 * suc (c .args .w) * c .args .w
-below c = last-within (c .args .w) (c .pre .1)
+below c = steps-within (4 * suc (c .args .w)) (c .args .w - 1) (c .args .w) (omega (arith, c .pre .1))
 
 mul-input-bits-2 : tie.Need-mul-input-bits-2
 mul-input-bits-2 c = omega (arith, below c, c .pre .0)
