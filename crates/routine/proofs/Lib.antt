@@ -8,6 +8,7 @@ pub mod Standing
 mod Passing
 pub mod Text
 pub mod Counting
+pub mod Extent
 pub mod Flat
 pub mod Numbering
 mod Bench
