@@ -4,9 +4,10 @@ use Rattle.cnf.proofs.Appending.{flatten-append}
 use Rattle.netlist.specs.Node.{nodeClauses, netlistClauses}
 use Rattle.netlist.specs.declared.Node.{Node}
 use Rattle.netlist.proofs.Nodes.{clausesOf-few, clausesOf-short}
-use Rattle.translation_meaning.specs.Translation.{lastClauses, clausesOfAll, parameterNodes, initialWires, translationOf}
+use Rattle.translation_meaning.specs.Translation.{lastClauses, clausesOfAll, translationSize, parameterNodes, initialWires, translationOf}
+use Rattle.translation_meaning.specs.Bound.{mostVariables, Bounded}
 use Rattle.translation_state.specs.declared.Claim.{Claim}
-use mathlib.Core.Path.{_≡_, ap, subst, sym, _∙_}
+use mathlib.Core.Path.{_≡_, ap, sym, _∙_}
 use mathlib.Core.List.{List, _++_}
 use mathlib.Core.Bool.{Bool, true, false}
 use Prim.Native.Nat.{ℕ, zero, suc, _+_, _*_, _^_, _<_, _≤_}
@@ -19,6 +20,7 @@ use Rattle.slices.specs.Bytes.{entry}
 use Rattle.routine_header.specs.Header.{width, arraySize}
 use Rattle.routine.specs.Routine.{Arm, done, plain, ifElse}
 use Rattle.routine.specs.Decode.{routine, decode}
+use Rattle.routine.specs.Extent.{greatestWidth, commandCount}
 use Rattle.routine.specs.Inner.Stands.{Stands}
 use Rattle.routine_faults.specs.Inner.Sound.{Sound, SoundIf, Fine}
 use Rattle.routine_header.specs.declared.Header.{Header}
@@ -30,6 +32,7 @@ use Rattle.routine.proofs.Views.{induction}
 use Rattle.routine.proofs.Accepted.{decoded}
 use Rattle.routine_faults.proofs.Fine.{fine, compute-fine, read-fine, write-fine, condition-fine}
 use Rattle.routine.proofs.Counting.{few-ifs}
+use Rattle.routine.proofs.Extent.{width-at-most, ifsIn, all-ifs, few-commands}
 use Rattle.netlist.specs.Literal.{opp}
 use Rattle.netlist.specs.Inner.Emit.{Ready}
 use Rattle.netlist.specs.declared.Net.{Net}
@@ -50,7 +53,6 @@ use Rattle.translation_if.specs.If.{conditionOf, armArrival, arrivals, joinGrou
 use Rattle.lead.specs.declared.Target.{Target}
 use Rattle.translation_meaning.proofs.Computing.{by-computation}
 use Rattle.translation_meaning.proofs.Stretches.{then-by, access-by, fork-by, frontOf, firstFrom, firstWires, firstOf, secondFrom, secondWires, secondOf, joinFrom, joinOf}
-use Rattle.translation_meaning.proofs.Counted.{commandsIn, ifsIn, all-ifs, few-commands}
 
 -- m variables are enough for every command with operands of at most w bits
 record Enough (w m : ℕ) : Type 0 where
@@ -88,13 +90,13 @@ allowed m j done = 0
 allowed m j (plain at c k rest) = m + allowed m j rest
 allowed m j (ifElse at c k first second rest) = m + j + allowed m j first + allowed m j second + allowed m j rest
 
--- the same by the counts
-allowed-is : (m j : ℕ) (a : Arm) → allowed m j a ≡ m * commandsIn a + j * ifsIn a
-unfolding allowed commandsIn ifsIn
-allowed-is m j done = omega arith
-allowed-is m j (plain at c k rest) = simp mul-add (omega (arith, allowed-is m j rest))
-allowed-is m j (ifElse at c k first second rest) =
-    simp mul-add (omega (arith, allowed-is m j first, allowed-is m j second, allowed-is m j rest))
+-- the same by the counts, in which the commands that end the arms are too
+allowed-few : (m j : ℕ) (a : Arm) → allowed m j a ≤ m * commandCount a + j * ifsIn a
+unfolding allowed commandCount ifsIn
+allowed-few m j done = omega arith
+allowed-few m j (plain at c k rest) = simp mul-add (omega (arith, allowed-few m j rest))
+allowed-few m j (ifElse at c k first second rest) =
+    simp mul-add (omega (arith, allowed-few m j first, allowed-few m j second, allowed-few m j rest))
 
 module _ (bs : List ℕ) (h : Header) (w : ℕ) (narrow : (v : ℕ) → v < h .variables → width bs v ≤ w) where
   -- the bits of the first n parameters
@@ -242,10 +244,9 @@ module _ (bs : List ℕ) (h : Header) (w : ℕ) (narrow : (v : ℕ) → v < h .v
   -- an arm takes at most 4 w (w + 1) variables for each command, and 32 w + 1 more for each if
   pub arm-bound : 1 ≤ w → Fine bs h → (t : Target) (ds : List ℕ) (a : Arm) (depth close at : ℕ) (k : Counts) (end : ℕ) (k₁ : Counts)
       → Stands bs h depth close at k a end k₁ → (g : ℕ) (s : Wires)
-      → length (encodeArm bs h t ds a g s .nodes) ≤ 4 * w * (w + 1) * commandsIn a + (32 * w + 1) * ifsIn a
+      → length (encodeArm bs h t ds a g s .nodes) ≤ 4 * w * (w + 1) * commandCount a + (32 * w + 1) * ifsIn a
   arm-bound l f t ds a depth close at k end k₁ st g s =
-      subst (λ (n : ℕ). length (encodeArm bs h t ds a g s .nodes) ≤ n) (allowed-is (4 * w * (w + 1)) (32 * w + 1) a)
-      (arm-few (f .few) (4 * w * (w + 1)) (enough w l) t ds a depth close at k end k₁ st g s)
+      omega (arith, arm-few (f .few) (4 * w * (w + 1)) (enough w l) t ds a depth close at k end k₁ st g s, allowed-few (4 * w * (w + 1)) (32 * w + 1) a)
 
 -- ---- a routine
 
@@ -257,7 +258,7 @@ parameters-few bs h f =
 -- a translation whose widths are at most w takes at most so many variables
 pub whole-bound : (bs : List ℕ) (t : Target) (ds : List ℕ) (h : Header) (a : Arm) (k : Counts) → decode bs ≡ routine h a k → (w : ℕ) → 1 ≤ w
     → ((v : ℕ) → v < h .variables → width bs v ≤ w)
-    → length (translationOf bs t ds h a .nodes) ≤ 1 + 32 * w + 4 * w * (w + 1) * commandsIn a + (32 * w + 1) * k .ifs
+    → length (translationOf bs t ds h a .nodes) ≤ mostVariables w (commandCount a) (k .ifs)
 unfolding translationOf
 whole-bound bs t ds h a k e w l narrow =
     let d = decoded bs h a k e in
@@ -267,7 +268,7 @@ whole-bound bs t ds h a k e w l narrow =
     let x : Encoding = encodeArm bs h t ds a (2 + length ns) s in
     let p = parameters-short bs h w narrow (given h) (f .parameters) in
     let n : given h ≤ 32 = omega (arith, f .parameters, f .few) in
-    let q : length (x .nodes) ≤ 4 * w * (w + 1) * commandsIn a + (32 * w + 1) * k .ifs =
+    let q : length (x .nodes) ≤ 4 * w * (w + 1) * commandCount a + (32 * w + 1) * k .ifs =
     rw (← all-ifs bs h a k e) (arm-bound bs h w narrow l f t ds a 0 0 _ _ _ k (d .stands) (2 + length ns) s) in
     omega (arith, length-append ns (x .nodes), p, mul-le-mul-left w n, q)
 
@@ -306,3 +307,21 @@ module _ (bs : List ℕ) (t : Target) (ds : List ℕ) (h : Header) (a : Arm) whe
       let ls = lastClauses (x .wires .claim) in
       let e : length (flatten (cs ++ ls)) ≡ length (flatten cs) + length (flatten ls) = ap length (flatten-append cs ls) ∙ length-append (flatten cs) (flatten ls) in
       omega (arith, e, clausesOf-short 2 ns, last-few (x .wires .claim) .1, length-append (parameterNodes bs (given h)) (x .nodes))
+
+-- note 2's bound holds of every claim on a routine
+pub bounded : (bs : List ℕ) (t : Target) (ds : List ℕ) (h : Header) (a : Arm) (k : Counts) → decode bs ≡ routine h a k
+    → Bounded bs (translationSize (translationOf bs t ds h a))
+bounded bs t ds h a k e =
+    let f = fine bs h (decoded bs h a k e .header) in
+    let below = width-at-most bs (h .variables) in
+    let l : 1 ≤ greatestWidth bs (h .variables) = omega (arith, f .widths 0 (f .some) .0, below 0 (f .some)) in
+    let v = whole-bound bs t ds h a k e (greatestWidth bs (h .variables)) l below in
+    record {
+      header = h;
+      commands = a;
+      counts = k;
+      decodes = e;
+      variables = v;
+      clauses = omega (arith, v, clauses-bound bs t ds h a);
+      words = omega (arith, v, words-bound bs t ds h a);
+    }

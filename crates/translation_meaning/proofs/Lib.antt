@@ -15,5 +15,4 @@ pub mod Simples
 pub mod Forks
 pub mod Alive
 pub mod Demand
-pub mod Counted
 pub mod Bound

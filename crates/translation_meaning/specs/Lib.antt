@@ -1,3 +1,4 @@
 pub mod Walk
 pub mod Translation
+pub mod Bound
 pub mod Faithful
