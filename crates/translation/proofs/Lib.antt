@@ -1,4 +1,4 @@
 -- What the proofs of several functions use.
 mod Admitting
-mod Making
 mod Storing
+mod Foretelling

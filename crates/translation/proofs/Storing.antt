@@ -14,6 +14,7 @@ use Rattle.cnf.specs.Clause.{flatten, offsets}
 use Rattle.cnf.proofs.Appending.{length-offsets}
 use Rattle.translation_meaning.specs.Translation.{translationOf, clausesOfAll, translationSize}
 use Rattle.translation_walk.specs.Inner.Walker.{ClaimEncoded}
+use Rattle.translation_space.specs.Inner.Counted.{ClaimCounted}
 use Rattle.slices.specs.Lent.{usable}
 use Rattle.slices.specs.declared.Buffer.{Buffer}
 use Rattle.translation.specs.Inner.Fitted.{Fitted}
@@ -37,9 +38,8 @@ sets-part vs l k h q =
 
 -- ---- the three answers
 
-module _ (bs : List ℕ) (h : Header) (t : Target) (ds words starts : List ℕ) (v z v₁ z₁ : List ℕ) (need : Size) (n : ClaimEncoded bs h t ds v z v₁ z₁ need) (w c : ℕ)
+module _ (bs : List ℕ) (h : Header) (t : Target) (ds words starts : List ℕ) (need : Size) (n : ClaimCounted bs h t ds need) (w c : ℕ)
     (ew : w ≡ usable words) (ec : c ≡ usable starts) where
-  -- the counts over empty slices are the counts
   words-are : (a : Arm) (k : Counts) → decode bs ≡ routine h a k → need .words ≡ translationSize (translationOf bs t ds h a) .words
   words-are a k d = ap (λ (s : Size). s .words) (n .size a k d)
 

@@ -9,6 +9,7 @@ use translation_meaning::Size;
 ghost use Rattle.lead.specs.Lead.{targetOf};
 ghost use Rattle.translation_meaning.specs.Faithful.{Demand2};
 ghost use Rattle.translation.specs.Answer.{TranslationAnswers};
+ghost use Rattle.translation.specs.Foretold.{Foretold};
 
 // Why there is no translation.
 pub enum Refusal {
@@ -33,6 +34,7 @@ pub fn translate(
     starts: &mut [u32],
 ) -> Translated
     ensures { λ r. ⌜ TranslationAnswers (now (routine .entry)) (targetOf access side) (now (decisions .entry)) (now (words .entry)) (now (starts .entry)) (now (words .exit)) (now (starts .exit)) r ⌝ }
+    ensures { λ r. ⌜ Foretold (now (routine .entry)) (targetOf access side) (now (decisions .entry)) (now (words .entry)) (now (starts .entry)) r ⌝ }
     ensures { λ r. ⌜ Demand2 (now (routine .entry)) (targetOf access side) (now (decisions .entry)) ⌝ }
 {
     let t = Target { access, side };

@@ -1,10 +1,10 @@
 -- The whole translation: variable 1, the parameters, the commands, and the last two clauses. Assumes nothing.
-use mathlib.Core.Path.{_≡_, ap, subst, _∙_}
+use mathlib.Core.Path.{_≡_, refl, ap, subst, _∙_}
 use mathlib.Core.List.{List, [], _∷_, _++_}
-use Prim.Native.Nat.{ℕ, _+_, _-_, _≤_}
+use Prim.Native.Nat.{ℕ, zero, suc, _+_, _-_, _≤_}
 use native.Mathlib.Nat.{zero-add}
 use native.Mathlib.Omega.{arith}
-use lib.ListN.{length}
+use lib.ListN.{length, take, replicate, length-replicate}
 use Rattle.routine_header.specs.Header.{firstCommand}
 use Rattle.routine.specs.Routine.{Arm}
 use Rattle.routine.specs.Decode.{routine, decode, IsRoutine}
@@ -41,6 +41,16 @@ empty = record { store = noStore; next = 1 }
 
 pub fine-here : (bs : List ℕ) (h : Header) → IsRoutine bs h → Fine bs h
 fine-here bs h i = fine bs h (decoded bs h (i .commands) (i .counts) (i .decodes) .header)
+
+-- the first places of an array that holds one literal
+first-places : (n m x : ℕ) → n ≤ m → take n (replicate m x) ≡ replicate n x
+first-places zero m x h = refl
+first-places (suc n) zero x h = absurd (omega arith)
+first-places (suc n) (suc m) x h = ap (λ (l : List ℕ). x ∷ l) (first-places n m x (omega arith))
+
+-- each of them holds it
+pub places-hold : (n m x : ℕ) → n ≤ m → take n (replicate m x) ≡ replicate (length (take n (replicate m x))) x
+places-hold n m x h = rw (first-places n m x h, length-replicate n x) refl
 
 module _ {bs : List ℕ} {h : Header} (i : IsRoutine bs h) {w u w₁ u₁ : List ℕ} {n₁ : Net} (p : Emitted w u empty (One ∷ []) w₁ u₁ n₁) where
   pub begin-ready : Ready n₁ 2048

@@ -1,7 +1,7 @@
 use borrow.Author.Needs.{needs}
 use Rattle.cnf.proofs.Appending.{appended-none, appended-then}
-use Rattle.translation.proofs.fitting.append_claim.Statement.{statement}
-use Rattle.translation.proofs.fitting.append_claim.Tie as tie
+use Rattle.translation_space.proofs.whole.append_claim.Statement.{statement}
+use Rattle.translation_space.proofs.whole.append_claim.Tie as tie
 
 returns : tie.Need-returns
 returns c = rw (c .enum-told .given .1) (appended-none _ _ _)
