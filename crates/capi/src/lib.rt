@@ -5,11 +5,12 @@ use capi_answer::fill_check;
 use capi_answer::fill_judge;
 use capi_answer::fill_prove;
 use capi_answer::fill_run;
+use capi_answer::fill_space;
 use capi_answer::fill_translate;
 ghost use mathlib.Core.List.{[], _∷_};
 ghost use Rattle.lead.specs.Lead.{targetOf};
 ghost use Rattle.translation_meaning.specs.Faithful.{Demand2};
-ghost use Rattle.capi_answer.specs.Left.{Leaves, checkLeaves, runLeaves, translateLeaves, proveLeaves, judgeLeaves, Finds, alikeLeaves};
+ghost use Rattle.capi_answer.specs.Left.{Leaves, checkLeaves, runLeaves, translateLeaves, spaceLeaves, proveLeaves, judgeLeaves, Finds, alikeLeaves};
 
 // Checks a routine.
 #[no_mangle]
@@ -58,6 +59,26 @@ pub extern "C" fn pellet_translate(
     }
     fill_translate(
         translation::translate(routine, access, side, decisions, words, starts),
+        answer,
+    )
+}
+
+// Tells the space that such a translation takes.
+#[no_mangle]
+pub extern "C" fn pellet_space(
+    routine: &[u8],
+    access: u8,
+    side: u8,
+    decisions: &[u8],
+    answer: &mut [u64],
+) -> u8
+    ensures { λ r. ⌜ Leaves (spaceLeaves (now (routine .entry)) access side (now (decisions .entry)) (now (answer .entry))) [] (now (answer .exit)) r ⌝ }
+{
+    if answer.len() < ANSWER_ENTRIES {
+        return 255;
+    }
+    fill_space(
+        translation_space::space(routine, access, side, decisions),
         answer,
     )
 }

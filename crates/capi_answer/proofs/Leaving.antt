@@ -12,6 +12,8 @@ use Rattle.report_witness.specs.declared.Compared.{Compared}
 use Rattle.run.specs.Answer.{RunAnswer, RunAnswers}
 use Rattle.run.specs.declared.Ran.{Ran}
 use Rattle.lead.specs.Lead.{targetOf}
+use Rattle.translation_space.specs.Space.{spaceAnswer}
+use Rattle.translation_space.specs.declared.Spaced.{Spaced}
 use Rattle.translation.specs.Answer.{TranslationAnswer, TranslationAnswers}
 use Rattle.translation.specs.declared.Translated.{Translated}
 use Rattle.proof.specs.Checking.{Checking, Checks}
@@ -19,8 +21,8 @@ use Rattle.proof.specs.declared.Checked.{Checked}
 use Rattle.report.specs.Zeroed.{Judges}
 use Rattle.report_judgement.specs.declared.Judged.{Judged}
 use Rattle.capi_answer.specs.Entry.{answerEntries}
-use Rattle.capi_answer.specs.Reply.{Reply, Fills, alikeFills, checkFills, runFills, translateFills, proveFills, judgeFills}
-use Rattle.capi_answer.specs.Left.{Leaves, unlessShort, checkLeaves, alikeLeaves, ranLeft, runLeaves, translatedLeft, translateLeaves, provedLeft, proveLeaves, judgeLeaves}
+use Rattle.capi_answer.specs.Reply.{Reply, Fills, alikeFills, checkFills, runFills, translateFills, spaceFills, proveFills, judgeFills}
+use Rattle.capi_answer.specs.Left.{Leaves, unlessShort, checkLeaves, alikeLeaves, ranLeft, runLeaves, translatedLeft, translateLeaves, spaceLeaves, provedLeft, proveLeaves, judgeLeaves}
 
 -- an answer that is short, and one that is not
 abbrev pub Short : List ℕ → Type 0
@@ -59,6 +61,11 @@ pub translate-leaves : (bs : List ℕ) (access side : ℕ) (ds words starts ans 
 unfolding translateLeaves
 translate-leaves bs access side ds words starts ans words₁ starts₁ ans₁ r f x e =
     subst (λ (y : TranslationAnswer). Leaves (translatedLeft words starts ans y) (words₁ ∷ starts₁ ∷ []) ans₁ r) (x .equal) (filled _ _ ans _ ans₁ r f e)
+
+pub space-leaves : (bs : List ℕ) (access side : ℕ) (ds ans ans₁ : List ℕ) (r : ℕ) {x : Spaced} → Fills (spaceFills x ans) ans₁ r
+    → x ≡ spaceAnswer bs (targetOf access side) ds → Long ans → Leaves (spaceLeaves bs access side ds ans) [] ans₁ r
+unfolding spaceLeaves
+space-leaves bs access side ds ans ans₁ r f e q = rw (← e) (filled [] [] ans _ ans₁ r f q)
 
 pub prove-leaves : (r : List ℕ) (from clauses variables : ℕ) (words starts marks ans starts₁ marks₁ ans₁ : List ℕ) (code : ℕ) {c : Checked}
     → Fills (proveFills c ans) ans₁ code → Checks words starts marks r from clauses variables starts₁ marks₁ c → Long ans

@@ -10,6 +10,7 @@ use lib.Dec.{ltb}
 use Rattle.routine.specs.Decode.{checked}
 use Rattle.run.specs.Answer.{RunAnswer, runAnswer}
 use Rattle.lead.specs.Lead.{targetOf}
+use Rattle.translation_space.specs.Space.{spaceAnswer}
 use Rattle.translation.specs.Answer.{TranslationAnswer, translationAnswer}
 use Rattle.proof.specs.Checking.{Checking, checking}
 use Rattle.report_judgement.specs.Judging.{judgement}
@@ -19,7 +20,7 @@ use Rattle.report_judgement.specs.Demand.{Found}
 use Rattle.report.specs.Alike.{alike}
 use Rattle.report_judgement.specs.declared.Finding.{Finding}
 use Rattle.capi_answer.specs.Entry.{answerEntries, judgedOf}
-use Rattle.capi_answer.specs.Reply.{Reply, checkFills, runFills, translateFills, proveFills, judgeFills, alikeFills}
+use Rattle.capi_answer.specs.Reply.{Reply, checkFills, runFills, translateFills, spaceFills, proveFills, judgeFills, alikeFills}
 
 -- the number returned, what stands in the buffers, in the order in which they are lent, and what stands in `answer`
 pub record Left : Type 0 where
@@ -57,6 +58,10 @@ translatedLeft words starts ans x = unlessShort (words ∷ starts ∷ []) ans (x
 -- `pellet_translate`
 unfoldable pub translateLeaves : (bs : List ℕ) → (access side : ℕ) → (ds words starts ans : List ℕ) → Left
 translateLeaves bs access side ds words starts ans = translatedLeft words starts ans (translationAnswer bs (targetOf access side) ds words starts)
+
+-- `pellet_space`
+unfoldable pub spaceLeaves : (bs : List ℕ) → (access side : ℕ) → (ds ans : List ℕ) → Left
+spaceLeaves bs access side ds ans = unlessShort [] ans [] (spaceFills (spaceAnswer bs (targetOf access side) ds) ans)
 
 -- the answer of a proof's check, whose words are only read
 abbrev pub provedLeft : (starts marks ans : List ℕ) → Checking → Left

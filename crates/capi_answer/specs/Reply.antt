@@ -5,11 +5,12 @@ use mathlib.Core.List.{List, [], _∷_}
 use lib.Seq.{sets}
 use Rattle.routine.specs.declared.Checked.{Checked}
 use Rattle.run.specs.declared.Ran.{Ran}
+use Rattle.translation_space.specs.declared.Spaced.{Spaced}
 use Rattle.translation.specs.declared.Translated.{Translated}
 use Rattle.proof.specs.declared.Checked as proof
 use Rattle.report_judgement.specs.declared.Judged.{Judged}
 use Rattle.report_witness.specs.declared.Compared.{Compared}
-use Rattle.refusals.specs.Table.{routineRow, runRow, translationRow, proofRow, witnessRow, reportRow}
+use Rattle.refusals.specs.Table.{routineRow, runRow, leadRow, translationRow, proofRow, witnessRow, reportRow}
 use Rattle.refusals.specs.declared.Row.{Row}
 use Rattle.capi_answer.specs.Entry.{countsOf, stoppedOf, sizesOf, judgedOf, answerNumber}
 
@@ -41,6 +42,11 @@ runFills (Ran.Refused refusal) ans = refused (runRow refusal) ans
 abbrev pub translateFills : Translated → (ans : List ℕ) → Reply
 translateFills (Translated.Clauses size) ans = done (sizesOf size) ans
 translateFills (Translated.Refused refusal) ans = refused (translationRow refusal) ans
+
+-- what is told of a translation's space
+abbrev pub spaceFills : Spaced → (ans : List ℕ) → Reply
+spaceFills (Spaced.Told size) ans = done (sizesOf size) ans
+spaceFills (Spaced.Refused refusal) ans = refused (leadRow refusal) ans
 
 -- what checking a proof gives: steps closed and hints read; 254, no number of document 01, where the buffers do not hold what is asked
 abbrev pub proveFills : proof.Checked → (ans : List ℕ) → Reply

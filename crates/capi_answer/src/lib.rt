@@ -9,6 +9,7 @@ use crate::entries::fill_size;
 use crate::entries::fill_stop;
 use crate::entries::wide_size;
 use refusals::Row;
+use refusals::row_of_lead;
 use refusals::row_of_proof;
 use refusals::row_of_report;
 use refusals::row_of_routine;
@@ -20,10 +21,11 @@ use report_witness::Compared;
 use routine::Checked;
 use run::Ran;
 use translation::Translated;
+use translation_space::Spaced;
 ghost use Prim.Native.Nat.{_≤_};
 ghost use lib.ListN.{length};
 ghost use Rattle.capi_answer.specs.Entry.{answerEntries};
-ghost use Rattle.capi_answer.specs.Reply.{refused, checkFills, runFills, translateFills, proveFills, judgeFills, alikeFills, Fills};
+ghost use Rattle.capi_answer.specs.Reply.{refused, checkFills, runFills, translateFills, spaceFills, proveFills, judgeFills, alikeFills, Fills};
 
 // The entries that `answer` has at least.
 pub const ANSWER_ENTRIES: usize = 16;
@@ -84,6 +86,20 @@ pub fn fill_translate(translated: Translated, answer: &mut [u64]) -> u8
             0
         }
         Translated::Refused(refusal) => fill_refused(row_of_translation(refusal), answer),
+    }
+}
+
+// What is told of a translation's space.
+pub fn fill_space(spaced: Spaced, answer: &mut [u64]) -> u8
+    requires { ⌜ answerEntries ≤ length (now answer) ⌝ }
+    ensures { λ r. ⌜ Fills (spaceFills spaced (now (answer .entry))) (now (answer .exit)) r ⌝ }
+{
+    match spaced {
+        Spaced::Told(size) => {
+            fill_size(size, answer);
+            0
+        }
+        Spaced::Refused(refusal) => fill_refused(row_of_lead(refusal), answer),
     }
 }
 

@@ -14,7 +14,7 @@ returns-2 : tie.Need-returns-2
 unfolding translateLeaves
 returns-2 c =
     let t = c .before .before .before .before .before .before .before .before .translate in
-    (translate-leaves _ _ _ _ _ _ _ _ _ _ _ (c .before .before .fill-translate .ensures) (t .ensures .0) (le-ltb _ _ (c .before .before .before .before .before .before .before .before .before .before .before .if1 .left)), t .ensures .1)
+    (translate-leaves _ _ _ _ _ _ _ _ _ _ _ (c .before .before .fill-translate .ensures) (t .ensures .0) (le-ltb _ _ (c .before .before .before .before .before .before .before .before .before .before .before .if1 .left)), t .ensures .1 .1)
 
 pub pellet-translate-spec : {M : Type 1} → statement M
 pellet-translate-spec =
