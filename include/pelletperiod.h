@@ -5,6 +5,7 @@
  * Routines are those of document 01 with what note 1 of document 02 adds: the
  * commands 0x0E d, s, t and 0x0F d, s, t, unsigned quotient and remainder of s
  * by t. By 0 they are all ones and s. 0x10 is the first unknown command.
+ * pellet_space is the call of note 2.
  *
  * Every buffer is lent for the time of the call as a pointer and a number of
  * entries. A pointer must not be null, also where the number of entries is 0,
@@ -168,6 +169,33 @@ uint8_t pellet_translate(const uint8_t *routine, size_t routine_len,
                          uint32_t *words, size_t words_len,
                          uint32_t *starts, size_t starts_len,
                          uint64_t *answer, size_t answer_len);
+
+/*
+ * Tells what pellet_translate would answer in buffers large enough, without
+ * any; refuses with 1 to 8, 11 and 12, as pellet_translate does.
+ *
+ * On 0 the answer holds:
+ *
+ *   answer[0]  number of clauses
+ *   answer[1]  number of words that the clauses take
+ *   answer[2]  number of variables
+ *
+ * pellet_translate then refuses with 16 exactly when `words` has fewer than
+ * answer[1] entries or answer[1] is above 16,777,216 (place 0), and else when
+ * `starts` has fewer than answer[0] entries or answer[0] is above 16,777,216
+ * (place 1). Otherwise it answers these three numbers.
+ *
+ * With w the greatest width, n commands (each if, else, end of if and end
+ * among them) and f ifs there are at most
+ * 1 + 32w + 4w(w + 1)n + (32w + 1)f variables, 6 times as many clauses and 24
+ * times as many words.
+ *
+ * `routine` and `decisions` are only read.
+ */
+uint8_t pellet_space(const uint8_t *routine, size_t routine_len,
+                     uint8_t access, uint8_t side,
+                     const uint8_t *decisions, size_t decisions_len,
+                     uint64_t *answer, size_t answer_len);
 
 /*
  * Checks a proof, read from `report` at the offset `from` on, that no

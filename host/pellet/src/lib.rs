@@ -1,7 +1,7 @@
 //! Safe bindings over the C interface of the pick-routine library.
 //!
 //! Routines have document 01's commands and, from note 1 of document 02, the
-//! unsigned quotient (0x0E) and remainder (0x0F).
+//! unsigned quotient (0x0E) and remainder (0x0F). [`space`] is the call of note 2.
 //!
 //! The functions take slices where C takes pointers and lengths, and hand back
 //! what C returns: 0, the number of a refusal, [`ANSWER_TOO_SHORT`], or from
@@ -58,6 +58,17 @@ mod ffi {
             words_len: usize,
             starts: *mut u32,
             starts_len: usize,
+            answer: *mut u64,
+            answer_len: usize,
+        ) -> u8;
+
+        pub fn pellet_space(
+            routine: *const u8,
+            routine_len: usize,
+            access: u8,
+            side: u8,
+            decisions: *const u8,
+            decisions_len: usize,
             answer: *mut u64,
             answer_len: usize,
         ) -> u8;
@@ -134,6 +145,26 @@ pub fn translate(
             words.len(),
             starts.as_mut_ptr(),
             starts.len(),
+            answer.as_mut_ptr(),
+            answer.len(),
+        )
+    }
+}
+
+/// Tells the space that a translation takes, without buffers. On 0, `answer`
+/// begins with the numbers of clauses, words and variables that [`translate`]
+/// then answers where `words` and `starts` have so many entries and these are
+/// at most [`MAX_ENTRIES`].
+pub fn space(routine: &[u8], access: u8, side: u8, decisions: &[u8], answer: &mut [u64]) -> u8 {
+    // SAFETY: as in `check`.
+    unsafe {
+        ffi::pellet_space(
+            routine.as_ptr(),
+            routine.len(),
+            access,
+            side,
+            decisions.as_ptr(),
+            decisions.len(),
             answer.as_mut_ptr(),
             answer.len(),
         )
