@@ -14,6 +14,7 @@ pub mod arithmetic;
 mod circuits;
 pub mod clauses;
 pub mod exhaustive;
+mod extent;
 mod lead;
 mod netlist;
 mod parser;
@@ -28,6 +29,7 @@ mod site;
 pub mod translation;
 
 pub use clauses::{Clauses, Discard, Literal, Sink};
+pub use extent::{extent_of, Extent, Most};
 pub use lead::{alike, lead_len, MAX_REPORT};
 pub use proof::{check_proof, follow_proof, Followed, Totals};
 pub use refusal::Refusal;
