@@ -8,7 +8,9 @@
 //!
 //! The same for translations: [`translation_case::TranslationCase`] with
 //! [`translation_compare::compare_translation`], clause by clause, and
-//! [`translation_tally::TranslationTally`].
+//! [`translation_tally::TranslationTally`]. Each is also asked for its space
+//! beforehand: [`space_compare::compare_as_told`] holds the translation against
+//! what was told, and [`space_tally::SpaceTally`] counts what that came to.
 //!
 //! For proofs, [`refutations`] draws clauses that nothing satisfies and
 //! [`refute`] proves it, [`proof_damage`] damages the proofs, and a
@@ -56,6 +58,8 @@ pub mod report_draft;
 pub mod report_tally;
 pub mod rng;
 pub mod seeded;
+pub mod space_compare;
+pub mod space_tally;
 pub mod survey;
 pub mod tally;
 pub mod translation_case;

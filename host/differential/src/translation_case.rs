@@ -1,5 +1,5 @@
 //! A translation to be made: a routine, the access, side and decisions, and the
-//! buffers lent for it.
+//! buffers lent for it and for being told its space beforehand.
 
 use crate::case::{draw_answer_len, draw_len};
 use crate::compare::hex;
@@ -21,6 +21,7 @@ pub struct TranslationCase {
     pub words: Lent<u32>,
     pub starts: Lent<u32>,
     pub answer: Lent<u64>,
+    pub space_answer: Lent<u64>,
 }
 
 impl TranslationCase {
@@ -33,7 +34,7 @@ impl TranslationCase {
         let (decisions, beyond) = draw_decisions(rng, routine.as_ref());
         let (clauses, words) = needed(rng, &text.bytes, access, side, &decisions);
         let (words, starts) = (draw_len(rng, words), draw_len(rng, clauses));
-        let answer = draw_answer_len(rng);
+        let (answer, space_answer) = (draw_answer_len(rng), draw_answer_len(rng));
         TranslationCase {
             routine: Lent::holding(rng, &text.bytes, &text.beyond),
             access,
@@ -42,6 +43,7 @@ impl TranslationCase {
             words: Lent::noise(rng, words),
             starts: Lent::noise(rng, starts),
             answer: Lent::noise(rng, answer),
+            space_answer: Lent::noise(rng, space_answer),
         }
     }
 
@@ -60,6 +62,7 @@ impl TranslationCase {
             words: Lent::noise(rng, words),
             starts: Lent::noise(rng, starts),
             answer: Lent::noise(rng, ANSWER_LEN),
+            space_answer: Lent::noise(rng, ANSWER_LEN),
         }
     }
 }
@@ -176,10 +179,11 @@ impl fmt::Display for TranslationCase {
         )?;
         writeln!(
             f,
-            "lent: words {}, starts {}, answer {}",
+            "lent: words {}, starts {}, answer {} for the translation, {} for its space",
             self.words.len(),
             self.starts.len(),
-            self.answer.len()
+            self.answer.len(),
+            self.space_answer.len()
         )
     }
 }

@@ -9,8 +9,10 @@ use oracle::{Clauses, Literal, Sink, Translation};
 /// A translation by the library that agrees with the oracle's.
 pub struct Agreed {
     pub verdict: Verdict<Translation>,
+    pub status: u8,
     pub words: Lent<u32>,
     pub starts: Lent<u32>,
+    pub answer: Lent<u64>,
 }
 
 /// Makes the call and compares it with the oracle clause by clause, and all
@@ -49,8 +51,10 @@ pub fn compare_translation(case: &TranslationCase) -> Result<Agreed, String> {
     differences.finish("pellet_translate", case, &verdict)?;
     Ok(Agreed {
         verdict,
+        status,
         words,
         starts,
+        answer,
     })
 }
 
@@ -63,8 +67,9 @@ fn expected(case: &TranslationCase) -> Verdict<Translation> {
     })
 }
 
-/// The entries of the answer that a translation fills, from the first on.
-fn expected_entries(verdict: &Verdict<Translation>) -> Vec<u64> {
+/// The entries of the answer that a translation fills, from the first on; those
+/// that tell its space are the same.
+pub(crate) fn expected_entries(verdict: &Verdict<Translation>) -> Vec<u64> {
     match verdict {
         Verdict::Done(translation) => [
             translation.clauses,

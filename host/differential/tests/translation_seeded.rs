@@ -1,14 +1,17 @@
-//! Seeded random translations, compared with the oracle clause by clause, and
-//! seeded narrow routines whose clauses, read back from the library's buffers,
-//! are checked on every input list. How to make a translation again is said in
+//! Seeded random translations, compared with the oracle clause by clause and
+//! with the space that is told of them beforehand, and seeded narrow routines
+//! whose clauses, read back from the library's buffers, are checked on every
+//! input list. How to make a translation again is said in
 //! `differential::seeded`.
 
 use differential::compare::Verdict;
 use differential::narrow::{draw_followed, draw_narrow};
 use differential::rng::Rng;
 use differential::seeded::{go_through, settle, show};
+use differential::space_compare::compare_as_told;
+use differential::space_tally::SpaceTally;
 use differential::translation_case::TranslationCase;
-use differential::translation_compare::{compare_translation, read_clauses};
+use differential::translation_compare::read_clauses;
 use differential::translation_tally::TranslationTally;
 use oracle::exhaustive::{check_every_input, Lists};
 
@@ -19,11 +22,18 @@ const NARROW_CASES: u64 = 6000;
 
 #[test]
 fn seeded_translations_agree() {
-    let mut tally = TranslationTally::default();
-    let compare = |case: &_| compare_translation(case).map(|agreed| agreed.verdict);
-    let note = |case: &_, verdict: &_| tally.add(case, verdict);
+    let (mut tally, mut spaces) = (TranslationTally::default(), SpaceTally::default());
+    let compare = |case: &_| {
+        let both = compare_as_told(case)?;
+        Ok((both.told.verdict, both.translated.verdict))
+    };
+    let note = |case: &_, (space, translation): &(_, _)| {
+        tally.add(case, translation);
+        spaces.add(case, space, translation);
+    };
     if go_through(SEED, CASES, TranslationCase::draw, compare, note) {
         settle(tally.counter());
+        settle(spaces.counter());
     }
 }
 
@@ -60,7 +70,7 @@ fn check_narrow(rng: &mut Rng) -> Result<Lists, String> {
     let translation = oracle::measure(&bytes, lead.0, lead.1, lead.2).expect("a valid lead");
     let lent = (translation.words, translation.clauses);
     let case = TranslationCase::lending(rng, &bytes, lead, lent);
-    let agreed = compare_translation(&case)?;
+    let agreed = compare_as_told(&case)?.translated;
     assert!(matches!(agreed.verdict, Verdict::Done(_)));
     let (words, starts) = (agreed.words.slice(), agreed.starts.slice());
     let clauses = read_clauses(words, starts, translation.clauses);
