@@ -11,6 +11,7 @@
 //! [`translation_tally::TranslationTally`]. Each is also asked for its space
 //! beforehand: [`space_compare::compare_as_told`] holds the translation against
 //! what was told, and [`space_tally::SpaceTally`] counts what that came to.
+//! [`turned_down`] has the refusals that both calls share, written out.
 //!
 //! For proofs, [`refutations`] draws clauses that nothing satisfies and
 //! [`refute`] proves it, [`proof_damage`] damages the proofs, and a
@@ -66,3 +67,4 @@ pub mod translation_case;
 pub mod translation_compare;
 pub mod translation_tally;
 pub mod truth;
+pub mod turned_down;

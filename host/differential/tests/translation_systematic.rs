@@ -8,6 +8,7 @@ use differential::plan::OPERATIONS;
 use differential::rng::Rng;
 use differential::translation_case::TranslationCase;
 use differential::translation_compare::compare_translation;
+use differential::turned_down::{turned_down, IF_AND_ACCESS};
 use oracle::{Refusal, Translation, MAX_ENTRIES};
 use pellet::ANSWER_LEN;
 
@@ -85,13 +86,10 @@ fn free_if() {
     assert_eq!(starts[..7], [0, 2, 6, 10, 14, 18, 21]);
 }
 
-/// Numbers and places written out, each refusal with later ones in waiting.
+/// Numbers and places written out, each refusal with later ones in waiting: the
+/// buffers last of all.
 #[test]
 fn refusals_in_their_order() {
-    // One if and one access.
-    let routine = [
-        1, 1, 8, 1, 1, 4, 0, 0x0B, 0, 0, 0, 0x0C, 0x0D, 0x0A, 0, 0, 0, 0,
-    ];
     let refused = |routine: &[u8], (access, side, decisions): Lead, lent: (usize, usize)| {
         let (mut words, mut starts, mut answer) = ([9; 64], [9; 64], [9; ANSWER_LEN]);
         let lent = (&mut words[..lent.0], &mut starts[..lent.1]);
@@ -108,16 +106,12 @@ fn refusals_in_their_order() {
         assert_eq!(answer[1..], [9; ANSWER_LEN - 1]);
         (status, answer[0])
     };
-    assert_eq!(refused(&[], (9, 9, &[9, 9]), (0, 0)), (1, 0));
-    assert_eq!(refused(&routine[..17], (9, 9, &[9, 9]), (0, 0)), (3, 17));
-    assert_eq!(refused(&routine, (9, 9, &[]), (0, 0)), (11, 0));
-    assert_eq!(refused(&routine, (9, 9, &[9, 9]), (0, 0)), (11, 2));
-    assert_eq!(refused(&routine, (1, 9, &[9]), (0, 0)), (12, 0));
-    assert_eq!(refused(&routine, (0, 2, &[9]), (0, 0)), (12, 1));
-    assert_eq!(refused(&routine, (0, 1, &[3]), (0, 0)), (12, 2));
-    assert_eq!(refused(&routine, (0, 1, &[2]), (0, 0)), (16, 0));
-    // Without accesses no access is in range.
-    assert_eq!(refused(&[1, 1, 8, 0, 0, 0], (0, 9, &[]), (0, 0)), (12, 0));
+    for case in turned_down() {
+        let lead: Lead = (case.access, case.side, &case.decisions);
+        let got = refused(&case.routine, lead, (0, 0));
+        assert_eq!(got, (case.number, case.place), "{:02X?}", case.routine);
+    }
+    assert_eq!(refused(IF_AND_ACCESS, (0, 1, &[2]), (0, 0)), (16, 0));
     assert_eq!(refused(WRITE_AT_ONE_BIT, (0, 0, &[]), (5, 0)), (16, 0));
     assert_eq!(refused(WRITE_AT_ONE_BIT, (0, 0, &[]), (6, 2)), (16, 1));
 }
