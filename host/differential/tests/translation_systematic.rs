@@ -1,13 +1,14 @@
 //! Translations gone through one after the other: the worked examples with
 //! their clauses written out, every circuit at every width, every length of
-//! buffers that is too short, and the most words that are ever used.
+//! buffers that is too short, and the most words that are ever used. Each is
+//! also asked for its space beforehand and held against what is told.
 
 use differential::compare::Verdict;
 use differential::limit::routine_of;
 use differential::plan::OPERATIONS;
 use differential::rng::Rng;
+use differential::space_compare::compare_as_told;
 use differential::translation_case::TranslationCase;
-use differential::translation_compare::compare_translation;
 use differential::turned_down::{turned_down, IF_AND_ACCESS};
 use oracle::{Refusal, Translation, MAX_ENTRIES};
 use pellet::ANSWER_LEN;
@@ -18,8 +19,8 @@ type Lead<'a> = (u8, u8, &'a [u8]);
 
 fn agree(rng: &mut Rng, routine: &[u8], lead: Lead, lent: (usize, usize)) -> Verdict<Translation> {
     let case = TranslationCase::lending(rng, routine, lead, lent);
-    match compare_translation(&case) {
-        Ok(agreed) => agreed.verdict,
+    match compare_as_told(&case) {
+        Ok(both) => both.translated.verdict,
         Err(report) => panic!("{report}"),
     }
 }
@@ -274,7 +275,9 @@ fn every_length_that_is_too_short() {
     );
 }
 
-/// Numbers of words on both sides of the most that are used.
+/// Numbers of words on both sides of the most that are used. All are told
+/// beforehand, and where they are no more than that, buffers of as many entries
+/// as told suffice.
 #[test]
 fn around_the_most_words() {
     let rng = &mut Rng::for_case(SEED, 5);
@@ -284,16 +287,31 @@ fn around_the_most_words() {
         let translation = oracle::measure(&routine, 0, 0, &decisions).expect("accepted");
         assert_eq!(translation.words, words);
         let starts = translation.clauses;
-        if words > MAX_ENTRIES {
-            assert_eq!(
-                agree(rng, &routine, lead, (words + 9, starts)),
-                too_small(0)
-            );
-        } else {
-            let done = Verdict::Done(translation);
-            assert_eq!(agree(rng, &routine, lead, (MAX_ENTRIES + 9, starts)), done);
+        let mut answer = [9; ANSWER_LEN];
+        assert_eq!(pellet::space(&routine, 0, 0, &decisions, &mut answer), 0);
+        let counts = [starts, words, translation.variables].map(|count| count as u64);
+        assert_eq!(answer[..3], counts);
+        let expected = match words > MAX_ENTRIES {
+            true => too_small(0),
+            false => Verdict::Done(translation),
+        };
+        for lent in [(words, starts), (MAX_ENTRIES + 9, starts)] {
+            assert_eq!(agree(rng, &routine, lead, lent), expected);
         }
     }
+}
+
+/// With two words more than are used, buffers of twice the most do not suffice.
+#[test]
+fn no_buffer_is_large_enough() {
+    let (routine, decisions) = routine_of(MAX_ENTRIES + 2);
+    let (mut words, mut starts) = (vec![9; 2 * MAX_ENTRIES], vec![9; 2 * MAX_ENTRIES]);
+    let mut answer = [9; ANSWER_LEN];
+    let lent = (&mut words[..], &mut starts[..]);
+    let status = pellet::translate(&routine, 0, 0, &decisions, lent.0, lent.1, &mut answer);
+    assert_eq!((status, answer[0]), (16, 0));
+    assert_eq!(answer[1..], [9; ANSWER_LEN - 1]);
+    assert!(words.iter().chain(&starts).all(|&entry| entry == 9));
 }
 
 #[test]
