@@ -71,6 +71,24 @@ fn translate_changes_nothing() {
     }
 }
 
+/// Of a space that is told otherwise, and of one that is refused for the routine
+/// or for the lead. What is only read is looked at again, although the compiler
+/// knows it as such.
+#[test]
+fn space_changes_nothing() {
+    for (routine, side) in [(ROUTINE, 0), (&[], 0), (ROUTINE, 9)] {
+        for decisions in [&[][..], &[2]] {
+            with_short_answers(|answer| {
+                let lent = (routine.to_vec(), decisions.to_vec());
+                let status = pellet::space(&lent.0, 0, side, &lent.1, answer);
+                let left = black_box(&lent);
+                assert_eq!((&left.0[..], &left.1[..]), (routine, decisions));
+                status
+            });
+        }
+    }
+}
+
 /// The clauses of the bench's report, and entries behind them.
 const WORDS: [u32; 8] = [1, 2, 1, 2, 1, 3, 9, 9];
 const STARTS: [u32; 5] = [0, 2, 4, 9, 9];
@@ -166,6 +184,9 @@ fn sixteen_entries_suffice() {
     with_long_answers(0, &[3, 6, 1], |answer| {
         pellet::translate(ROUTINE, 0, 0, &[], &mut [9; 8], &mut [9; 5], answer)
     });
+    with_long_answers(0, &[3, 6, 1], |answer| {
+        pellet::space(ROUTINE, 0, 0, &[], answer)
+    });
     with_long_answers(0, &[1, 2], |answer| prove(REPORT, 1, answer));
     with_long_answers(0, &[0, 0, 0, 1, 1, 1, 1, 2], |answer| {
         judge(ROUTINE, REPORT, [16, 16, 16, 4, 4], answer)
@@ -184,6 +205,9 @@ fn sixteen_entries_suffice_to_refuse() {
     });
     with_long_answers(12, &[1], |answer| {
         pellet::translate(ROUTINE, 0, 9, &[], &mut [9; 8], &mut [9; 5], answer)
+    });
+    with_long_answers(11, &[2], |answer| {
+        pellet::space(ROUTINE, 0, 9, &[2, 2], answer)
     });
     with_long_answers(17, &[13], |answer| prove(&REPORT[..13], 1, answer));
     with_long_answers(254, &[], |answer| prove(REPORT, 4, answer));
