@@ -1,12 +1,14 @@
 //! Cases gone through one after the other instead of drawn: every operation,
 //! change of width, relation and index at every width, the refusals of every
 //! operation, and every one-byte change and every cut of a routine that has every
-//! command in it.
+//! command in it, of which the space is asked for as well.
 
 use differential::case::Case;
 use differential::compare::{compare, Verdict, Verdicts};
 use differential::plan::OPERATIONS;
 use differential::rng::Rng;
+use differential::space_compare::compare_as_told;
+use differential::translation_case::TranslationCase;
 use oracle::Refusal;
 
 const SEED: u64 = 0x50E1_1E7D_2026_0002;
@@ -194,9 +196,18 @@ const INPUT_LISTS: &[&[u32]] = &[
     &[1, 200, 255, 16, 0],
 ];
 
+/// Accesses, sides and decisions for the same: the last access with both ifs
+/// free, one in the else by the decisions, and one decision too few.
+const LEADS: &[(u8, u8, &[u8])] = &[(3, 1, &[2, 2]), (2, 0, &[1, 0]), (0, 1, &[2])];
+
 fn agree_on_all(rng: &mut Rng, routine: &[u8]) {
     for inputs in INPUT_LISTS {
         agree(rng, routine, inputs);
+    }
+    for &lead in LEADS {
+        // Where the translation is not refused, its words are too small.
+        let case = TranslationCase::lending(rng, routine, lead, (0, 0));
+        compare_as_told(&case).unwrap_or_else(|report| panic!("{report}"));
     }
 }
 
