@@ -12,6 +12,15 @@ pub struct Claim {
     pub decisions: Vec<u8>,
 }
 
+/// What the clauses of a claim take, told before they are made. It may be more
+/// than any buffer is used for.
+#[derive(Clone, Copy, Debug, PartialEq, Eq)]
+pub struct Space {
+    pub clauses: usize,
+    pub words: usize,
+    pub variables: u32,
+}
+
 /// Clauses as the library hands them out.
 #[derive(Clone, Debug)]
 pub struct Translation {
@@ -22,6 +31,24 @@ pub struct Translation {
 }
 
 impl Claim {
+    pub fn space(&self) -> Result<Space, Refused> {
+        let mut answer = [0; pellet::ANSWER_LEN];
+        let code = pellet::space(
+            &self.routine,
+            self.access,
+            self.side,
+            &self.decisions,
+            &mut answer,
+        );
+        accepted(code, &answer)?;
+        let [clauses, words, variables, ..] = answer;
+        Ok(Space {
+            clauses: clauses as usize,
+            words: words as usize,
+            variables: variables as u32,
+        })
+    }
+
     pub fn translate(&self) -> Result<Translation, Refused> {
         // Never more are used; the pages that are not touched cost nothing.
         let mut words = vec![0; pellet::MAX_ENTRIES];

@@ -6,6 +6,7 @@ usage: pelletperiod COMMAND ...
 check      prints a routine's counts
 run        runs a routine on input words
 translate  prints the clauses of a claim, for a SAT solver
+space      prints how much room the clauses of a claim and judging take
 judge      judges reports on a routine
 propose    has a SAT solver decide a claim and writes the report
 from-lrat  makes a report of a proof that a solver wrote
@@ -37,6 +38,18 @@ where a run comes to the access, and the one that is true where its index is on 
 
 ACCESS is the number of the access from 0; SIDE is 0 for below and 1 for above; DECISIONS has a
 digit for each if: 0 first arm, 1 else, 2 free; `-` where there is no if.";
+
+const SPACE: &str = "\
+usage: pelletperiod space ROUTINE ACCESS SIDE DECISIONS
+
+Prints how many clauses, words and variables `pelletperiod translate` makes of a claim (see its
+help for the four), without making them, and the bytes of memory that judging takes at least.
+
+The bytes are those of the five buffers that are lent to the judge, with the fewest entries in
+which any report on this claim can be accepted: 4 a word and 4 a clause, and 8 for the empty
+clause, which closes every proof; 1 a variable of the clauses and 1 more; 4 a variable of the
+routine and 1 an if. Every further step of a proof takes 8 and 4 a literal. Where more than
+16,777,216 words are needed, no memory suffices: then `too large to judge` stands in their place.";
 
 const JUDGE: &str = "\
 usage: pelletperiod judge ROUTINE REPORT...
@@ -83,6 +96,7 @@ pub fn help(command: &str) -> &'static str {
         "check" => CHECK,
         "run" => RUN,
         "translate" => TRANSLATE,
+        "space" => SPACE,
         "judge" => JUDGE,
         "propose" => PROPOSE,
         "from-lrat" => FROM_LRAT,

@@ -15,14 +15,16 @@ pub mod progress;
 pub mod proof;
 pub mod propose;
 pub mod refused;
+pub mod room;
 mod scratch;
 pub mod solver;
 pub mod solver_proof;
 mod store;
 mod watches;
 
-pub use claim::{Claim, Translation};
+pub use claim::{Claim, Space, Translation};
 pub use judge::judge;
 pub use propose::{propose, Proposal};
 pub use refused::Refused;
+pub use room::Room;
 pub use solver::Solver;

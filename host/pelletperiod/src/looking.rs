@@ -1,11 +1,12 @@
-//! The commands that look at a routine: its counts, its runs, its clauses.
+//! The commands that look at a routine: its counts, its runs, its clauses and
+//! their space.
 
 use crate::done::Done;
 use pelletperiod::claim::side_name;
 use pelletperiod::judge::{index, MOST_IFS, MOST_VARIABLES};
 use pelletperiod::propose::translate;
 use pelletperiod::refused::accepted;
-use pelletperiod::{dimacs, Claim, Refused};
+use pelletperiod::{dimacs, Claim, Refused, Room, Space};
 
 pub fn check(routine: &[u8]) -> Result<String, Refused> {
     let mut answer = [0; pellet::ANSWER_LEN];
@@ -41,6 +42,22 @@ fn outcome(answer: &[u64; pellet::ANSWER_LEN]) -> String {
     }
     let (side, index) = (side_name(side), index(negative, magnitude));
     format!("stopped access {access} side {side} index {index}")
+}
+
+pub fn space(claim: &Claim) -> Result<String, Refused> {
+    let space = claim.space()?;
+    let judging = match Room::least(&claim.routine, &space)? {
+        Some(room) => format!("judging takes at least {} bytes", room.bytes()),
+        None => "too large to judge".to_string(),
+    };
+    let Space {
+        clauses,
+        words,
+        variables,
+    } = space;
+    Ok(format!(
+        "clauses {clauses} words {words} variables {variables} {judging}"
+    ))
 }
 
 pub fn print_clauses(claim: &Claim) -> Result<Done, String> {

@@ -12,7 +12,7 @@ mod words;
 use done::Done;
 use help::help;
 use judging::{judge_all, judge_one};
-use looking::{check, print_clauses, run};
+use looking::{check, print_clauses, run, space};
 use reporting::{propose_report, report_of_proof};
 use std::io::{self, BufWriter, Write};
 use std::process::ExitCode;
@@ -56,7 +56,8 @@ fn carry_out(words: &[&str]) -> Result<Done, String> {
             let inputs = parse_inputs(inputs)?;
             Ok(Done::new(run(&read(file)?, &inputs)))
         }
-        ("translate", [claim @ ..]) if claim.len() == 4 => print_clauses(&claim_of(claim)?),
+        ("translate", claim) if claim.len() == 4 => print_clauses(&claim_of(claim)?),
+        ("space", claim) if claim.len() == 4 => Ok(Done::new(space(&claim_of(claim)?))),
         ("judge", [file, report]) => judge_one(&read(file)?, &read(report)?),
         ("judge", [file, reports @ ..]) if !reports.is_empty() => judge_all(&read(file)?, reports),
         ("propose", words) => propose_report(words),

@@ -1,5 +1,7 @@
 //! The commands of README.md, with what they print and their exit status.
 
+use differential::limit::routine_of;
+use pellet::{ANSWER_LEN, MAX_ENTRIES};
 use std::path::Path;
 use std::process::{Command, Output};
 
@@ -94,17 +96,147 @@ fn translates_the_bench_routine() {
 }
 
 #[test]
-fn tells_refusals_of_translations() {
-    for (lead, line) in [
-        (["0", "0", "2"], "refused 11 place 1\n"),
-        (["1", "0", "-"], "refused 12 place 0\n"),
-        (["0", "2", "-"], "refused 12 place 1\n"),
+fn tells_refusals_of_claims() {
+    for (claim, line) in [
+        (["host/Cargo.toml", "0", "0", "-"], "refused 2 place 0\n"),
+        (
+            ["examples/bench.bin", "0", "0", "2"],
+            "refused 11 place 1\n",
+        ),
+        (
+            ["examples/bench.bin", "1", "0", "-"],
+            "refused 12 place 0\n",
+        ),
+        (
+            ["examples/bench.bin", "0", "2", "-"],
+            "refused 12 place 1\n",
+        ),
     ] {
-        let [access, side, decisions] = lead;
-        assert_eq!(
-            printed(&["translate", "examples/bench.bin", access, side, decisions]),
-            (line.to_string(), Some(1))
-        );
+        for command in ["translate", "space"] {
+            assert_eq!(
+                printed(&[&[command], &claim[..]].concat()),
+                (line.to_string(), Some(1))
+            );
+        }
+    }
+}
+
+/// The clauses, words and variables that `space` tells of a claim, and what it
+/// says about judging.
+fn told(claim: [&str; 4]) -> ([usize; 3], String) {
+    let (line, status) = printed(&[&["space"], &claim[..]].concat());
+    let numbers = line.split(' ').filter_map(|word| word.parse().ok());
+    let numbers: Vec<usize> = numbers.take(3).collect();
+    let numbers: [usize; 3] = numbers.try_into().expect("three numbers");
+    let [clauses, words, variables] = numbers;
+    let counts = format!("clauses {clauses} words {words} variables {variables} ");
+    assert_eq!(status, Some(0));
+    let judging = line.strip_prefix(&counts).expect("the counts come first");
+    (numbers, judging.to_string())
+}
+
+fn at_least(bytes: usize) -> String {
+    format!("judging takes at least {bytes} bytes\n")
+}
+
+#[test]
+fn tells_the_space_of_claims() {
+    for (claim, numbers, bytes) in [
+        (["examples/bench.bin", "0", "0", "-"], [3, 6, 9], 58),
+        (["examples/bench.bin", "0", "0", ""], [3, 6, 9], 58),
+        (["examples/bench.bin", "0", "1", "-"], [115, 454, 33], 2322),
+        ([ROUTINE, "0", "0", "-"], [3, 6, 1], 50),
+    ] {
+        assert_eq!(told(claim), (numbers, at_least(bytes)));
+    }
+}
+
+/// A line of a clause has a word for each literal and one for their count, in
+/// whose place DIMACS has a 0.
+#[test]
+fn space_is_what_translate_prints() {
+    for claim in [
+        ["examples/bench.bin", "0", "1", "-"],
+        ["examples/two-sensors/routine.bin", "0", "0", "000"],
+        ["examples/sum-of-squares/routine.bin", "0", "0", "0"],
+        ["examples/repeat-groups/routine.bin", "0", "1", "2"],
+        ["examples/eight-branches/routine.bin", "0", "1", "22222222"],
+        ["examples/eight-branches/routine.bin", "0", "1", "11110222"],
+    ] {
+        let ([clauses, words, variables], _) = told(claim);
+        let (text, _) = printed(&[&["translate"], &claim[..]].concat());
+        let mut lines = text.lines().skip_while(|line| line.starts_with('c'));
+        let header = format!("p cnf {variables} {clauses}");
+        assert_eq!(lines.next(), Some(header.as_str()));
+        let printed: Vec<usize> = lines.map(|line| line.split(' ').count()).collect();
+        assert_eq!(printed.len(), clauses);
+        assert_eq!(printed.iter().sum::<usize>(), words);
+    }
+}
+
+/// What the library says of a report in words, starts, marks, values and trail
+/// of so many entries.
+fn judged(routine: &[u8], report: &[u8], entries: [usize; 5]) -> u8 {
+    let [words, starts, marks, values, trail] = entries;
+    pellet::judge(
+        routine,
+        report,
+        &mut vec![0; words],
+        &mut vec![0; starts],
+        &mut vec![0; marks],
+        &mut vec![0; values],
+        &mut vec![0; trail],
+        &mut [0; ANSWER_LEN],
+    )
+}
+
+/// Reports of one step each are accepted in buffers of the bytes told, and in
+/// none that has an entry less: 25 says that the step does not fit, 16 that the
+/// translation or the run does not.
+#[test]
+fn the_bytes_told_are_the_fewest() {
+    // The bench routine with an if before its access. The last of 19 clauses
+    // says that the index is not below: {3}.
+    let header = [1, 1, 1, 0, 1, 1, 0];
+    let commands = [1, 0, 1, 0, 0, 0, 11, 0, 0, 0, 12, 13, 10, 0, 0, 0, 0];
+    let with_if = [&header[..], &commands].concat();
+    let report = [0, 0, 2, 2, 0, 0, 0, 0, 2, 18, 0, 0, 0, 3, 0];
+    let root = Path::new(env!("CARGO_MANIFEST_DIR")).join("../..");
+    let in_tree = |name| std::fs::read(root.join(name)).expect("it is in the tree");
+    for (routine, report, decisions, ifs) in [
+        (in_tree(ROUTINE), in_tree(REPORT), "-", 0),
+        (with_if, report.to_vec(), "2", 1),
+    ] {
+        let name = file(&format!("room_{ifs}"), &routine);
+        let ([clauses, words, variables], judging) = told([&name, "0", "0", decisions]);
+        let entries = [words + 1, clauses + 1, variables + 1, 1, ifs];
+        let sizes = [4, 4, 1, 4, 1];
+        let bytes = entries.iter().zip(sizes).map(|(count, size)| count * size);
+        assert_eq!(judging, at_least(bytes.sum()));
+        assert_eq!(judged(&routine, &report, entries), 0);
+        for (k, refused) in [25, 25, 16, 16, 16].into_iter().enumerate() {
+            let mut less = entries;
+            if less[k] > 0 {
+                less[k] -= 1;
+                assert_eq!(judged(&routine, &report, less), refused, "{k}");
+            }
+        }
+    }
+}
+
+/// Every translation has an even number of words. The greatest that leaves one
+/// for the empty clause can be judged, and no greater one.
+#[test]
+fn tells_what_is_too_large_to_judge() {
+    for words in [MAX_ENTRIES - 2, MAX_ENTRIES, MAX_ENTRIES + 2] {
+        let (routine, decisions) = routine_of(words);
+        let name = file(&format!("words_{words}"), &routine);
+        let decisions = "0".repeat(decisions.len());
+        let (numbers, judging) = told([&name, "0", "0", &decisions]);
+        assert_eq!(numbers[1], words);
+        let is_too_large = words + 1 > MAX_ENTRIES;
+        assert_eq!(judging == "too large to judge\n", is_too_large);
+        assert_eq!(judging.starts_with("judging takes"), !is_too_large);
     }
 }
 
@@ -197,6 +329,12 @@ run examples/bench.bin x
 translate examples/bench.bin 0 0
 translate examples/bench.bin 256 0 -
 translate examples/bench.bin 0 0 x
+space
+space examples/bench.bin 0 0
+space examples/bench.bin 0 0 - -
+space examples/bench.bin 0 256 -
+space examples/bench.bin 0 0 x
+space no-such-file 0 0 -
 judge
 judge examples/bench.bin
 judge no-such-file examples/bench/report.bin
@@ -225,9 +363,19 @@ fn bad_usage_is_2() {
     }
 }
 
+const COMMANDS: [&str; 7] = [
+    "check",
+    "run",
+    "translate",
+    "space",
+    "judge",
+    "propose",
+    "from-lrat",
+];
+
 #[test]
 fn says_how_it_is_used() {
-    for command in ["check", "run", "translate", "judge", "propose", "from-lrat"] {
+    for command in COMMANDS {
         let usage = format!("usage: pelletperiod {command} ");
         let (text, status) = printed(&[command, "--help"]);
         assert!(text.starts_with(&usage) && status == Some(0));
