@@ -50,9 +50,10 @@ impl Claim {
     }
 
     pub fn translate(&self) -> Result<Translation, Refused> {
-        // Never more are used; the pages that are not touched cost nothing.
-        let mut words = vec![0; pellet::MAX_ENTRIES];
-        let mut starts = vec![0; pellet::MAX_ENTRIES];
+        let space = self.space()?;
+        // Never more are used: where more are told, the library refuses these.
+        let mut words = vec![0; space.words.min(pellet::MAX_ENTRIES)];
+        let mut starts = vec![0; space.clauses.min(pellet::MAX_ENTRIES)];
         let mut answer = [0; pellet::ANSWER_LEN];
         let code = pellet::translate(
             &self.routine,
@@ -64,9 +65,7 @@ impl Claim {
             &mut answer,
         );
         accepted(code, &answer)?;
-        let [clauses, used, variables, ..] = answer;
-        words.truncate(used as usize);
-        words.shrink_to_fit();
+        let [clauses, _, variables, ..] = answer;
         Ok(Translation {
             words,
             clauses: clauses as usize,
