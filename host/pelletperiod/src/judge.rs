@@ -2,40 +2,19 @@
 
 use crate::claim::side_name;
 use crate::refused::{accepted, Refused};
+use crate::room::Room;
 
-/// The words, starts and marks that are lent at first. Most reports need no
-/// more, and all that is lent is filled with zeros.
-const FIRST_ENTRIES: usize = 16_384;
-
-/// The most variables and the most ifs that a routine can have.
-pub const MOST_VARIABLES: usize = 32;
-pub const MOST_IFS: usize = 32;
-
-/// Judges a report; lends more and judges again where room was short, until no
-/// more would be used. Hands back the line of an accepted one.
+/// Judges a report in all the room that can matter to it. Hands back the line of
+/// an accepted one.
 pub fn judge(routine: &[u8], report: &[u8]) -> Result<String, Refused> {
-    let mut entries = FIRST_ENTRIES;
-    loop {
-        let verdict = judge_with(routine, report, entries);
-        match verdict {
-            Err(ref refused) if is_short(refused) && entries < pellet::MAX_ENTRIES => {
-                entries = (8 * entries).min(pellet::MAX_ENTRIES);
-            }
-            _ => return verdict,
-        }
-    }
+    judge_in(&Room::of_report(routine, report), routine, report)
 }
 
-/// Whether words, starts or marks were too few: for the translation, or for a
-/// step of the proof. Values and trail always suffice.
-fn is_short(refused: &Refused) -> bool {
-    refused.number == 16 || refused.number == 25
-}
-
-fn judge_with(routine: &[u8], report: &[u8], entries: usize) -> Result<String, Refused> {
-    let (mut words, mut starts) = (vec![0; entries], vec![0; entries]);
-    let mut marks = vec![0; entries];
-    let (mut values, mut trail) = ([0; MOST_VARIABLES], [0; MOST_IFS]);
+/// Judges a report in this room.
+pub fn judge_in(room: &Room, routine: &[u8], report: &[u8]) -> Result<String, Refused> {
+    let (mut words, mut starts) = (vec![0; room.words], vec![0; room.starts]);
+    let mut marks = vec![0; room.marks];
+    let (mut values, mut trail) = (vec![0; room.values], vec![0; room.trail]);
     let mut answer = [0; pellet::ANSWER_LEN];
     let code = pellet::judge(
         routine,

@@ -3,7 +3,7 @@
 
 use crate::done::Done;
 use pelletperiod::claim::side_name;
-use pelletperiod::judge::{index, MOST_IFS, MOST_VARIABLES};
+use pelletperiod::judge::index;
 use pelletperiod::propose::translate;
 use pelletperiod::refused::accepted;
 use pelletperiod::{dimacs, Claim, Refused, Room, Space};
@@ -21,17 +21,14 @@ pub fn check(routine: &[u8]) -> Result<String, Refused> {
 pub fn run(routine: &[u8], inputs: &[u32]) -> Result<String, Refused> {
     let mut counts = [0; pellet::ANSWER_LEN];
     accepted(pellet::check(routine, &mut counts), &counts)?;
-    let (variables, ifs) = (counts[0] as usize, counts[3] as usize);
-    let mut values = [0; MOST_VARIABLES];
-    let mut trail = [0; MOST_IFS];
+    let mut values = vec![0; counts[0] as usize];
+    let mut trail = vec![0; counts[3] as usize];
     let mut answer = [0; pellet::ANSWER_LEN];
     let code = pellet::run(routine, inputs, &mut values, &mut trail, &mut answer);
     accepted(code, &answer)?;
     Ok(format!(
-        "{}\nvalues {:?}\ntrail {:?}",
-        outcome(&answer),
-        &values[..variables],
-        &trail[..ifs]
+        "{}\nvalues {values:?}\ntrail {trail:?}",
+        outcome(&answer)
     ))
 }
 

@@ -1,10 +1,15 @@
 //! The room that judging takes.
 
-use crate::claim::Space;
+use crate::claim::{Claim, Space};
 use crate::refused::{accepted, Refused};
 
+/// What a literal takes of a report.
+const LITERAL_BYTES: usize = 5;
+/// What the shortest step takes that can be closed: a hint and the close.
+const STEP_BYTES: usize = 6;
+
 /// How many entries the five buffers have that are lent to the judge.
-#[derive(Clone, Copy, Debug, PartialEq, Eq)]
+#[derive(Clone, Copy, Debug, Default, PartialEq, Eq)]
 pub struct Room {
     pub words: usize,
     pub starts: usize,
@@ -19,16 +24,59 @@ impl Room {
     /// which takes a word for its count and a start. None where a buffer would
     /// need more entries than are ever used.
     pub fn least(routine: &[u8], space: &Space) -> Result<Option<Room>, Refused> {
-        let (variables, ifs) = counts(routine)?;
-        let room = Room {
-            words: space.words + 1,
-            starts: space.clauses + 1,
-            marks: space.variables as usize + 1,
-            values: variables,
-            trail: ifs,
+        let room = Room::with(&Counts::of(routine)?, space, 1, 1);
+        Ok((room == room.used()).then_some(room))
+    }
+
+    /// So much room that more would not change what the judge says of a report.
+    ///
+    /// Each literal takes five bytes of the report and one word. Each step that
+    /// is closed takes a word for its count and a start, and at least a hint and
+    /// the close, six bytes: one without a conflict is refused before its word
+    /// and its start are looked for. One more of both is for the step being
+    /// read. So 16 and 25 come only where they come in any room.
+    ///
+    /// None is lent where the routine is refused, the report ends within the
+    /// decisions, or the claim is refused: all this comes before the judge looks
+    /// at a buffer, and so does a report that ends within its witness.
+    pub fn of_report(routine: &[u8], report: &[u8]) -> Room {
+        Room::told(routine, report).unwrap_or_default()
+    }
+
+    fn told(routine: &[u8], report: &[u8]) -> Option<Room> {
+        let counts = Counts::of(routine).ok()?;
+        let claim = Claim {
+            routine: routine.to_vec(),
+            access: *report.first()?,
+            side: *report.get(1)?,
+            decisions: report.get(2..2 + counts.ifs)?.to_vec(),
         };
-        let most = room.words.max(room.starts).max(room.marks);
-        Ok((most <= pellet::MAX_ENTRIES).then_some(room))
+        let space = claim.space().ok()?;
+        let words = report.len() / LITERAL_BYTES + 1;
+        let starts = report.len() / STEP_BYTES + 1;
+        Some(Room::with(&counts, &space, words, starts).used())
+    }
+
+    /// Room for the clauses of this space, and so many words and starts more
+    /// for the steps of a proof.
+    fn with(counts: &Counts, space: &Space, words: usize, starts: usize) -> Room {
+        Room {
+            words: space.words + words,
+            starts: space.clauses + starts,
+            marks: space.variables as usize + 1,
+            values: counts.variables,
+            trail: counts.ifs,
+        }
+    }
+
+    /// The entries that the judge uses of these.
+    fn used(self) -> Room {
+        Room {
+            words: self.words.min(pellet::MAX_ENTRIES),
+            starts: self.starts.min(pellet::MAX_ENTRIES),
+            marks: self.marks.min(pellet::MAX_ENTRIES),
+            ..self
+        }
     }
 
     /// What the buffers take. Words, starts and values have entries of four
@@ -39,9 +87,19 @@ impl Room {
 }
 
 /// How many variables and ifs a routine has.
-fn counts(routine: &[u8]) -> Result<(usize, usize), Refused> {
-    let mut answer = [0; pellet::ANSWER_LEN];
-    accepted(pellet::check(routine, &mut answer), &answer)?;
-    let [variables, _, _, ifs, ..] = answer;
-    Ok((variables as usize, ifs as usize))
+struct Counts {
+    variables: usize,
+    ifs: usize,
+}
+
+impl Counts {
+    fn of(routine: &[u8]) -> Result<Self, Refused> {
+        let mut answer = [0; pellet::ANSWER_LEN];
+        accepted(pellet::check(routine, &mut answer), &answer)?;
+        let [variables, _, _, ifs, ..] = answer;
+        Ok(Counts {
+            variables: variables as usize,
+            ifs: ifs as usize,
+        })
+    }
 }

@@ -302,7 +302,7 @@ fn judges_several_reports() {
     );
 }
 
-/// Products of 32 bits: the translation needs more than is lent at first.
+/// Products of 32 bits: the translation takes far more than the report has bytes.
 #[test]
 fn lends_as_much_as_a_report_needs() {
     let products = [0x05, 1, 1, 1].repeat(5);
