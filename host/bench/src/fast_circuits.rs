@@ -30,6 +30,13 @@ pub fn spaced(bits: &mut [u32], first: u32, distance: u32) {
     }
 }
 
+/// How many gates the rows of a product have together, each one less than the row
+/// before it.
+#[inline]
+pub fn rows_gates(width: usize) -> usize {
+    width * (width + 1) / 2
+}
+
 /// The literals that the gates make go up by two from `next` on.
 pub struct Net<S> {
     pub sink: S,
@@ -89,20 +96,14 @@ impl<S: Sink> Net<S> {
         g.wrapping_add(2)
     }
 
-    /// The first bit of the last sum.
+    /// The first bit of the last sum. There is a row and a sum for each place, and
+    /// a sum has three gates for each place.
     pub fn multiply(&mut self, s: &[u32], t: &[u32]) -> u32 {
         let width = s.len();
-        let (mut sum, mut row) = ([FALSE; 32], [FALSE; 32]);
-        let mut first = FALSE;
-        for (k, &bit) in t.iter().enumerate() {
-            let g = self.take(width - k);
-            self.sink.row(g, &s[..width - k], bit);
-            spaced(&mut row[k..width], g, ROW);
-            first = self.sum(&sum[..width], &row[..width], 0, FALSE);
-            spaced(&mut sum, first, SUM);
-            row[k] = FALSE;
-        }
-        first
+        let g = self.take(rows_gates(width) + 3 * width * width);
+        self.sink.product(g, s, t);
+        let last_sum = self.next.wrapping_sub(SUM * width as u32);
+        last_sum.wrapping_add(2)
     }
 
     pub fn relation(&mut self, number: u8, a: &[u32], b: &[u32]) -> u32 {

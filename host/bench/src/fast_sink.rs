@@ -1,6 +1,8 @@
 //! Where the clauses of the circuits go. Sums are taken as wrapping here and in
 //! the circuits: none ever wraps.
 
+use crate::fast_circuits::rows_gates;
+
 /// Takes circuits, each by the first of the literals that it makes, which go up
 /// by two, and by what it is made of.
 pub trait Sink {
@@ -8,11 +10,11 @@ pub trait Sink {
     fn and(&mut self, g: u32, a: u32, b: u32);
     /// MUX(c, a, b) for the places where the two differ, which are so many.
     fn join(&mut self, g: u32, c: u32, a: &[u32], b: &[u32], differing: usize);
-    /// AND(bit, b) for each of the bits.
-    fn row(&mut self, g: u32, bits: &[u32], b: u32);
     /// Three gates for each place; where `turned` is 1, it takes the opposites
     /// of b.
     fn adder(&mut self, g: u32, a: &[u32], b: &[u32], turned: u32, carry: u32);
+    /// For each bit of t a row of ANDs with the bits of s, and a sum.
+    fn product(&mut self, g: u32, s: &[u32], t: &[u32]);
     /// A step for each bit of s from the top: an adder over one place more, and a
     /// choice for each of these.
     fn division(&mut self, g: u32, s: &[u32], t: &[u32]);
@@ -54,13 +56,14 @@ impl Sink for Counter {
     }
 
     #[inline]
-    fn row(&mut self, _: u32, bits: &[u32], _: u32) {
-        self.add(bits.len(), 3, 10);
+    fn adder(&mut self, _: u32, a: &[u32], _: &[u32], _: u32, _: u32) {
+        self.add(a.len(), 4 + 4 + 6, 16 + 16 + 24);
     }
 
     #[inline]
-    fn adder(&mut self, _: u32, a: &[u32], _: &[u32], _: u32, _: u32) {
-        self.add(a.len(), 4 + 4 + 6, 16 + 16 + 24);
+    fn product(&mut self, _: u32, s: &[u32], _: &[u32]) {
+        self.add(rows_gates(s.len()), 3, 10);
+        self.add(s.len() * s.len(), 4 + 4 + 6, 16 + 16 + 24);
     }
 
     #[inline]

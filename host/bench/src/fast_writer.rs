@@ -41,6 +41,17 @@ impl<'a> Writer<'a> {
         self.clauses = self.clauses.wrapping_add(clauses);
         (next_words, next_starts, at)
     }
+
+    /// AND(bit, b) for each of the bits.
+    #[inline(always)]
+    fn row(&mut self, mut g: u32, bits: &[u32], b: u32) {
+        let (words, starts, at) = self.next(10 * bits.len(), 3 * bits.len());
+        for (gate, &bit) in words.chunks_exact_mut(10).zip(bits) {
+            gate.copy_from_slice(&and(g, bit, b));
+            g = g.wrapping_add(2);
+        }
+        start_gates(starts, at, AND_STARTS, 10);
+    }
 }
 
 /// Starts of clauses of three literals, one after another.
@@ -117,20 +128,24 @@ impl Sink for Writer<'_> {
     }
 
     #[inline(always)]
-    fn row(&mut self, mut g: u32, bits: &[u32], b: u32) {
-        let (words, starts, at) = self.next(10 * bits.len(), 3 * bits.len());
-        for (gate, &bit) in words.chunks_exact_mut(10).zip(bits) {
-            gate.copy_from_slice(&and(g, bit, b));
-            g = g.wrapping_add(2);
-        }
-        start_gates(starts, at, AND_STARTS, 10);
-    }
-
-    #[inline(always)]
     fn adder(&mut self, g: u32, a: &[u32], b: &[u32], turned: u32, carry: u32) {
         let (words, starts, at) = self.next(56 * a.len(), 14 * a.len());
         write_adder(words, g, a, b, turned, carry);
         start_threes(starts, at);
+    }
+
+    fn product(&mut self, mut g: u32, s: &[u32], t: &[u32]) {
+        let width = s.len();
+        let (mut sum, mut row) = ([FALSE; 32], [FALSE; 32]);
+        for (k, &bit) in t.iter().enumerate() {
+            self.row(g, &s[..width - k], bit);
+            spaced(&mut row[k..width], g, ROW);
+            g = g.wrapping_add(ROW * (width - k) as u32);
+            self.adder(g, &sum[..width], &row[..width], 0, FALSE);
+            spaced(&mut sum, g.wrapping_add(2), SUM);
+            g = g.wrapping_add(SUM * width as u32);
+            row[k] = FALSE;
+        }
     }
 
     /// A step takes its own part of the buffers: writing the starts of a whole
