@@ -4,13 +4,15 @@
 use crate::fast_judge::judge;
 use crate::fast_prove::prove;
 use crate::fast_run::run;
-use crate::fast_translate::{translate, Claim};
+use crate::fast_translate::{space, translate, Claim};
 use crate::lent::Buffers;
 use differential::case::Case;
+use differential::limit::routine_of;
 use differential::proof_case::ProofCase;
 use differential::report_case::ReportCase;
 use differential::rng::Rng;
 use differential::translation_case::TranslationCase;
+use pellet::{ANSWER_LEN, MAX_ENTRIES};
 
 const CASES: u64 = 2000;
 
@@ -66,6 +68,49 @@ fn translations() {
         let by_plain = translate(routine, claim, &mut words, &mut starts, &mut answer);
         let plain = (by_plain, words, starts, answer);
         assert!(library == plain, "case {number}");
+    }
+}
+
+#[test]
+fn spaces() {
+    let mut told = 0;
+    for number in 0..CASES {
+        let case = TranslationCase::draw(&mut Rng::for_case(15, number));
+        let (routine, decisions) = (case.routine.slice(), case.decisions.slice());
+        let (access, side) = (case.access, case.side);
+        let claim = Claim {
+            access,
+            side,
+            decisions,
+        };
+        let mut answers = [(); 2].map(|()| case.answer.slice().to_vec());
+        let by_library = pellet::space(routine, access, side, decisions, &mut answers[0]);
+        let by_plain = space(routine, claim, &mut answers[1]);
+        assert_eq!(by_library, by_plain, "case {number}");
+        assert_eq!(answers[0], answers[1], "case {number}");
+        told += u64::from(by_library == 0);
+    }
+    assert!(told > CASES / 2, "{told}");
+}
+
+/// More words than any buffer is used for, which a translation refuses.
+#[test]
+fn spaces_beyond_all_buffers() {
+    for words in [MAX_ENTRIES, MAX_ENTRIES + 2] {
+        let (routine, decisions) = routine_of(words);
+        let claim = Claim {
+            access: 0,
+            side: 0,
+            decisions: &decisions,
+        };
+        let mut answers = [[0; ANSWER_LEN]; 2];
+        assert_eq!(
+            pellet::space(&routine, 0, 0, &decisions, &mut answers[0]),
+            0
+        );
+        assert_eq!(space(&routine, claim, &mut answers[1]), 0);
+        assert_eq!(answers[0], answers[1]);
+        assert_eq!(answers[0][1], words as u64);
     }
 }
 

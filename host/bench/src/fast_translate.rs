@@ -1,8 +1,9 @@
-//! The translation of a claim: counted first, and written where it fits.
+//! The translation of a claim: counted first, and written where it fits. Its
+//! space is the count alone.
 
 use crate::fast_check::{check, Routine};
 use crate::fast_refusal::Refusal;
-use crate::fast_sink::Counter;
+use crate::fast_sink::{Counter, Sink};
 use crate::fast_walk::walk;
 use crate::fast_writer::Writer;
 use pellet::{ANSWER_LEN, ANSWER_TOO_SHORT, MAX_ENTRIES};
@@ -41,7 +42,24 @@ pub fn translate(
         admit(&routine, claim)?;
         fit(bytes, &routine, claim, words, starts)
     });
-    match fitted {
+    give(fitted, answer)
+}
+
+/// What `translate` answers in buffers that suffice.
+pub fn space(bytes: &[u8], claim: Claim, answer: &mut [u64]) -> u8 {
+    if answer.len() < ANSWER_LEN {
+        return ANSWER_TOO_SHORT;
+    }
+    let counted = check(bytes).and_then(|routine| {
+        admit(&routine, claim)?;
+        Ok(walk_into(bytes, &routine, claim, Counter::default()))
+    });
+    give(counted, answer)
+}
+
+/// Puts what a translation takes into `answer`, or the refusal's place.
+fn give(size: Result<Size, Refusal>, answer: &mut [u64]) -> u8 {
+    match size {
         Ok(size) => {
             answer[0] = size.clauses as u64;
             answer[1] = size.words as u64;
@@ -77,24 +95,7 @@ pub fn fit(
     words: &mut [u32],
     starts: &mut [u32],
 ) -> Result<Size, Refusal> {
-    // Few variables make little state to keep at an if.
-    match routine.header.variables {
-        0..=4 => fit_few::<4>(bytes, routine, claim, words, starts),
-        5..=8 => fit_few::<8>(bytes, routine, claim, words, starts),
-        _ => fit_few::<32>(bytes, routine, claim, words, starts),
-    }
-}
-
-/// For at most so many variables, a power of two.
-fn fit_few<const V: usize>(
-    bytes: &[u8],
-    routine: &Routine,
-    claim: Claim,
-    words: &mut [u32],
-    starts: &mut [u32],
-) -> Result<Size, Refusal> {
-    let header = &routine.header;
-    let need = walk::<_, V>(bytes, header, claim, Counter::default());
+    let need = walk_into(bytes, routine, claim, Counter::default());
     if words.len().min(MAX_ENTRIES) < need.words {
         return Err(Refusal(BUFFER, 0));
     }
@@ -102,5 +103,15 @@ fn fit_few<const V: usize>(
         return Err(Refusal(BUFFER, 1));
     }
     let writer = Writer::new(words, starts);
-    Ok(walk::<_, V>(bytes, header, claim, writer))
+    Ok(walk_into(bytes, routine, claim, writer))
+}
+
+/// Few variables make little state to keep at an if.
+fn walk_into<S: Sink>(bytes: &[u8], routine: &Routine, claim: Claim, sink: S) -> Size {
+    let header = &routine.header;
+    match header.variables {
+        0..=4 => walk::<S, 4>(bytes, header, claim, sink),
+        5..=8 => walk::<S, 8>(bytes, header, claim, sink),
+        _ => walk::<S, 32>(bytes, header, claim, sink),
+    }
 }

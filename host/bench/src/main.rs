@@ -33,12 +33,14 @@ mod table;
 mod work_judge;
 mod work_prove;
 mod work_run;
+mod work_space;
 mod work_translate;
 mod work_zero;
 
 /// What is measured, each by its name.
-const PARTS: [(&str, fn()); 6] = [
+const PARTS: [(&str, fn()); 7] = [
     ("translate", work_translate::measure),
+    ("space", work_space::measure),
     ("judge", work_judge::measure),
     ("prove", work_prove::measure),
     ("run", work_run::measure),

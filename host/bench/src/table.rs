@@ -2,7 +2,7 @@
 
 use crate::race::Times;
 
-const NAME: usize = 46;
+const NAME: usize = 48;
 
 pub fn head() {
     println!(

@@ -11,7 +11,7 @@ use oracle::{Room, MAX_ENTRIES};
 use pellet::ANSWER_LEN;
 
 /// As many as a buffer has words for.
-const DIVISIONS: usize = 220;
+pub const DIVISIONS: usize = 220;
 
 struct Translating {
     routine: Vec<u8>,
