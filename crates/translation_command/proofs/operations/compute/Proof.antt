@@ -15,7 +15,7 @@ emit-product-requires : tie.Need-emit-product-requires
 emit-product-requires c κs =
     let p = c .before .before .before .before .before .before .before .pre in
     let l = p .1 .1 .1 in
-    (ready-weaken (square-few (length (now (c .before .before .before .before .before .before .before .args .a))) l) (p .0), (p .1 .0, omega (arith, l)))
+    (ready-weaken (square-few (length (now (c .before .before .before .before .before .before .before .args .a))) l) (p .0), (p .1 .0, (p .1 .1 .0, omega (arith, l))))
 
 quotient-bits-requires : tie.Need-quotient-bits-requires
 quotient-bits-requires c κs =
