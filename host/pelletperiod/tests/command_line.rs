@@ -146,6 +146,11 @@ fn tells_the_space_of_claims() {
         (["examples/bench.bin", "0", "0", ""], [3, 6, 9], 58),
         (["examples/bench.bin", "0", "1", "-"], [115, 454, 33], 2322),
         ([ROUTINE, "0", "0", "-"], [3, 6, 1], 50),
+        (
+            ["examples/two-sensors/routine.bin", "0", "0", "000"],
+            [1804, 7204, 452],
+            36512,
+        ),
     ] {
         assert_eq!(told(claim), (numbers, at_least(bytes)));
     }
