@@ -9,7 +9,8 @@ use lib.Dec.{leb, ltb}
 use lib.ListN.{length}
 use lib.Pow.{pow-mono, pow-pos}
 use borrow.Author.Tests.{le-ltb, lt-leb, lt-ltb, ltb-false, ltb-true}
-use Rattle.comparison.proofs.Compare.{offset, signed-formed, signed-value, size-less}
+use Rattle.bitvec.proofs.Reading.{distance}
+use Rattle.comparison.proofs.Compare.{signed-formed, signed-value, size-less}
 use Rattle.arithmetic.proofs.Extend.{const-before, const-word}
 use Rattle.arithmetic.proofs.Values.{AllBefore, not-less, order, value, value-lt}
 use Rattle.comparison.specs.Access.{above, beyond}
@@ -69,7 +70,7 @@ above-value ins ρ g a size w z o m = pick (beyond size w) refl m
         let l : size < 2 ^ (w - 1) = small size (2 ^ (w - 1)) (pow-pos (w - 1)) (ltb-false 0 (size / 2 ^ (w - 1)) e) in
         let v : value ρ (constBit size) w ≡ size = const-word ρ size w o (lt-of-lt-of-le l (pow-mono (omega arith))) in
         lit-opp ρ _
-        ∙ ap not (signed-value ins ρ g a (constBit size) w z o k ∙ ap (λ (y : ℕ). ltb (offset w x) (offset w y)) v ∙ size-less w x size z (value-lt ρ a w) l)
+        ∙ ap not (signed-value ins ρ g a (constBit size) w z o k ∙ ap (λ (y : ℕ). ltb (distance w x) (distance w y)) v ∙ size-less w x size z (value-lt ρ a w) l)
         ∙ negated (ltb x (2 ^ (w - 1))) (ltb x size)
         ∙ ap (λ (b : Bool). ltb x (2 ^ (w - 1)) && b) (not-less x size)
 

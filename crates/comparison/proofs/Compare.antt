@@ -9,6 +9,8 @@ use native.Mathlib.Numerals.{add-one}
 use native.Mathlib.Omega.{arith}
 use lib.Dec.{eqb, ltb}
 use borrow.Author.Tests.{eq-eqb, le-ltb, lt-ltb, ne-eqb}
+use Rattle.bitvec.proofs.Powers.{two-halves}
+use Rattle.bitvec.proofs.Reading.{distance, distance-high, distance-low}
 use Rattle.arithmetic.proofs.Adder.{adder-cong, last-carry, length-adder, less-value, subtractor-formed}
 use Rattle.arithmetic.proofs.Values.{AllBefore, bit, eqb-iff, order, value, value-cong, value-lt}
 use Rattle.arithmetic.specs.Adder.{adder, carryAt, flipped, oppBits}
@@ -74,10 +76,6 @@ equality-value ins ρ g a b (suc j) t m =
     ∙ ap₂ (λ (x y : Bool). x && y) (equality-value ins ρ g a b j t (r .0)) (lit-neg ρ _ ∙ ap not (q .0))
     ∙ place-same (lit ρ (a j)) (lit ρ (b j)) _ _ (2 ^ j) (value-lt ρ a j) (value-lt ρ b j)
 
--- a number of w bits as its distance from the least signed number
-abbrev pub offset : ℕ → ℕ → ℕ
-offset w x = (x + 2 ^ (w - 1)) % 2 ^ w
-
 flipped-below : (m : ℕ) (a : Bits) (j : ℕ) → j < m → flipped m a j ≡ a j
 flipped-below m a j h = rw (ne-eqb j m (λ e. omega arith))
 
@@ -88,7 +86,7 @@ top-place : (v p : ℕ) (b : Bool) → v < p → v + bit (not b) * p ≡ (v + bi
 top-place v p true h = sym (mod-eq-sub-mod (omega arith) ∙ ap (λ (z : ℕ). z % (p * 2)) (omega arith) ∙ mod-eq-of-lt (omega arith))
 top-place v p false h = sym (mod-eq-of-lt (omega arith) ∙ (omega arith))
 
-pub flipped-value : (ρ : Assign) (a : Bits) (m : ℕ) → value ρ (flipped m a) (suc m) ≡ offset (suc m) (value ρ a (suc m))
+pub flipped-value : (ρ : Assign) (a : Bits) (m : ℕ) → value ρ (flipped m a) (suc m) ≡ distance (suc m) (value ρ a (suc m))
 unfolding value
 flipped-value ρ a m =
     let e : suc m - 1 ≡ m = omega arith in
@@ -98,19 +96,12 @@ flipped-value ρ a m =
 
 -- a <s b is the opposite of the last carry
 pub signed-value : (ins : Inputs) (ρ : Assign) (g : ℕ) (a b : Bits) (w : ℕ) → 0 < w → ρ 1 ≡ true → Models ins ρ g (belowSigned g a b w .nodes)
-    → lit ρ (opp (carryAt g 2 w)) ≡ ltb (offset w (value ρ a w)) (offset w (value ρ b w))
+    → lit ρ (opp (carryAt g 2 w)) ≡ ltb (distance w (value ρ a w)) (distance w (value ρ b w))
 signed-value ins ρ g a b zero z t m = absurd (omega arith)
 signed-value ins ρ g a b (suc k) z t m =
     let e : suc k - 1 ≡ k = omega arith in
     less-value ins ρ g (flipped (suc k - 1) a) (flipped (suc k - 1) b) (suc k) t m
     ∙ ap₂ ltb (ap (λ (i : ℕ). value ρ (flipped i a) (suc k)) e ∙ flipped-value ρ a k) (ap (λ (i : ℕ). value ρ (flipped i b) (suc k)) e ∙ flipped-value ρ b k)
-
-pub offset-low : (h x : ℕ) → x < h → (x + h) % (h * 2) ≡ x + h
-offset-low h x l = mod-eq-of-lt (omega arith)
-
-pub offset-high : (h x : ℕ) → h ≤ x → x < h * 2 → (x + h) % (h * 2) ≡ x - h
-offset-high h x l k =
-    mod-eq-sub-mod (omega arith) ∙ ap (λ (z : ℕ). z % (h * 2)) (omega arith) ∙ mod-eq-of-lt {n = x - h} (omega arith)
 
 pub ltb-iff : (u v x y : ℕ) → (u < v → x < y) → (x < y → u < v) → ltb u v ≡ ltb x y
 ltb-iff u v x y f g = pick (order u v) (order x y)
@@ -121,22 +112,20 @@ ltb-iff u v x y f g = pick (order u v) (order x y)
     pick (inr a) (inl b) = absurd (omega (arith, g b))
     pick (inr a) (inr b) = le-ltb u v a ∙ sym (le-ltb x y b)
 
-half-less : (h x s : ℕ) → x < h * 2 → s < h → ltb ((x + h) % (h * 2)) ((s + h) % (h * 2)) ≡ cond (ltb x h) (ltb x s) true
-half-less h x s k l = pick (order x h)
-  where
-    pick : (x < h) ⊎ (h ≤ x) → ltb ((x + h) % (h * 2)) ((s + h) % (h * 2)) ≡ cond (ltb x h) (ltb x s) true
-    pick (inl a) =
-        rw (lt-ltb x h a, offset-low h x a, offset-low h s l)
-        (ltb-iff (x + h) (s + h) x s (λ q. omega arith) (λ q. omega arith))
-    pick (inr a) = rw (le-ltb x h a, offset-high h x a k, offset-low h s l) (lt-ltb (x - h) (s + h) (omega arith))
-
 -- an index x of w bits is below the size s, as signed numbers: negative, or below as it stands
-pub size-less : (w x s : ℕ) → 0 < w → x < 2 ^ w → s < 2 ^ (w - 1) → ltb (offset w x) (offset w s) ≡ cond (ltb x (2 ^ (w - 1))) (ltb x s) true
-size-less zero x s z k l = absurd (omega arith)
-size-less (suc m) x s z k l =
-    let e : suc m - 1 ≡ m = omega arith in
-    let p : 2 ^ suc m ≡ 2 ^ (suc m - 1) * 2 = pow-suc 2 m ∙ ap (λ (i : ℕ). 2 ^ i * 2) (sym e) in
-    rw p (half-less (2 ^ (suc m - 1)) x s (rw p at k) l)
+pub size-less : (w x s : ℕ) → 0 < w → x < 2 ^ w → s < 2 ^ (w - 1) → ltb (distance w x) (distance w s) ≡ cond (ltb x (2 ^ (w - 1))) (ltb x s) true
+size-less w x s z k l = pick (order x (2 ^ (w - 1)))
+  where
+    h : ℕ
+    h = 2 ^ (w - 1)
+
+    pick : (x < h) ⊎ (h ≤ x) → ltb (distance w x) (distance w s) ≡ cond (ltb x h) (ltb x s) true
+    pick (inl a) =
+        rw (lt-ltb x h a, distance-low w z x a, distance-low w z s l)
+        (ltb-iff (x + h) (s + h) x s (λ q. omega arith) (λ q. omega arith))
+    pick (inr a) =
+        rw (le-ltb x h a, distance-high w z x a k, distance-low w z s l)
+        (lt-ltb (x - h) (s + h) (omega (arith, two-halves w z)))
 
 flipped-before : (g m : ℕ) (a : Bits) (w : ℕ) → AllBefore g a w → AllBefore g (flipped m a) w
 flipped-before g m a w h j l = pick (eqb j m)

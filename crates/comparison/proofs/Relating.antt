@@ -2,17 +2,18 @@
 use mathlib.Core.Bool.{Bool, cond, false, not, true}
 use mathlib.Core.Logic.{_⊎_, inl, inr}
 use mathlib.Core.Path.{_∙_, _≡_, ap, ap₂, subst, sym}
-use Prim.Native.Nat.{_*_, _+_, _-_, _<_, _^_, _≤_, suc, zero, ℕ}
-use native.Mathlib.Nat.{pow-suc}
+use Prim.Native.Nat.{_*_, _+_, _-_, _<_, _^_, _≤_, ℕ}
 use native.Mathlib.Omega.{arith}
 use lib.Dec.{eqb, ltb}
 use lib.ListN.{length}
 use borrow.Author.Tests.{le-ltb, lt-ltb}
 use Rattle.bitvec.proofs.Laws.{signed-high, signed-low}
+use Rattle.bitvec.proofs.Powers.{two-halves}
+use Rattle.bitvec.proofs.Reading.{distance, distance-high, distance-low}
 use Rattle.bitvec.specs.Relation.{relates}
 use Rattle.bitvec.specs.Signed.{less, signed}
 use Rattle.arithmetic.proofs.Adder.{carry-before, length-adder, less-value, subtractor-formed}
-use Rattle.comparison.proofs.Compare.{equality-formed, equality-sized, equality-value, ltb-iff, offset, offset-high, offset-low, same-before, signed-formed, signed-value}
+use Rattle.comparison.proofs.Compare.{equality-formed, equality-sized, equality-value, ltb-iff, same-before, signed-formed, signed-value}
 use Rattle.arithmetic.proofs.Values.{AllBefore, not-less, order, value, value-lt}
 use Rattle.arithmetic.specs.Adder.{flipped, oppBits}
 use Rattle.arithmetic.specs.Circuit.{Predicate, never, opposite}
@@ -27,43 +28,29 @@ use Rattle.cnf.specs.Meaning.{Assign, lit}
 use Rattle.netlist.specs.Meaning.{Inputs}
 
 module _ (w : ℕ) (z : 0 < w) where
-  halves : 2 ^ w ≡ 2 ^ (w - 1) * 2
-  halves = by w z
-    where
-      by : (w : ℕ) → 0 < w → 2 ^ w ≡ 2 ^ (w - 1) * 2
-      by zero z = absurd (omega arith)
-      by (suc m) z = let e : suc m - 1 ≡ m = omega arith in rw e (pow-suc 2 m)
-
-  -- the distance from the least signed number, by the top bit
-  distance-low : (x : ℕ) → x < 2 ^ (w - 1) → offset w x ≡ x + 2 ^ (w - 1)
-  distance-low x h = rw halves (offset-low (2 ^ (w - 1)) x h)
-
-  distance-high : (x : ℕ) → 2 ^ (w - 1) ≤ x → x < 2 ^ w → offset w x ≡ x - 2 ^ (w - 1)
-  distance-high x h k = rw halves (offset-high (2 ^ (w - 1)) x h (rw halves at k))
-
-  -- these distances are in the order of the signed numbers
-  signed-order : (x y : ℕ) → x < 2 ^ w → y < 2 ^ w → ltb (offset w x) (offset w y) ≡ less (signed w x) (signed w y)
+  -- the distances from the least signed number are in the order of the signed numbers
+  signed-order : (x y : ℕ) → x < 2 ^ w → y < 2 ^ w → ltb (distance w x) (distance w y) ≡ less (signed w x) (signed w y)
   unfolding less
   signed-order x y k l = pick (order x (2 ^ (w - 1))) (order y (2 ^ (w - 1)))
     where
       h : ℕ
       h = 2 ^ (w - 1)
 
-      pick : (x < h) ⊎ (h ≤ x) → (y < h) ⊎ (h ≤ y) → ltb (offset w x) (offset w y) ≡ less (signed w x) (signed w y)
+      pick : (x < h) ⊎ (h ≤ x) → (y < h) ⊎ (h ≤ y) → ltb (distance w x) (distance w y) ≡ less (signed w x) (signed w y)
       pick (inl a) (inl b) =
-          ap₂ ltb (distance-low x a) (distance-low y b)
+          ap₂ ltb (distance-low w z x a) (distance-low w z y b)
           ∙ ltb-iff (x + h) (y + h) x y (λ q. omega arith) (λ q. omega arith)
           ∙ sym (ap₂ less (signed-low w x a) (signed-low w y b))
       pick (inl a) (inr b) =
-          ap₂ ltb (distance-low x a) (distance-high y b l)
-          ∙ le-ltb (x + h) (y - h) (omega (arith, halves))
+          ap₂ ltb (distance-low w z x a) (distance-high w z y b l)
+          ∙ le-ltb (x + h) (y - h) (omega (arith, two-halves w z))
           ∙ sym (ap₂ less (signed-low w x a) (signed-high w y b l))
       pick (inr a) (inl b) =
-          ap₂ ltb (distance-high x a k) (distance-low y b)
-          ∙ lt-ltb (x - h) (y + h) (omega (arith, halves))
+          ap₂ ltb (distance-high w z x a k) (distance-low w z y b)
+          ∙ lt-ltb (x - h) (y + h) (omega (arith, two-halves w z))
           ∙ sym (ap₂ less (signed-high w x a k) (signed-low w y b))
       pick (inr a) (inr b) =
-          ap₂ ltb (distance-high x a k) (distance-high y b l)
+          ap₂ ltb (distance-high w z x a k) (distance-high w z y b l)
           ∙ ltb-iff (x - h) (y - h) (2 ^ w - y) (2 ^ w - x) (λ q. omega arith) (λ q. omega arith)
           ∙ sym (ap₂ less (signed-high w x a k) (signed-high w y b l))
 
