@@ -7,6 +7,13 @@
  * by t. By 0 they are all ones and s. 0x10 is the first unknown command.
  * pellet_space is the call of note 2.
  *
+ * By its note 4 nothing is cleared before a run: a variable that is no
+ * parameter begins with what the last pick left in it, and that is an input as
+ * well. An input list has one word for each variable in order, the parameters
+ * first and then the others' leftovers, and then one for each read in the order
+ * of the text: as many words as there are variables and reads. The word of read
+ * r is number r plus the number of variables.
+ *
  * Every buffer is lent for the time of the call as a pointer and a number of
  * entries. A pointer must not be null, also where the number of entries is 0,
  * and must be aligned for its entries. A buffer that the call may write, one
@@ -36,7 +43,8 @@
  *        8  offset of the first       bytes after the end
  *           such byte
  *        9  number of words given     wrong number of inputs
- *       10  number of the input       input too great for its variable
+ *       10  number of the input,      input too great for its variable
+ *           in the list from 0
  *       11  number of decisions       wrong number of decisions
  *           given
  *       11  length of the report      of a report: its lead cut short, or more
@@ -99,6 +107,9 @@ extern "C" {
  *   answer[5]  number of reads
  *   answer[6]  offset of the first command
  *
+ * The first answer[1] variables are what the caller names parameters. Nothing
+ * else goes by this number: every variable has its word in an input list.
+ *
  * `routine` is only read.
  */
 uint8_t pellet_check(const uint8_t *routine, size_t routine_len,
@@ -107,8 +118,10 @@ uint8_t pellet_check(const uint8_t *routine, size_t routine_len,
 /*
  * Runs a routine on a list of inputs; refuses with 1 to 10 and 16.
  *
- * `inputs` holds one word for each parameter, then one for each read in the
- * order of the text, each below 2 to the width of its variable.
+ * `inputs` holds one word for each variable, the parameters first and then what
+ * the others are left with, then one for each read in the order of the text,
+ * each below 2 to the width of its variable. The variables begin with their
+ * words. A read that the run does not come to has a word all the same.
  *
  * On 0 the answer holds, where the run came to the end:
  *
@@ -146,7 +159,10 @@ uint8_t pellet_run(const uint8_t *routine, size_t routine_len,
  * order of the text: 0 for its first arm, 1 for its else, 2 where it is free.
  *
  * Variables are numbered from 1; variable 1 is true. Literal 2v is variable v,
- * literal 2v + 1 its opposite.
+ * literal 2v + 1 its opposite. From 2 on they are the bits with which the
+ * variables of the routine begin, parameters and leftovers alike, the first
+ * variable's first and of each the lowest bit first; then, in the order of the
+ * text, the gates, and the bits of each read after those of its access.
  *
  * On 0 the answer holds:
  *
@@ -237,11 +253,12 @@ uint8_t pellet_prove(const uint8_t *report, size_t report_len, size_t from,
  * A report is its lead and then its proof. The lead is the number of an
  * access, a side (0 below, 1 above), a decision byte for each if (0 first arm,
  * 1 else, 2 free), and an input list of four bytes for each word, the lowest
- * first: the witness.
+ * first: the witness. So with f ifs, v variables and r reads the lead has
+ * 2 + f + 4(v + r) bytes.
  *
  * On 0 the witness comes to the access by the decisions and has an index there
- * on the side, every run that comes to the access by the decisions has, and
- * the answer holds:
+ * on the side, every run that comes to the access by the decisions has, from
+ * any leftovers, and the answer holds:
  *
  *   answer[0]  number of the access
  *   answer[1]  side: 0 below, 1 above

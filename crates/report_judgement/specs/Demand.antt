@@ -53,6 +53,7 @@ pub record Found (bs r : List ℕ) (f : Finding) : Type 0 where
   pub overflows : Overflows bs (decisionsOf (leadIn r header counts) counts) (inputsOf (leadIn r header counts) header counts) header commands counts f
 
 -- Whatever the report holds: if it is accepted, the witness's run goes the report's way and comes to the named access; and every run, of the witness or of
--- any other accepted input list, that goes that way and comes to it stops there, its index outside the array that it reaches there, on the side named.
+-- any other accepted input list, that goes that way and comes to it stops there, its index outside the array that it reaches there, on the side named. An
+-- accepted input list has a word for every variable, parameter or not, and so a finding covers runs from any leftovers (note 4).
 pub record Demand3 (bs r : List ℕ) (j : Judged) : Type 0 where
   pub holds : (f : Finding) → j ≡ Judged.Accepted f → Found bs r f

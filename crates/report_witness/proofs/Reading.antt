@@ -34,7 +34,7 @@ module _ (bs : List ℕ) (h : Header) (k : Counts) (i : IsRoutineWith bs h k) wh
       let f = fine bs h (decoded bs h (i .commands) k (i .decodes) .header) in
       record {
         decisions = few-ifs bs h (i .commands) k (i .decodes);
-        inputs = omega (arith, f .parameters, f .variables, few-accesses bs h (i .commands) k (i .decodes));
+        inputs = omega (arith, f .few, few-accesses bs h (i .commands) k (i .decodes));
       }
 
   -- the arrays of a lead, as the code holds them, are not shorter

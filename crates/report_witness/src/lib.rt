@@ -8,7 +8,7 @@ use bitvec::Whole;
 use lead::Target;
 
 // The lead of a report: what it names, a decision for each if, and the witness's input words. A routine has at most 32 ifs, and words for at most 32
-// parameters and 64 reads; zeros stand after those that it has.
+// variables and 64 reads; zeros stand after those that it has.
 pub struct Lead {
     pub target: Target,
     pub decisions: [u8; 32],

@@ -4,11 +4,11 @@ use routine_header::Header;
 ghost use mathlib.Core.Path.{_≡_};
 ghost use Rattle.routine_faults.specs.Inputs.{given, inputNumber, inputCount};
 
-// How many variables begin with an input word.
+// How many variables begin with an input word: all of them, parameters and leftovers.
 pub fn given_of(h: Header) -> u8
     ensures { λ r. ⌜ r ≡ given h ⌝ }
 {
-    h.parameters
+    h.variables
 }
 
 // The number of the input word of a read, the counts before it being k.

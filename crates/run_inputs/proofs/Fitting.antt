@@ -40,13 +40,13 @@ fit-cond : (b : Bool) (x : Words) (n : ℕ) → cond b x (Words.TooGreat n) ≡ 
 fit-cond true x n e = (refl, e)
 fit-cond false x n e = let z : _≡_ {A = ℕ} 0 1 = cc in absurd (omega arith)
 
-listed-cond : (b : Bool) (x : Words) → cond b (byWords x) Listed.Miscounted ≡ Listed.Accepted → x ≡ Words.Fit
-listed-cond true Words.Fit e = refl
+pub listed-cond : (b : Bool) (x : Words) → cond b (byWords x) Listed.Miscounted ≡ Listed.Accepted → (b ≡ true) × (x ≡ Words.Fit)
+listed-cond true Words.Fit e = (refl, refl)
 listed-cond true (Words.TooGreat n) e = let z : _≡_ {A = ℕ} 0 1 = cc in absurd (omega arith)
 listed-cond false x e = let z : _≡_ {A = ℕ} 0 1 = cc in absurd (omega arith)
 
 module _ (bs ins : List ℕ) where
-  one-word : (n v : ℕ) (vs : List ℕ) → firstGreat bs ins n (v ∷ vs) ≡ Words.Fit
+  pub one-word : (n v : ℕ) (vs : List ℕ) → firstGreat bs ins n (v ∷ vs) ≡ Words.Fit
       → (entry ins n < 2 ^ width bs v) × (firstGreat bs ins (n + 1) vs ≡ Words.Fit)
   unfolding firstGreat
   one-word n v vs e =
@@ -128,15 +128,15 @@ module _ (bs ins : List ℕ) where
 
     -- what an accepted input list tells
     pub record Fitting (a : Arm) : Type 0 where
-      pub parameters : (v : ℕ) → v < given h → entry ins v < 2 ^ width bs v
+      pub variables : (v : ℕ) → v < given h → entry ins v < 2 ^ width bs v
       pub reads : Fit a
 
     pub fitting : (a : Arm) (k : Counts) → decode bs ≡ routine h a k → listed bs ins h a k ≡ Listed.Accepted → Fitting a
     unfolding listed wordsFit
     fitting a k e f =
         let vs = readVariables (textOf a) in
-        let p = words-fit (given h) 0 vs (listed-cond (eqb (length ins) (inputCount h k)) _ f) in
+        let p = words-fit (given h) 0 vs (listed-cond (eqb (length ins) (inputCount h k)) _ f .1) in
         let z : 0 + given h ≡ given h + 0 = omega arith in
         let q : firstGreat bs ins (given h + 0) (vs ++ []) ≡ Words.Fit = rw (append-nil vs) (subst (λ (m : ℕ). firstGreat bs ins m vs ≡ Words.Fit) z (p .1)) in
         let r = arm-fit a 0 0 _ noCounts (length bs) k (decoded bs h a k e .stands) [] q in
-        record { parameters = λ v l. p .0 v (omega arith) (omega arith); reads = r .0 }
+        record { variables = λ v l. p .0 v (omega arith) (omega arith); reads = r .0 }

@@ -3,3 +3,4 @@ mod Lists
 mod Scan
 pub mod Counted
 pub mod Fitting
+pub mod Rewording

@@ -30,7 +30,7 @@ pub enum Words {
 // What is said of an input list.
 pub enum Listed {
     Accepted,
-    // not one word for each parameter and each read
+    // not one word for each variable and each read
     Miscounted,
     // this word is too great for its variable
     TooGreat(usize),
@@ -43,7 +43,7 @@ fn fits(bytes: &[u8], inputs: &[u32], n: usize, v: u8) -> bool
     fits_width(entry_at(inputs, n), width_of(bytes, v))
 }
 
-// The first of the variables that begin with an input word whose word is too great.
+// The first variable whose word is too great.
 fn check_given(bytes: &[u8], inputs: &[u32], count: u8) -> Words
     ensures { λ r. ⌜ r ≡ firstGreat (now (bytes .entry)) (now (inputs .entry)) 0 (variablesFrom 0 count) ⌝ }
 {
@@ -92,7 +92,7 @@ pub fn check_words(bytes: &[u8], inputs: &[u32], h: Header, k: Counts) -> Words
     }
 }
 
-// 9 and 10: one word for each parameter and each read, and none too great.
+// 9 and 10: one word for each variable and each read, and none too great.
 pub fn check_inputs(bytes: &[u8], inputs: &[u32], h: Header, k: Counts) -> Listed
     requires { ⌜ IsRoutineWith (now bytes) h k ⌝ }
     ensures { λ r. ⌜ r ≡ listed (now (bytes .entry)) (now (inputs .entry)) h (commandsIn (now (bytes .entry))) k ⌝ }

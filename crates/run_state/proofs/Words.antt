@@ -1,11 +1,11 @@
 -- On an accepted input list every value of a run is a word of its variable's width. Assumes nothing.
-use mathlib.Core.Path.{_≡_, refl, subst}
+use mathlib.Core.Path.{_≡_, subst}
 use mathlib.Core.List.{List, [], _∷_}
 use mathlib.Core.Bool.{Bool, true, false, cond}
 use Prim.Native.Nat.{ℕ, zero, suc, _^_, _<_}
 use native.Mathlib.Nat.{mod-lt, lt-of-lt-of-le}
 use native.Mathlib.Omega.{arith}
-use lib.ListN.{length, set, replicate}
+use lib.ListN.{length, replicate}
 use lib.Dec.{ltb, eqb}
 use lib.Pow.{pow-pos, pow-mono}
 use borrow.Author.Tests.{eqb-true, ltb-true}
@@ -35,16 +35,10 @@ use Rattle.run_state.specs.declared.State.{State}
 use Rattle.run_inputs.specs.Inputs.{listed}
 use Rattle.run_inputs.specs.declared.Listed.{Listed}
 use Rattle.run_inputs.proofs.Fitting.{FitSimple, Fit, fitting}
+use Rattle.run_inputs.proofs.Rewording.{below-set}
 use Rattle.run_state.specs.Run.{took, Execution, unlessStopped, runOn, eventsAt, runArm, runOf, eventsThen}
 
 -- ---- entries of a list
-
-below-set : (l : List ℕ) (i j x m : ℕ) → (i ≡ j → x < m) → entry l j < m → entry (set l i x) j < m
-below-set [] i j x m f p = p
-below-set (y ∷ l) zero zero x m f p = f refl
-below-set (y ∷ l) zero (suc j) x m f p = p
-below-set (y ∷ l) (suc i) zero x m f p = p
-below-set (y ∷ l) (suc i) (suc j) x m f p = below-set l i j x m (λ e. f (rw e)) p
 
 below-zeros : (n j m : ℕ) → 0 < m → entry (replicate n 0) j < m
 below-zeros zero j m p = p
@@ -155,4 +149,4 @@ module _ (bs : List ℕ) (h : Header) where
     words a k d l =
         let f = fitting bs ins h a k d l in
         arm-in a 0 0 (firstCommand h) noCounts (length bs) k (decoded bs h a k d .stands) (f .reads) (initial ins (given h))
-        (λ v m. over-in (given h) v (f .parameters))
+        (λ v m. over-in (given h) v (f .variables))

@@ -29,7 +29,7 @@ unfoldable pub over : (n : ℕ) → (xs ys : List ℕ) → List ℕ
 over zero xs ys = ys
 over (suc n) xs ys = set (over n xs ys) n (entry xs n)
 
--- the beginning: the first n variables have their input words, the others are 0, and no if was come to
+-- the beginning: the n variables have their input words, the entries behind them are no variable's, and no if was come to
 unfoldable pub initial : (ins : List ℕ) → (n : ℕ) → State
 initial ins n = record { values = over n ins (replicate 32 0); trail = replicate 32 2; outcome = Outcome.Going }
 

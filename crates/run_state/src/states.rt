@@ -26,7 +26,7 @@ pub fn lies_at(size: u32, index: Whole) -> Lies
 }
 
 impl State {
-    // The beginning: each of the first n variables has its input word.
+    // The beginning: each of the n variables has its input word.
     pub fn initial(inputs: &[u32], n: u8) -> State
         requires { ⌜ n ≤ 32 ⌝ }
         ensures { λ r. ⌜ r ≡ initial (now (inputs .entry)) n ⌝ }

@@ -4,7 +4,7 @@ use Rattle.cnf.proofs.Appending.{flatten-append}
 use Rattle.netlist.specs.Node.{nodeClauses, netlistClauses}
 use Rattle.netlist.specs.declared.Node.{Node}
 use Rattle.netlist.proofs.Nodes.{clausesOf-few, clausesOf-short}
-use Rattle.translation_meaning.specs.Translation.{lastClauses, clausesOfAll, translationSize, parameterNodes, initialWires, translationOf}
+use Rattle.translation_meaning.specs.Translation.{lastClauses, clausesOfAll, translationSize, givenNodes, initialWires, translationOf}
 use Rattle.translation_meaning.specs.Bound.{mostVariables, Bounded}
 use Rattle.translation_state.specs.declared.Claim.{Claim}
 use mathlib.Core.Path.{_≡_, ap, sym, _∙_}
@@ -99,12 +99,12 @@ allowed-few m j (ifElse at c k first second rest) =
     simp mul-add (omega (arith, allowed-few m j first, allowed-few m j second, allowed-few m j rest))
 
 module _ (bs : List ℕ) (h : Header) (w : ℕ) (narrow : (v : ℕ) → v < h .variables → width bs v ≤ w) where
-  -- the bits of the first n parameters
-  parameters-short : (n : ℕ) → n ≤ h .variables → length (parameterNodes bs n) ≤ w * n
-  unfolding parameterNodes
-  parameters-short zero l = omega arith
-  parameters-short (suc p) l =
-      simp length-append (omega (arith, parameters-short p (omega arith), length-inputs p (width bs p), narrow p (omega arith), mul-suc w p))
+  -- the bits of the first n variables
+  given-short : (n : ℕ) → n ≤ h .variables → length (givenNodes bs n) ≤ w * n
+  unfolding givenNodes
+  given-short zero l = omega arith
+  given-short (suc p) l =
+      simp length-append (omega (arith, given-short p (omega arith), length-inputs p (width bs p), narrow p (omega arith), mul-suc w p))
 
   -- the gates that join the first n variables
   joins-few : (g c : ℕ) (x y : List ℕ) (n : ℕ) → n ≤ h .variables → length (joinGroups bs g c x y n .nodes) ≤ w * n
@@ -250,10 +250,10 @@ module _ (bs : List ℕ) (h : Header) (w : ℕ) (narrow : (v : ℕ) → v < h .v
 
 -- ---- a routine
 
--- the bits of the parameters
-pub parameters-few : (bs : List ℕ) (h : Header) → Fine bs h → length (parameterNodes bs (given h)) ≤ 1024
-parameters-few bs h f =
-    omega (arith, parameters-short bs h 32 (λ v l. f .widths v l .1) (given h) (f .parameters), f .few, f .parameters)
+-- the bits that the variables begin with
+pub given-few : (bs : List ℕ) (h : Header) → Fine bs h → length (givenNodes bs (given h)) ≤ 1024
+given-few bs h f =
+    omega (arith, given-short bs h 32 (λ v l. f .widths v l .1) (given h) (omega arith), f .few)
 
 -- a translation whose widths are at most w takes at most so many variables
 pub whole-bound : (bs : List ℕ) (t : Target) (ds : List ℕ) (h : Header) (a : Arm) (k : Counts) → decode bs ≡ routine h a k → (w : ℕ) → 1 ≤ w
@@ -263,16 +263,16 @@ unfolding translationOf
 whole-bound bs t ds h a k e w l narrow =
     let d = decoded bs h a k e in
     let f = fine bs h (d .header) in
-    let ns : List Node = parameterNodes bs (given h) in
+    let ns : List Node = givenNodes bs (given h) in
     let s : Wires = initialWires bs h in
     let x : Encoding = encodeArm bs h t ds a (2 + length ns) s in
-    let p = parameters-short bs h w narrow (given h) (f .parameters) in
-    let n : given h ≤ 32 = omega (arith, f .parameters, f .few) in
+    let p = given-short bs h w narrow (given h) (omega arith) in
+    let n : given h ≤ 32 = f .few in
     let q : length (x .nodes) ≤ 4 * w * (w + 1) * commandCount a + (32 * w + 1) * k .ifs =
     rw (← all-ifs bs h a k e) (arm-bound bs h w narrow l f t ds a 0 0 _ _ _ k (d .stands) (2 + length ns) s) in
     omega (arith, length-append ns (x .nodes), p, mul-le-mul-left w n, q)
 
--- after the parameters there is room for all commands of a routine, and for 2 ^ 25 variables more
+-- after these there is room for all commands of a routine, and for 2 ^ 25 variables more
 pub roomy : (bs : List ℕ) (t : Target) (ds : List ℕ) (h : Header) (a : Arm) (k : Counts) → decode bs ≡ routine h a k → (n : Net)
     → n .store .words ≤ 24 * n .next → n .store .clauses ≤ 6 * n .next → n .next ≤ 2048 → (g : ℕ) (s : Wires)
     → Ready n (2 ^ 25 + length (encodeArm bs h t ds a g s .nodes))
@@ -293,20 +293,20 @@ module _ (bs : List ℕ) (t : Target) (ds : List ℕ) (h : Header) (a : Arm) whe
   pub clauses-bound : length (clausesOfAll (translationOf bs t ds h a)) ≤ 6 * length (translationOf bs t ds h a .nodes)
   unfolding clausesOfAll netlistClauses nodeClauses translationOf
   clauses-bound =
-      let x = encodeArm bs h t ds a (2 + length (parameterNodes bs (given h))) (initialWires bs h) in
-      let ns = parameterNodes bs (given h) ++ x .nodes in
-      simp length-append (omega (arith, clausesOf-few 2 ns, last-few (x .wires .claim) .0, length-append (parameterNodes bs (given h)) (x .nodes)))
+      let x = encodeArm bs h t ds a (2 + length (givenNodes bs (given h))) (initialWires bs h) in
+      let ns = givenNodes bs (given h) ++ x .nodes in
+      simp length-append (omega (arith, clausesOf-few 2 ns, last-few (x .wires .claim) .0, length-append (givenNodes bs (given h)) (x .nodes)))
 
   -- and at most 24 words
   pub words-bound : length (flatten (clausesOfAll (translationOf bs t ds h a))) ≤ 24 * length (translationOf bs t ds h a .nodes)
   unfolding clausesOfAll netlistClauses nodeClauses translationOf
   words-bound =
-      let x = encodeArm bs h t ds a (2 + length (parameterNodes bs (given h))) (initialWires bs h) in
-      let ns = parameterNodes bs (given h) ++ x .nodes in
+      let x = encodeArm bs h t ds a (2 + length (givenNodes bs (given h))) (initialWires bs h) in
+      let ns = givenNodes bs (given h) ++ x .nodes in
       let cs = netlistClauses 2 ns in
       let ls = lastClauses (x .wires .claim) in
       let e : length (flatten (cs ++ ls)) ≡ length (flatten cs) + length (flatten ls) = ap length (flatten-append cs ls) ∙ length-append (flatten cs) (flatten ls) in
-      omega (arith, e, clausesOf-short 2 ns, last-few (x .wires .claim) .1, length-append (parameterNodes bs (given h)) (x .nodes))
+      omega (arith, e, clausesOf-short 2 ns, last-few (x .wires .claim) .1, length-append (givenNodes bs (given h)) (x .nodes))
 
 -- note 2's bound holds of every claim on a routine
 pub bounded : (bs : List ℕ) (t : Target) (ds : List ℕ) (h : Header) (a : Arm) (k : Counts) → decode bs ≡ routine h a k

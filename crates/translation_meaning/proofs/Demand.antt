@@ -42,7 +42,7 @@ use Rattle.netlist.proofs.Truth.{Models, models-iff, models-append}
 use Rattle.translation_command.specs.Command.{Encoding}
 use Rattle.translation_state.specs.Wires.{Wires, isMade}
 use Rattle.translation_meaning.specs.Walk.{encodeArm}
-use Rattle.translation_meaning.specs.Translation.{parameterNodes, initialWires, translationOf}
+use Rattle.translation_meaning.specs.Translation.{givenNodes, initialWires, translationOf}
 use Rattle.translation_meaning.specs.Faithful.{bitsOfList, Solves, Faithful, Demand2}
 use Rattle.translation_state.specs.declared.Claim.{Claim}
 use Rattle.lead.specs.declared.Target.{Target}
@@ -55,7 +55,7 @@ use Rattle.translation_meaning.proofs.Numbers.{Elsewhere}
 use Rattle.translation_meaning.proofs.Simples.{Alive}
 use Rattle.routine_faults.proofs.Tests.{not-both}
 use Rattle.translation_meaning.proofs.Tally.{Tally, through, lost, missed, here}
-use Rattle.translation_meaning.proofs.Worth.{parameters-worth}
+use Rattle.translation_meaning.proofs.Worth.{given-worth}
 
 -- ---- what a tally with the claim made says
 
@@ -112,7 +112,7 @@ module _ (bs : List ℕ) (t : Target) (ds : List ℕ) (h : Header) (a : Arm) (k 
   before = ifsBefore a (t .access)
 
   abbrev ps : List Node
-  ps = parameterNodes bs (given h)
+  ps = givenNodes bs (given h)
 
   abbrev g : ℕ
   g = 2 + length ps
@@ -164,14 +164,14 @@ module _ (bs : List ℕ) (t : Target) (ds : List ℕ) (h : Header) (a : Arm) (k 
       unfolding translationOf
       parts = models-append I ρ 2 ps (x .nodes) (models .1)
 
-      -- at the start the parameters have their words
+      -- at the start the variables have their words
       alive : Alive bs ins h ok t ds before ρ truth (initialWires bs h) (state.initial ins (given h))
       unfolding initialWires state.initial
       alive = record {
         unclaimed = refl;
         come = lit-true ρ truth;
         going = refl;
-        worth = parameters-worth bs h ok ρ ins truth (given h) (ok .parameters) (fits .parameters) (parts .0);
+        worth = given-worth bs h ok ρ ins truth (given h) (omega arith) (fits .variables) (parts .0);
       }
 
       tally : Tally bs h ok t ds before ρ (x .wires) (course ds (t .access) before (runOf bs ins h a .events)) (runOf bs ins h a .state)

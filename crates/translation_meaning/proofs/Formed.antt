@@ -44,7 +44,7 @@ use Rattle.translation_command.specs.Operation.{conversion, computation}
 use Rattle.translation_access.specs.Index.{top, passing, claim}
 use Rattle.translation_meaning.specs.Walk.{encodeOn, encodeIf, encodeArm}
 use Rattle.translation_if.specs.If.{Arrivals, conditionOf, armArrival, arrivals}
-use Rattle.translation_meaning.specs.Translation.{parameterNodes, parameterLits, initialWires, translationOf}
+use Rattle.translation_meaning.specs.Translation.{givenNodes, givenLits, initialWires, translationOf}
 use Rattle.translation_state.specs.declared.Claim.{Claim}
 use Rattle.lead.specs.declared.Target.{Target}
 use Rattle.translation_meaning.proofs.Computing.{by-computation}
@@ -265,15 +265,15 @@ module _ (bs : List ℕ) (h : Header) (fine : Fine bs h) where
     -- ---- the start
 
     record Started (n : ℕ) : Type 0 where
-      gates : WellFormed 2 (parameterNodes bs n)
-      lits : Held (h .variables) (2 + length (parameterNodes bs n)) (parameterLits bs (allPlaces h) n)
+      gates : WellFormed 2 (givenNodes bs n)
+      lits : Held (h .variables) (2 + length (givenNodes bs n)) (givenLits bs (allPlaces h) n)
 
     started : (n : ℕ) → Started n
-    unfolding parameterNodes parameterLits
+    unfolding givenNodes givenLits
     started zero = record { gates = tt; lits = record { count = length-replicate (allPlaces h) 3; places = λ i l. subst (Before 2) (sym (getD-replicate (allPlaces h) i 3 0 l)) (before-neg 2 1 (omega arith) (omega arith)) } }
     started (suc p) =
         let q = started p in
-        let ns : List Node = parameterNodes bs p in
+        let ns : List Node = givenNodes bs p in
         let ms : List Node = inputs p (width bs p) in
         let e = length-append ns ms in
         let f = length-inputs p (width bs p) in
@@ -281,12 +281,12 @@ module _ (bs : List ℕ) (h : Header) (fine : Fine bs h) where
         let z : g + width bs p ≡ 2 + length (ns ++ ms) = omega arith in
         record {
           gates = formed-append 2 ns ms (q .gates) (inputs-formed g p (width bs p));
-          lits = subst (λ (n : ℕ). Held (h .variables) n (bitsSet bs (parameterLits bs (allPlaces h) p) p (inBit g))) z
-              (held-put bs (g + width bs p) (parameterLits bs (allPlaces h) p) (held-later (g + width bs p) (omega arith) (q .lits)) p (inBit g) (input-before g (width bs p) (omega arith)));
+          lits = subst (λ (n : ℕ). Held (h .variables) n (bitsSet bs (givenLits bs (allPlaces h) p) p (inBit g))) z
+              (held-put bs (g + width bs p) (givenLits bs (allPlaces h) p) (held-later (g + width bs p) (omega arith) (q .lits)) p (inBit g) (input-before g (width bs p) (omega arith)));
         }
 
     abbrev wholeFrom : ℕ
-    wholeFrom = 2 + length (parameterNodes bs (given h))
+    wholeFrom = 2 + length (givenNodes bs (given h))
 
     start-wired : Wired (h .variables) wholeFrom (initialWires bs h)
     unfolding initialWires
@@ -301,7 +301,7 @@ module _ (bs : List ℕ) (h : Header) (fine : Fine bs h) where
       unfolding translationOf
       whole-formed = (
         tt,
-        formed-append 2 (parameterNodes bs (given h)) (encodeArm bs h t ds a wholeFrom (initialWires bs h) .nodes)
+        formed-append 2 (givenNodes bs (given h)) (encodeArm bs h t ds a wholeFrom (initialWires bs h) .nodes)
             (started (given h) .gates) (commands-made .formed),
       )
 
@@ -310,7 +310,7 @@ module _ (bs : List ℕ) (h : Header) (fine : Fine bs h) where
           → Before (1 + length (translationOf bs t ds h a .nodes)) arrival × Before (1 + length (translationOf bs t ds h a .nodes)) side
       unfolding translationOf
       whole-named arrival side e =
-          let ns : List Node = parameterNodes bs (given h) in
+          let ns : List Node = givenNodes bs (given h) in
           let x : Encoding = encodeArm bs h t ds a wholeFrom (initialWires bs h) in
           let z = length-append ns (x .nodes) in
           subst (Named (1 + length (One ∷ (ns ++ x .nodes)))) e

@@ -27,7 +27,7 @@ use Rattle.arithmetic.proofs.Input.{input-word}
 use Rattle.arithmetic.proofs.Join.{join-word}
 use Rattle.translation_state.specs.Wires.{allPlaces, bitsIn, bitsSet}
 use Rattle.translation_if.specs.If.{joinGroups}
-use Rattle.translation_meaning.specs.Translation.{parameterNodes, parameterLits}
+use Rattle.translation_meaning.specs.Translation.{givenNodes, givenLits}
 use Rattle.translation_meaning.specs.Faithful.{bitsOfList}
 use Rattle.translation_meaning.proofs.Places.{bits-place, put-length, put-same, put-other}
 
@@ -74,15 +74,15 @@ module _ (bs : List ℕ) (h : Header) (fine : Fine bs h) (ρ : Assign) where
           ∙ sym (getD-replicate 32 v 0 0 (omega (arith, fine .few)));
     }
 
-    -- the first n parameters have their words
-    pub parameters-worth : (n : ℕ) → n ≤ h .variables → ((v : ℕ) → v < n → entry ins v < 2 ^ width bs v) → Models (bitsOfList ins) ρ 2 (parameterNodes bs n)
-        → Worth (parameterLits bs (allPlaces h) n) (over n ins (replicate 32 0))
-    unfolding parameterNodes parameterLits over
-    parameters-worth zero l f m = none-worth
-    parameters-worth (suc p) l f m =
-        let r = models-append (bitsOfList ins) ρ 2 (parameterNodes bs p) (inputs p (width bs p)) m in
-        let g : ℕ = 2 + length (parameterNodes bs p) in
-        put-worth (parameterLits bs (allPlaces h) p) (over p ins (replicate 32 0)) (parameters-worth p (omega arith) (λ v k. f v (omega arith)) (r .0)) p (inBit g) (entry ins p)
+    -- the first n variables have their words
+    pub given-worth : (n : ℕ) → n ≤ h .variables → ((v : ℕ) → v < n → entry ins v < 2 ^ width bs v) → Models (bitsOfList ins) ρ 2 (givenNodes bs n)
+        → Worth (givenLits bs (allPlaces h) n) (over n ins (replicate 32 0))
+    unfolding givenNodes givenLits over
+    given-worth zero l f m = none-worth
+    given-worth (suc p) l f m =
+        let r = models-append (bitsOfList ins) ρ 2 (givenNodes bs p) (inputs p (width bs p)) m in
+        let g : ℕ = 2 + length (givenNodes bs p) in
+        put-worth (givenLits bs (allPlaces h) p) (over p ins (replicate 32 0)) (given-worth p (omega arith) (λ v k. f v (omega arith)) (r .0)) p (inBit g) (entry ins p)
         (omega arith) (input-word (bitsOfList ins) ρ g p (width bs p) (entry ins p) (λ j. refl) (f p (omega arith)) (r .1))
 
   -- ---- joining

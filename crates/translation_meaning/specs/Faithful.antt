@@ -53,6 +53,7 @@ pub record Faithful (bs : List ℕ) (t : Target) (ds : List ℕ) (h : Header) (a
       → goesWay ds (ifsBefore a (t .access)) (runOf bs ins h a .events) ≡ true → (array : ℕ) (index : Whole) → Comes (t .access) array index (runOf bs ins h a .events)
       → (lit ρ side ≡ true) ↔ (isOn (t .side) (lies (arraySize bs h array) index) ≡ true)
 
--- the translation of every claim that is admitted is faithful, whether or not it fits in the buffers
+-- The translation of every claim that is admitted is faithful, whether or not it fits in the buffers. An accepted input list has a word for every
+-- variable, parameter or not, and so this is said of runs from any leftovers (note 4).
 pub record Demand2 (bs : List ℕ) (t : Target) (ds : List ℕ) : Type 0 where
   pub holds : (h : Header) (a : Arm) (k : Counts) → claimAdmission bs t ds ≡ translates h a k → Faithful bs t ds h a k

@@ -19,25 +19,25 @@ use Rattle.translation_state.specs.declared.Claim.{Claim}
 use Rattle.translation_meaning.specs.declared.Size.{Size}
 use Rattle.lead.specs.declared.Target.{Target}
 
--- the bits of the first n parameters take the next variables
-unfoldable pub parameterNodes : List ℕ → (n : ℕ) → List Node
-parameterNodes bs zero = []
-parameterNodes bs (suc p) = parameterNodes bs p ++ inputs p (width bs p)
+-- what the first n variables of the routine begin with: their bits take the next variables of the clauses, those of variable 0 first
+unfoldable pub givenNodes : List ℕ → (n : ℕ) → List Node
+givenNodes bs zero = []
+givenNodes bs (suc p) = givenNodes bs p ++ inputs p (width bs p)
 
--- their literals, in so many places; the bits of other variables begin as 3
-unfoldable pub parameterLits : List ℕ → (places n : ℕ) → List ℕ
-parameterLits bs m zero = replicate m 3
-parameterLits bs m (suc p) = bitsSet bs (parameterLits bs m p) p (inBit (2 + length (parameterNodes bs p)))
+-- their literals, in so many places; 3 stands where no bit is
+unfoldable pub givenLits : List ℕ → (places n : ℕ) → List ℕ
+givenLits bs m zero = replicate m 3
+givenLits bs m (suc p) = bitsSet bs (givenLits bs m p) p (inBit (2 + length (givenNodes bs p)))
 
 -- the beginning: arrival is 2, and there is no claim yet
 unfoldable pub initialWires : List ℕ → Header → Wires
-initialWires bs h = record { lits = parameterLits bs (allPlaces h) (given h); arrival = 2; claim = Claim.Open }
+initialWires bs h = record { lits = givenLits bs (allPlaces h) (given h); arrival = 2; claim = Claim.Open }
 
--- variable 1 is true, then come the parameters' bits, then the commands
+-- variable 1 is true, then come the bits of all variables, parameters or not, then the commands
 unfoldable pub translationOf : List ℕ → Target → (ds : List ℕ) → Header → Arm → Encoding
 translationOf bs t ds h a =
-    nodesThen (One ∷ parameterNodes bs (given h))
-    (encodeArm bs h t ds a (2 + length (parameterNodes bs (given h))) (initialWires bs h))
+    nodesThen (One ∷ givenNodes bs (given h))
+    (encodeArm bs h t ds a (2 + length (givenNodes bs (given h))) (initialWires bs h))
 
 -- the last two clauses: {arrival}, {-side literal}
 abbrev pub lastClauses : Claim → List Clause

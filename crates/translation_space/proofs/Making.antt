@@ -1,4 +1,4 @@
--- The whole translation: variable 1, the parameters, the commands, and the last two clauses. Assumes nothing.
+-- The whole translation: variable 1, the bits of the variables, the commands, and the last two clauses. Assumes nothing.
 use mathlib.Core.Path.{_≡_, refl, ap, subst, _∙_}
 use mathlib.Core.List.{List, [], _∷_, _++_}
 use Prim.Native.Nat.{ℕ, zero, suc, _+_, _-_, _≤_}
@@ -25,15 +25,15 @@ use Rattle.netlist.specs.declared.Net.{Net}
 use Rattle.netlist.proofs.Emitting.{emitted-then, ready-after, ready-clauses}
 use Rattle.translation_command.specs.Command.{Encoding}
 use Rattle.translation_meaning.specs.Walk.{encodeArm}
-use Rattle.translation_meaning.specs.Translation.{parameterNodes, initialWires, translationOf, lastClauses, clausesOfAll, translationSize}
+use Rattle.translation_meaning.specs.Translation.{givenNodes, initialWires, translationOf, lastClauses, clausesOfAll, translationSize}
 use Rattle.translation_walk.specs.Inner.Walker.{wiresAt, beginning, WalksTo, Roomy, ArmEncoded, ArmReady, Begun, ClaimEncoded, noStore}
 use Rattle.translation_meaning.specs.declared.Size.{Size}
 use Rattle.lead.specs.declared.Target.{Target}
 use Rattle.translation_walk.specs.declared.Walk.{Walk}
 use Rattle.translation_state.specs.Wires.{allPlaces}
 use Rattle.translation_state.specs.declared.Claim.{Claim}
-use Rattle.translation_walk.proofs.Beginning.{parameters-length}
-use Rattle.translation_meaning.proofs.Bound.{parameters-few, roomy}
+use Rattle.translation_walk.proofs.Variables.{given-length}
+use Rattle.translation_meaning.proofs.Bound.{given-few, roomy}
 
 -- nothing is stored yet, and the next variable is 1
 abbrev pub empty : Net
@@ -58,14 +58,14 @@ module _ {bs : List ℕ} {h : Header} (i : IsRoutine bs h) {w u w₁ u₁ : List
 
   module _ {n : Net} {l : List ℕ} (b : Begun bs h n₁ l n) where
     -- where the commands begin
-    from : n .next ≡ 2 + length (parameterNodes bs (given h))
-    from = b .emitted w₁ u₁ .next ∙ ap (λ (g : ℕ). g + length (parameterNodes bs (given h))) (p .next)
+    from : n .next ≡ 2 + length (givenNodes bs (given h))
+    from = b .emitted w₁ u₁ .next ∙ ap (λ (g : ℕ). g + length (givenNodes bs (given h))) (p .next)
 
     ready-here : Ready n 1024
-    ready-here = ready-after 1024 (b .emitted w₁ u₁) begin-ready (omega (arith, parameters-few bs h (fine-here bs h i)))
+    ready-here = ready-after 1024 (b .emitted w₁ u₁) begin-ready (omega (arith, given-few bs h (fine-here bs h i)))
 
     few-here : n .next ≤ 2048
-    few-here = omega (arith, from, parameters-few bs h (fine-here bs h i))
+    few-here = omega (arith, from, given-few bs h (fine-here bs h i))
 
     room-for : (t : Target) (ds : List ℕ) (at : ℕ) (a : Arm) (k : Counts) → decode bs ≡ routine h a k → Roomy n (encodeArm bs h t ds a (n .next) (wiresAt l (beginning at n)))
     room-for t ds at a k d = roomy bs t ds h a k d n (ready-here .words) (ready-here .clauses) few-here (n .next) (wiresAt l (beginning at n))
@@ -75,7 +75,7 @@ module _ {bs : List ℕ} {h : Header} (i : IsRoutine bs h) {w u w₁ u₁ : List
       whole-roomy {at} e = record {
         some = record { arm = i .commands; end = length bs; after = i .counts; stands = rw e (decoded bs h (i .commands) (i .counts) (i .decodes) .stands) };
         room = room-for t ds at (i .commands) (i .counts) (i .decodes);
-        places = ap length (b .lits) ∙ parameters-length bs (allPlaces h) (given h);
+        places = ap length (b .lits) ∙ given-length bs (allPlaces h) (given h);
       }
 
       module _ {w₂ u₂ l₂ : List ℕ} {at : ℕ} (e : at ≡ firstCommand h) {r : Walk} (x : ArmEncoded bs h t ds 0 0 w₁ u₁ l (beginning at n) w₂ u₂ l₂ r) where
@@ -96,7 +96,7 @@ module _ {bs : List ℕ} {h : Header} (i : IsRoutine bs h) {w u w₁ u₁ : List
             X = translationOf bs t ds h a
 
             Y : Encoding
-            Y = encodeArm bs h t ds a (2 + length (parameterNodes bs (given h))) (initialWires bs h)
+            Y = encodeArm bs h t ds a (2 + length (givenNodes bs (given h))) (initialWires bs h)
 
             arm-is : encodeArm bs h t ds a (n .next) (wiresAt l (beginning at n)) ≡ Y
             unfolding Y initialWires
@@ -105,13 +105,13 @@ module _ {bs : List ℕ} {h : Header} (i : IsRoutine bs h) {w u w₁ u₁ : List
             arm-there : WalksTo w₁ u₁ n Y (length bs) k w₂ u₂ l₂ r
             arm-there = subst (λ (z : Encoding). WalksTo w₁ u₁ n z (length bs) k w₂ u₂ l₂ r) arm-is (arrives a k d)
 
-            nodes-made : Emitted w u empty (One ∷ (parameterNodes bs (given h) ++ Y .nodes)) w₂ u₂ (r .net)
+            nodes-made : Emitted w u empty (One ∷ (givenNodes bs (given h) ++ Y .nodes)) w₂ u₂ (r .net)
             nodes-made = emitted-then p (emitted-then (b .emitted w₁ u₁) (arm-there .emitted))
 
             all-made : Appended w u noStore (clausesOfAll X) w₃ u₃ all
             unfolding clausesOfAll translationOf X Y
             all-made =
-                subst (λ (cs : List Clause). Appended w u noStore (netlistClauses 1 (One ∷ (parameterNodes bs (given h) ++ Y .nodes)) ++ cs) w₃ u₃ all)
+                subst (λ (cs : List Clause). Appended w u noStore (netlistClauses 1 (One ∷ (givenNodes bs (given h) ++ Y .nodes)) ++ cs) w₃ u₃ all)
                 (ap lastClauses (arm-there .claim))
                 (appended-then (nodes-made .store) c)
 

@@ -12,8 +12,8 @@ use translation_meaning::Size;
 use translation_state::Claim;
 use translation_state::MOST_PLACES;
 use translation_state::literals::places_in;
-use translation_walk::parameters::begin_parameters;
-use translation_walk::parameters::first_walk;
+use translation_walk::beginning::begin_variables;
+use translation_walk::beginning::first_walk;
 use translation_walk::walks::encode_arm;
 ghost use Rattle.routine.specs.Decode.{IsRoutine};
 ghost use Rattle.cnf.specs.Inner.Append.{Appended, CountRoom};
@@ -36,7 +36,7 @@ fn append_claim(words: &mut [u32], starts: &mut [u32], s: Store, claim: Claim) -
     }
 }
 
-// Variable 1, the parameters, the commands as far as the named access, and the last two clauses. The literals of bits that no input has begin as 3.
+// Variable 1, the bits of all variables, the commands as far as the named access, and the last two clauses. Places where no bit is hold literal 3.
 pub fn make(
     words: &mut [u32],
     starts: &mut [u32],
@@ -60,7 +60,7 @@ pub fn make(
     let mut lits = [3u32; MOST_PLACES];
     let places = places_in(h);
     let own = &mut lits[..places];
-    let net = begin_parameters(own, n, bytes, h);
+    let net = begin_variables(own, n, bytes, h);
     let p = first_walk(first_command(h), net);
     let r = encode_arm(words, starts, own, bytes, h, t, decisions, 0, 0x00, p);
     let last = r.net;

@@ -1,5 +1,5 @@
 -- What the proofs of several functions use, and the laws for the layers above.
-pub mod Beginning
+pub mod Variables
 pub mod Translating
 mod Parting
 mod Looping

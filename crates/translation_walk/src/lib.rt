@@ -1,5 +1,5 @@
-// The walk of a translation over the bytes of a routine: the parameters, a command, an arm, an if.
-pub mod parameters;
+// The walk of a translation over the bytes of a routine: the bits that the variables begin with, a command, an arm, an if.
+pub mod beginning;
 mod steps;
 pub mod walks;
 

@@ -1,12 +1,12 @@
 //! Claims that hold, or nearly hold, by a law of arithmetic: two sums of the
-//! same terms in different order differ by nothing, and so do a dividend and the
-//! quotient times the divisor plus the remainder, by zero too. What is added to
-//! the difference is the index. Their proofs are long.
+//! same terms in different order, added to the same, differ by nothing, and so do
+//! a dividend and the quotient times the divisor plus the remainder, by zero too.
+//! What is added to the difference is the index. Their proofs are long.
 
 use differential::rng::Rng;
 use pelletperiod::Claim;
 
-/// Two parameters come before these.
+/// Two variables come before these.
 const ONE: u8 = 2;
 const OTHER: u8 = 3;
 const ADDED: u8 = 4;
@@ -24,7 +24,8 @@ pub fn draw_identity(rng: &mut Rng) -> Claim {
         false => (rng.within(2, 32) as u8, equal_sums(rng)),
     };
     let size = rng.pick(&[1_u16, 2, 5, 100, 4096]);
-    let mut routine = vec![1, 5, width, width, width, width, width, 2, 1];
+    let mut routine = vec![1, 5, width, width, width, width, width];
+    routine.extend([rng.within(0, 5) as u8, 1]);
     routine.extend(size.to_le_bytes());
     routine.extend(equal);
     routine.extend([SUBTRACT, ONE, ONE, OTHER, 0x01, ADDED]);
@@ -43,7 +44,8 @@ fn equal_sums(rng: &mut Rng) -> Vec<u8> {
     let mut terms: Vec<(u8, u8)> = (0..rng.within(2, 3))
         .map(|_| (rng.pick(&[ADD, SUBTRACT]), rng.below(2) as u8))
         .collect();
-    let mut commands = sum(ONE, &terms);
+    let mut commands = equal_beginnings(rng);
+    commands.extend(sum(ONE, &terms));
     terms.rotate_left(1);
     // Now and then they are not the same.
     if rng.chance(10) {
@@ -53,7 +55,18 @@ fn equal_sums(rng: &mut Rng) -> Vec<u8> {
     commands
 }
 
-/// Commands that put the first parameter together again from what its division
+/// Commands after which both are the same: what was left in the one, or 0. Now
+/// and then there are none, and each begins with what was left in it.
+fn equal_beginnings(rng: &mut Rng) -> Vec<u8> {
+    let set_to_zero = |d: u8| [0x01, d, 0, 0, 0, 0];
+    match rng.below(10) {
+        0 => Vec::new(),
+        1..=5 => vec![0x02, OTHER, ONE],
+        _ => [set_to_zero(ONE), set_to_zero(OTHER)].concat(),
+    }
+}
+
+/// Commands that put the first variable together again from what its division
 /// by the second leaves, and copy it; now and then the second.
 fn equal_by_division(rng: &mut Rng) -> Vec<u8> {
     let divide = [[QUOTIENT, ONE, 0, 1], [REMAINDER, OTHER, 0, 1]];

@@ -48,16 +48,18 @@ struct Script<'a> {
 }
 
 impl Script<'_> {
+    /// Every variable begins with its own word, which may be anything, be it a
+    /// parameter or not.
     fn start(&self) -> State {
-        let header = &self.routine.header;
-        let value = |(k, width): (usize, &u32)| match k < header.parameters {
-            true => format!("in{k}"),
-            false => format!("(_ bv0 {width})"),
-        };
+        let value = |k: usize| format!("in{k}");
         State {
-            values: header.widths.iter().enumerate().map(value).collect(),
+            values: (0..self.variables()).map(value).collect(),
             arrival: "true".to_string(),
         }
+    }
+
+    fn variables(&self) -> usize {
+        self.routine.header.widths.len()
     }
 
     fn width(&self, variable: usize) -> u32 {
@@ -111,7 +113,7 @@ impl Script<'_> {
                 read,
             } => {
                 state = self.access(*access, *array, *i, state);
-                state.values[*d] = format!("in{}", self.routine.header.parameters + read);
+                state.values[*d] = format!("in{}", self.variables() + read);
             }
             Command::Write {
                 array, i, access, ..
@@ -208,5 +210,72 @@ fn name(relation: Relation) -> &'static str {
         Relation::LessEqualSigned => "bvsle",
         Relation::GreaterSigned => "bvsgt",
         Relation::GreaterEqualSigned => "bvsge",
+    }
+}
+
+#[cfg(test)]
+mod tests {
+    use super::*;
+
+    /// A 1-bit parameter, a 2-bit leftover, an array of 1. A write at the
+    /// leftover, a read into it at the parameter, and another write at it.
+    const ROUTINE: &[u8] = &[
+        1, 2, 1, 2, 1, 1, 1, 0, 0x0A, 0, 1, 0, 0x09, 1, 0, 0, 0x0A, 0, 1, 0, 0,
+    ];
+
+    fn asked(routine: &[u8], access: u8, side: u8) -> String {
+        let claim = Claim {
+            routine: routine.to_vec(),
+            access,
+            side,
+            decisions: Vec::new(),
+        };
+        questions(&claim, &oracle::parse(routine).expect("a valid routine"))
+    }
+
+    const INPUTS: &str = "\
+(set-logic QF_BV)
+(declare-const in0 (_ BitVec 1))
+(declare-const in1 (_ BitVec 2))
+(declare-const in2 (_ BitVec 2))
+";
+
+    /// The index of the first write is the leftover's own word.
+    const LEFTOVER: &str = "\
+(define-fun x1 () Bool (bvslt ((_ sign_extend 38) in1) (_ bv0 40)))
+(define-fun x2 () Bool (bvsge ((_ sign_extend 38) in1) (_ bv1 40)))
+";
+
+    /// That of the second is what was read, the word behind it.
+    const READ: &str = "\
+(define-fun x3 () Bool (and true (not x1) (not x2)))
+(define-fun x4 () Bool (bvslt ((_ sign_extend 39) in0) (_ bv0 40)))
+(define-fun x5 () Bool (bvsge ((_ sign_extend 39) in0) (_ bv1 40)))
+(define-fun x6 () Bool (and x3 (not x4) (not x5)))
+(define-fun x7 () Bool (bvslt ((_ sign_extend 38) in2) (_ bv0 40)))
+(define-fun x8 () Bool (bvsge ((_ sign_extend 38) in2) (_ bv1 40)))
+";
+
+    fn questions_of(arrival: &str, on_side: &str) -> String {
+        format!("(assert {arrival})\n(check-sat)\n(assert (not {on_side}))\n(check-sat)\n")
+    }
+
+    #[test]
+    fn every_word_is_free() {
+        let first = [INPUTS, LEFTOVER, &questions_of("true", "x1")].concat();
+        assert_eq!(asked(ROUTINE, 0, 0), first);
+        let last = [INPUTS, LEFTOVER, READ, &questions_of("x6", "x8")].concat();
+        assert_eq!(asked(ROUTINE, 2, 1), last);
+    }
+
+    #[test]
+    fn parameters_change_nothing() {
+        for parameters in 0..=2 {
+            let mut routine = ROUTINE.to_vec();
+            routine[4] = parameters;
+            for (access, side) in [(0, 0), (1, 1), (2, 0)] {
+                assert_eq!(asked(&routine, access, side), asked(ROUTINE, access, side));
+            }
+        }
     }
 }

@@ -3,7 +3,9 @@
 use crate::alike_case::AlikeCase;
 use crate::compare::Verdict;
 use crate::counter::Counter;
+use crate::leftovers::{in_lead, leftovers};
 use oracle::refusal::{LEAD_LENGTH, LEAD_RANGE};
+use oracle::{lead_len, Refusal};
 use pellet::ANSWER_LEN;
 use std::fmt;
 
@@ -17,6 +19,8 @@ pub enum Event {
     SecondRefused(u8),
     /// The first for this, and the second would be for that.
     BothRefused(u8, u8),
+    /// One is just as long as its lead would be without leftovers.
+    WithoutLeftovers,
     AnswerTooShort(usize),
 }
 
@@ -31,6 +35,7 @@ impl fmt::Display for Event {
             Event::BothRefused(first, second) => {
                 write!(f, "first refused {first}, the second too: {second}")
             }
+            Event::WithoutLeftovers => write!(f, "refused 11, as long as without leftovers"),
             Event::AnswerTooShort(len) => write!(f, "an answer of {len}"),
         }
     }
@@ -46,6 +51,7 @@ fn goals() -> Vec<(Event, u64)> {
         goals.push((Event::BothRefused(number, LEAD_LENGTH), 5));
         goals.push((Event::BothRefused(number, LEAD_RANGE), 5));
     }
+    goals.push((Event::WithoutLeftovers, 50));
     goals.extend((0..ANSWER_LEN).map(|len| (Event::AnswerTooShort(len), 5)));
     goals
 }
@@ -71,7 +77,21 @@ impl AlikeTally {
             Verdict::Refused(refusal) => refused(case, refusal.number),
             Verdict::AnswerTooShort => Event::AnswerTooShort(case.answer.len()),
         });
+        if matches!(verdict, Verdict::Refused(refusal) if is_without_leftovers(case, refusal)) {
+            self.0.hit(Event::WithoutLeftovers);
+        }
     }
+}
+
+/// Whether a lead is cut short by just the words of the leftovers.
+fn is_without_leftovers(case: &AlikeCase, refusal: &Refusal) -> bool {
+    let len = match oracle::parse(case.routine.slice()) {
+        Ok(routine) if !leftovers(&routine).is_empty() => {
+            lead_len(&routine) - in_lead(&routine).len()
+        }
+        _ => return false,
+    };
+    (refusal.number, refusal.place) == (LEAD_LENGTH, len)
 }
 
 /// Whose refusal it is: a report that is refused is so beside itself, too.

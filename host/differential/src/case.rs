@@ -3,6 +3,7 @@
 
 use crate::damage::{damage, Text};
 use crate::fault::{faulty, AIMS};
+use crate::leftovers::leftovers;
 use crate::lent::Lent;
 use crate::plan::{draw_value, Plan};
 use crate::rng::{Noise, Rng};
@@ -104,18 +105,17 @@ fn draw_inputs(rng: &mut Rng, routine: Option<&Routine>) -> (Vec<u32>, Vec<u32>)
     if rng.chance(10) {
         make_too_great(rng, &widths, &mut inputs);
     }
-    let beyond = if rng.chance(13) {
-        change_count(rng, &mut inputs)
-    } else {
-        Vec::new()
+    let beyond = match rng.below(100) {
+        0..=12 => change_count(rng, &mut inputs),
+        13..=15 => inputs.drain(leftovers(routine)).collect(),
+        _ => Vec::new(),
     };
     (inputs, beyond)
 }
 
-/// Takes inputs away, where there are any, or puts some more; hands back what
-/// was taken away.
+/// Takes inputs away or puts some more; hands back what was taken away.
 fn change_count(rng: &mut Rng, inputs: &mut Vec<u32>) -> Vec<u32> {
-    if !inputs.is_empty() && rng.chance(60) {
+    if rng.chance(60) {
         let last = inputs.len() - 1;
         let kept = if rng.chance(50) {
             last
@@ -133,9 +133,6 @@ fn change_count(rng: &mut Rng, inputs: &mut Vec<u32>) -> Vec<u32> {
 /// Makes one or two inputs too great for their variables, where those have
 /// fewer than 32 bits.
 fn make_too_great(rng: &mut Rng, widths: &[u32], inputs: &mut [u32]) {
-    if inputs.is_empty() {
-        return;
-    }
     for _ in 0..rng.within(1, 2) {
         let input = rng.below(inputs.len());
         if widths[input] < 32 {

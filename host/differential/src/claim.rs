@@ -1,11 +1,12 @@
 //! Claims about narrow routines, and what brute force says of them.
 
-use crate::guarded::draw_guarded;
+use crate::guarded::{draw_guarded, Taken};
+use crate::leftovers::{cleared, cleared_clauses, leaves_something};
 use crate::narrow::draw_narrow;
 use crate::plan::{draw_value, Plan};
 use crate::rng::Rng;
 use oracle::exhaustive::{input_bits, try_every_input, Tried, MAX_INPUT_BITS};
-use oracle::{translate, Arm, Clauses, Outcome, Routine, Run, Side};
+use oracle::{translate, Arm, Clauses, Outcome, Routine, Run, Side, Translation};
 
 /// How many lists are run in search of one that stops.
 const TRIES: usize = 6;
@@ -30,10 +31,24 @@ impl Claim {
     pub fn draw(rng: &mut Rng) -> Self {
         loop {
             let (bytes, routine) = match rng.chance(60) {
-                true => draw_guarded(rng),
+                true => draw_guarded(rng, Taken::Any),
                 false => draw_narrow(rng),
             };
-            if let Some((witness, run)) = draw_stopping(rng, &bytes, &routine) {
+            if let Some((witness, run)) = draw_stopping(rng, &bytes, &routine, Taken::Any) {
+                return Claim::of(rng, bytes, routine, witness, &run);
+            }
+        }
+    }
+
+    /// Draws a claim that its witness bears out, in which each leftover is 0;
+    /// often other leftovers are all that could refute it.
+    pub fn draw_cleared(rng: &mut Rng) -> Self {
+        loop {
+            let (bytes, routine) = match rng.chance(80) {
+                true => draw_guarded(rng, Taken::Zero),
+                false => draw_narrow(rng),
+            };
+            if let Some((witness, run)) = draw_stopping(rng, &bytes, &routine, Taken::Zero) {
                 return Claim::of(rng, bytes, routine, witness, &run);
             }
         }
@@ -45,7 +60,7 @@ impl Claim {
         loop {
             let bytes = draw_wide_plan(rng).build(rng).encode();
             let routine = oracle::parse(&bytes).expect("a valid routine");
-            if let Some((witness, run)) = draw_stopping(rng, &bytes, &routine) {
+            if let Some((witness, run)) = draw_stopping(rng, &bytes, &routine, Taken::Any) {
                 return Claim::of(rng, bytes, routine, witness, &run);
             }
         }
@@ -75,8 +90,13 @@ impl Claim {
 
     /// Whether every list that was tried bears the claim out.
     pub fn holds(&self) -> bool {
-        let refutes = |tried: &Tried| tried.arrives && !tried.is_on_side;
         !self.tried.iter().any(refutes)
+    }
+
+    /// Whether every list that was tried does where each leftover is 0.
+    pub fn holds_cleared(&self) -> bool {
+        let is_cleared = |tried: &&Tried| !leaves_something(&self.routine, &tried.inputs);
+        !self.tried.iter().filter(is_cleared).any(refutes)
     }
 
     /// The lead of a report on this claim, with the claim's own witness.
@@ -94,17 +114,27 @@ impl Claim {
     /// The clauses, which nothing satisfies where the claim holds, and the
     /// number of variables.
     pub fn clauses(&self) -> (Vec<Vec<u32>>, u32) {
-        let mut clauses = Clauses::default();
-        let translation = translate(
-            &self.bytes,
-            self.access,
-            self.side,
-            &self.decisions,
-            &mut clauses,
-        );
-        let variables = translation.expect("a valid claim").variables;
-        (clauses.numbers(), variables as u32)
+        let (clauses, translation) = self.translated();
+        (clauses, translation.variables as u32)
     }
+
+    /// The clauses as they would be if each leftover were 0.
+    pub fn cleared_clauses(&self) -> Vec<Vec<u32>> {
+        let (clauses, translation) = self.translated();
+        cleared_clauses(&self.routine, &translation, &clauses)
+    }
+
+    fn translated(&self) -> (Vec<Vec<u32>>, Translation) {
+        let mut clauses = Clauses::default();
+        let (access, side, decisions) = (self.access, self.side, &self.decisions);
+        let translation = translate(&self.bytes, access, side, decisions, &mut clauses);
+        (clauses.numbers(), translation.expect("a valid claim"))
+    }
+}
+
+/// Whether a list shows that a claim is not so.
+pub fn refutes(tried: &Tried) -> bool {
+    tried.arrives && !tried.is_on_side
 }
 
 pub fn side_byte(side: Side) -> u8 {
@@ -132,14 +162,22 @@ fn draw_wide_plan(rng: &mut Rng) -> Plan {
 }
 
 /// An input list whose run stops, if one is found soon.
-fn draw_stopping(rng: &mut Rng, bytes: &[u8], routine: &Routine) -> Option<(Vec<u32>, Run)> {
+fn draw_stopping(
+    rng: &mut Rng,
+    bytes: &[u8],
+    routine: &Routine,
+    taken: Taken,
+) -> Option<(Vec<u32>, Run)> {
     let widths = routine.input_widths();
     let sizes: Vec<u16> = (routine.header.sizes.iter())
         .map(|&size| size as u16)
         .collect();
     (0..TRIES).find_map(|_| {
         let draw = |&width: &u32| draw_value(rng, width as u8, &sizes);
-        let inputs: Vec<u32> = widths.iter().map(draw).collect();
+        let mut inputs: Vec<u32> = widths.iter().map(draw).collect();
+        if taken == Taken::Zero {
+            inputs = cleared(routine, &inputs);
+        }
         let run = oracle::run(bytes, &inputs, 32, 32).expect("an accepted list");
         (run.outcome != Outcome::Ended).then_some((inputs, run))
     })

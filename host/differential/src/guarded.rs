@@ -10,17 +10,24 @@ use oracle::exhaustive::{input_bits, MAX_INPUT_BITS};
 use oracle::Routine;
 use std::collections::BTreeSet;
 
-/// The index, and what it is compared with; before them come the parameters.
-const INDEX: u8 = 2;
-const BOUND: u8 = 3;
-const VARIABLES: usize = 4;
+/// The most variables of the index's width.
+const MAX_WIDE: usize = 4;
 /// The most values that are kept away from an access one by one.
 const MAX_GUARDS: usize = 6;
 
+/// What the guards take the leftovers for.
+#[derive(Clone, Copy, PartialEq, Eq)]
+pub enum Taken {
+    /// Any numbers, as they are.
+    Any,
+    /// Zeros: such guards may let others pass.
+    Zero,
+}
+
 /// A valid routine with accesses, and its bytes.
-pub fn draw_guarded(rng: &mut Rng) -> (Vec<u8>, Routine) {
+pub fn draw_guarded(rng: &mut Rng, taken: Taken) -> (Vec<u8>, Routine) {
     loop {
-        let bytes = draw_draft(rng).encode();
+        let bytes = draw_draft(rng, taken).encode();
         let routine = oracle::parse(&bytes).expect("a valid routine");
         if (1..=MAX_INPUT_BITS).contains(&input_bits(&routine)) {
             return (bytes, routine);
@@ -28,30 +35,57 @@ pub fn draw_guarded(rng: &mut Rng) -> (Vec<u8>, Routine) {
     }
 }
 
-fn draw_draft(rng: &mut Rng) -> Draft {
-    let width = rng.pick(&[2, 3, 3, 4]);
+/// A header of some wide variables, which all have one width, and now and then a
+/// narrow one of 1 bit behind them: every bit is an input's, of parameters or
+/// not.
+fn draw_header(rng: &mut Rng) -> Header {
+    let width = rng.pick(&[2, 2, 3, 3, 3, 4, 4, 5]);
+    let most = MAX_INPUT_BITS as usize / width;
+    let mut widths = vec![width as u8; rng.within(2, most.min(MAX_WIDE))];
+    if widths.len() * width < MAX_INPUT_BITS as usize - 1 && rng.chance(50) {
+        widths.push(1);
+    }
     let half = 1 << (width - 1);
-    let mut draft = Draft::new(Header {
-        widths: vec![width; VARIABLES],
-        parameters: rng.within(1, 2) as u8,
+    Header {
+        parameters: rng.below(widths.len() + 1) as u8,
         sizes: (0..rng.within(1, 2))
             .map(|_| rng.within(1, half) as u16)
             .collect(),
-    });
+        widths,
+    }
+}
+
+/// How many variables are wide. The last of them is what the index is compared
+/// with, and the one before it the index.
+fn wide(header: &Header) -> u8 {
+    header.widths.iter().filter(|&&width| width > 1).count() as u8
+}
+
+fn index_of(header: &Header) -> u8 {
+    wide(header) - 2
+}
+
+fn bound_of(header: &Header) -> u8 {
+    wide(header) - 1
+}
+
+fn draw_draft(rng: &mut Rng, taken: Taken) -> Draft {
+    let mut draft = Draft::new(draw_header(rng));
+    let (index, bound) = (index_of(&draft.header), bound_of(&draft.header));
     let commands = compute(rng, &draft.header);
     draft.insert(rng, TOP, commands);
     let array = rng.below(draft.header.sizes.len());
     let mut list = TOP;
-    for guard in draw_guards(rng, &draft, array) {
-        draft.insert(rng, list, set_to(BOUND, guard.bound));
-        let head = [0x0B, guard.relation as u8, INDEX, BOUND];
+    for guard in draw_guards(rng, &draft, array, taken) {
+        draft.insert(rng, list, set_to(bound, guard.bound));
+        let head = [0x0B, guard.relation as u8, index, bound];
         list = draft.append_if(list, head)[guard.arm];
         draft.extend_spine(list);
     }
-    let named = guarded_access(rng, array as u8);
+    let named = guarded_access(rng, &draft.header, array as u8);
     draft.insert(rng, list, named);
     // Behind the access, for the runs that pass it by.
-    if rng.chance(30) {
+    if rng.chance(50) {
         let head = condition(rng, &draft.header);
         draft.append_if(TOP, head);
     }
@@ -59,15 +93,17 @@ fn draw_draft(rng: &mut Rng) -> Draft {
     draft
 }
 
-/// Commands that give the index its value, from the parameters.
+/// Commands that give the index its value, from what the wide variables begin
+/// with, the index itself and what it is compared with among them.
 fn compute(rng: &mut Rng, header: &Header) -> Vec<u8> {
-    let mut any = || rng.below(usize::from(header.parameters)) as u8;
-    let mut commands = vec![0x02, INDEX, any()];
+    let index = index_of(header);
+    let mut any = || rng.below(usize::from(wide(header))) as u8;
+    let mut commands = vec![0x02, index, any()];
     let (s, t) = (any(), any());
     for _ in 0..rng.pick(&[0, 1, 1, 2, 3]) {
         let operation = rng.pick(&[0x03, 0x04, 0x05, 0x05, 0x0E, 0x0F]);
-        let (s, t) = (rng.pick(&[s, INDEX]), rng.pick(&[t, INDEX]));
-        commands.extend([operation, INDEX, s, t]);
+        let (s, t) = (rng.pick(&[s, index]), rng.pick(&[t, index]));
+        commands.extend([operation, index, s, t]);
     }
     commands
 }
@@ -107,12 +143,13 @@ impl Guard {
 
 /// Guards behind which only such indices are left, of those computed, as lie
 /// outside the array on one side; now and then any guards.
-fn draw_guards(rng: &mut Rng, draft: &Draft, array: usize) -> Vec<Guard> {
+fn draw_guards(rng: &mut Rng, draft: &Draft, array: usize, taken: Taken) -> Vec<Guard> {
     let (width, size) = (draft.header.widths[0], draft.header.sizes[array]);
     let any = rng.pick(&[0, 1, 1, 2]);
     let mut guards: Vec<Guard> = (0..any).map(|_| Guard::draw(rng, width)).collect();
     let passes = |index: &u32| guards.iter().all(|guard| guard.passes(*index, width));
-    let computed: BTreeSet<u32> = computed(draft).into_iter().filter(passes).collect();
+    let computed = computed(draft, taken);
+    let computed: BTreeSet<u32> = computed.into_iter().filter(passes).collect();
     let is_above = rng.chance(70);
     let is_outside = |&&index: &&u32| match signed(index, u32::from(width)) {
         index if is_above => index >= i64::from(size),
@@ -126,24 +163,33 @@ fn draw_guards(rng: &mut Rng, draft: &Draft, array: usize) -> Vec<Guard> {
     guards
 }
 
-/// What the index can be where the draft ends, which has no ifs yet.
-fn computed(draft: &Draft) -> BTreeSet<u32> {
-    let width = u32::from(draft.header.widths[0]);
-    let parameters = u32::from(draft.header.parameters);
+/// What the index can be where the draft ends, which has no ifs yet and does
+/// nothing with a narrow variable.
+fn computed(draft: &Draft, taken: Taken) -> BTreeSet<u32> {
+    let header = &draft.header;
+    let width = u32::from(header.widths[0]);
+    let free = match taken {
+        Taken::Any => wide(header),
+        Taken::Zero => wide(header).min(header.parameters),
+    };
     let bytes = draft.encode();
     let index = |list: u32| {
-        let word = |k: u32| list >> (k * width) & ((1 << width) - 1);
-        let inputs: Vec<u32> = (0..parameters).map(word).collect();
+        let word = |k: u8| list >> (u32::from(k) * width) & ((1 << width) - 1);
+        let mut inputs: Vec<u32> = (0..free).map(word).collect();
+        inputs.resize(header.widths.len(), 0);
         let run = oracle::run(&bytes, &inputs, 32, 32).expect("an accepted list");
-        run.values[usize::from(INDEX)]
+        run.values[usize::from(index_of(header))]
     };
-    (0..1 << (parameters * width)).map(index).collect()
+    (0..1 << (u32::from(free) * width)).map(index).collect()
 }
 
-fn guarded_access(rng: &mut Rng, array: u8) -> Vec<u8> {
+/// A read goes into the last variable: where that is a narrow one, its word has
+/// one bit.
+fn guarded_access(rng: &mut Rng, header: &Header, array: u8) -> Vec<u8> {
+    let (index, last) = (index_of(header), header.widths.len() as u8 - 1);
     match rng.chance(30) {
-        true => vec![0x09, BOUND, array, INDEX],
-        false => vec![0x0A, array, INDEX, BOUND],
+        true => vec![0x09, last, array, index],
+        false => vec![0x0A, array, index, last],
     }
 }
 

@@ -25,6 +25,10 @@
 //! with its buffers. [`truth::confirm`] holds every accepted report against all
 //! input lists, and [`report_tally::ReportTally`] counts what the reports came
 //! to. [`alike_case::AlikeCase`] is two reports on one routine.
+//!
+//! [`leftovers`] says which variables begin with what the last pick left, and
+//! what a list, a lead or a translation would be if they were cleared: the
+//! tallies count where that would not be the same.
 
 #![forbid(unsafe_code)]
 
@@ -39,6 +43,7 @@ pub mod damage;
 pub mod draft;
 pub mod fault;
 pub mod guarded;
+pub mod leftovers;
 pub mod lent;
 pub mod limit;
 pub mod long_proof;

@@ -1,4 +1,5 @@
-//! Routines with few input bits, so that every input list can be gone through.
+//! Routines with few input bits, those of all variables and of the reads, so that
+//! every input list can be gone through.
 
 use crate::draft::Header;
 use crate::plan::Plan;

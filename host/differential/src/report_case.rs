@@ -23,6 +23,8 @@ pub enum Kind {
     Damaged,
     /// A report on a claim that brute force refutes, with enough room.
     Forged,
+    /// Such a report that would be good if each leftover were 0.
+    Cleared,
 }
 
 pub struct ReportCase {
@@ -42,6 +44,7 @@ impl ReportCase {
     pub fn draw(rng: &mut Rng) -> Self {
         let mut parts = match rng.below(100) {
             0..=9 => Parts::forged(rng),
+            10..=14 => Parts::cleared(rng),
             kind => Parts::of_good(rng, kind),
         };
         parts.add_room(rng);
@@ -116,6 +119,12 @@ impl Parts {
         parts
     }
 
+    fn cleared(rng: &mut Rng) -> Self {
+        let report = Report::draw_cleared(rng);
+        let attempt = Attempt::good(&report.refutation);
+        Parts::new(Kind::Cleared, &report, attempt)
+    }
+
     /// A good report, mostly damaged in the way that this number below 100
     /// stands for.
     fn of_good(rng: &mut Rng, kind: usize) -> Self {
@@ -130,8 +139,8 @@ impl Parts {
         let mut parts = Parts::new(Kind::Damaged, &report, attempt);
         match kind {
             65..=79 => damage_lead(rng, &report.claim, &mut parts.report),
-            80..=87 => shrink(rng, &report.refutation, &mut parts.room),
-            88..=91 => damage(rng, &mut parts.report),
+            80..=88 => shrink(rng, &report.refutation, &mut parts.room),
+            89..=91 => damage(rng, &mut parts.report),
             92..=95 => {
                 let aim = rng.within(*ROUTINE_AIMS.start(), *ROUTINE_AIMS.end());
                 parts.routine = faulty(rng, aim);

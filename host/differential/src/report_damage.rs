@@ -2,8 +2,9 @@
 //! 15, and to the room lent that aims at 16. What a damaged report is then
 //! refused for is the oracle's to say, not assumed here.
 
-use crate::claim::Claim;
+use crate::claim::{refutes, Claim};
 use crate::damage::Text;
+use crate::leftovers::in_lead;
 use crate::proof_draft::Refutation;
 use crate::rng::Rng;
 use crate::truth::lead_parts;
@@ -16,6 +17,9 @@ const LEAD_AIMS: &[u8] = &[10, 11, 12, 13, 13, 14, 14, 14, 14, 15, 15];
 
 /// Damages the lead of a report on this claim.
 pub fn damage_lead(rng: &mut Rng, claim: &Claim, report: &mut Text) {
+    if rng.chance(10) {
+        return leave_out(claim, report);
+    }
     let aim = rng.pick(LEAD_AIMS);
     damage_lead_for(rng, claim, report, aim);
 }
@@ -51,11 +55,19 @@ fn great_input(rng: &mut Rng, claim: &Claim, report: &mut Text) {
     }
 }
 
-/// The lead cut short, often by its last byte alone.
+/// The lead cut short, often by its last byte alone or by as many as the words
+/// of the leftovers take.
 fn cut(rng: &mut Rng, claim: &Claim, report: &mut Text) {
     let len = claim.lead().len();
     let any = rng.below(len);
-    report.truncate(rng.pick(&[len - 1, len - 1, any, 0]));
+    let without = (len - in_lead(&claim.routine).len()).min(len - 1);
+    report.truncate(rng.pick(&[len - 1, len - 1, without, without, any, 0]));
+}
+
+/// The words of the leftovers left out: what stands behind them follows on the
+/// parameters' words. It meets any of several refusals.
+fn leave_out(claim: &Claim, report: &mut Text) {
+    report.bytes.drain(in_lead(&claim.routine));
 }
 
 fn out_of_range(rng: &mut Rng, claim: &Claim, report: &mut Text) {
@@ -119,9 +131,7 @@ fn decide_behind(claim: &Claim, report: &mut Text) {
 /// witness came to before.
 fn other_side(rng: &mut Rng, claim: &Claim, report: &mut Text) {
     match rng.below(4) {
-        0 => put_witness(rng, claim, report, |tried| {
-            tried.arrives && !tried.is_on_side
-        }),
+        0 => put_witness(rng, claim, report, refutes),
         1 => report.bytes[0] = rng.below(usize::from(claim.access) + 1) as u8,
         _ => report.bytes[1] = 1 - claim.side,
     }
@@ -141,12 +151,13 @@ fn put_witness(rng: &mut Rng, claim: &Claim, report: &mut Text, wanted: fn(&Trie
 pub fn shrink(rng: &mut Rng, refutation: &Refutation, room: &mut Room) {
     let (values, trail) = (room.values, room.trail);
     for _ in 0..rng.pick(&[1, 1, 2]) {
-        // The trail twice as often: a routine without ifs needs none.
-        let (len, needed) = match rng.below(6) {
-            0 => (&mut room.words, refutation.given_words()),
-            1 => (&mut room.starts, refutation.clauses.len()),
-            2 => (&mut room.marks, refutation.variables as usize + 1),
-            3 => (&mut room.values, values),
+        // Values and trail more often: of few entries it may be that none is
+        // taken away, and a routine without ifs needs no trail.
+        let (len, needed) = match rng.below(13) {
+            0 | 1 => (&mut room.words, refutation.given_words()),
+            2 | 3 => (&mut room.starts, refutation.clauses.len()),
+            4 | 5 => (&mut room.marks, refutation.variables as usize + 1),
+            6..=8 => (&mut room.values, values),
             _ => (&mut room.trail, trail),
         };
         *len = match rng.below(4) {

@@ -1,5 +1,5 @@
 //! Reports in the making: good ones on claims that hold, and forged ones on
-//! claims that do not.
+//! claims that do not, among them those that hold as long as all leftovers are 0.
 
 use crate::claim::Claim;
 use crate::proof_draft::{Command, Refutation};
@@ -60,6 +60,28 @@ impl Report {
         Report::draw_until(rng, false)
     }
 
+    /// Draws a report that would be good if each leftover were 0, on a claim
+    /// that brute force refutes by other leftovers.
+    pub fn draw_cleared(rng: &mut Rng) -> Self {
+        loop {
+            if let Some(report) = Report::try_draw_cleared(rng) {
+                return report;
+            }
+        }
+    }
+
+    fn try_draw_cleared(rng: &mut Rng) -> Option<Self> {
+        let claim = Claim::draw_cleared(rng);
+        let (clauses, variables) = claim.clauses();
+        if claim.holds() || !claim.holds_cleared() || variables > MAX_VARIABLES {
+            return None;
+        }
+        let style = Style::draw(rng);
+        let cleared = claim.cleared_clauses();
+        let commands = refute(rng, &cleared, variables, style, MAX_STEPS)?;
+        Some(Report::new(claim, clauses, variables, commands))
+    }
+
     /// Draws a report on a routine of any widths; there the proof alone tells
     /// that the claim holds.
     fn draw_wide(rng: &mut Rng) -> Self {
@@ -116,4 +138,31 @@ fn forge(
         }
         refute(rng, &stronger, variables, style, MAX_STEPS)
     })
+}
+
+#[cfg(test)]
+mod tests {
+    use super::*;
+    use crate::leftovers::leaves_something;
+    use crate::proof_draft::encode;
+    use oracle::check_proof;
+
+    /// The proof is good for the clauses with 0 for each leftover, the witness
+    /// has such leftovers, and the claim is not so.
+    #[test]
+    fn cleared_reports_would_be_good() {
+        for case in 0..300 {
+            let report = Report::draw_cleared(&mut Rng::for_case(1, case));
+            let (claim, refutation) = (&report.claim, &report.refutation);
+            assert!(!leaves_something(&claim.routine, &claim.witness));
+            assert!(claim.holds_cleared() && !claim.holds());
+            let proof = encode(&refutation.commands);
+            let (words, starts) = refutation.needed();
+            let cited = |clauses: &[Vec<u32>]| {
+                check_proof(&proof, 0, clauses, refutation.variables, words, starts)
+            };
+            assert!(cited(&claim.cleared_clauses()).is_ok());
+            assert!(cited(&refutation.clauses).is_err());
+        }
+    }
 }

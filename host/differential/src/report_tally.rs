@@ -1,14 +1,16 @@
 //! What the reports came to: a count for each refusal and shape, and how many
 //! of each there must be.
 
+use crate::claim::refutes;
 use crate::compare::Verdict;
 use crate::counter::Counter;
+use crate::leftovers::{cleared, in_lead, leaves_something, leftovers};
 use crate::report_case::{Kind, ReportCase};
 use crate::truth::{lead_parts, LeadParts};
 use oracle::arithmetic::Operation;
-use oracle::exhaustive::{input_bits, MAX_INPUT_BITS};
-use oracle::refusal::{BUFFER, INPUT_COUNT, PROOF_COMMAND};
-use oracle::{lead_len, Finding, Refusal, Routine, Side};
+use oracle::exhaustive::{input_bits, try_every_input, Tried, MAX_INPUT_BITS};
+use oracle::refusal::{BUFFER, INPUT_COUNT, INPUT_RANGE, LEAD_LENGTH, PROOF_COMMAND};
+use oracle::{lead_len, Finding, Outcome, Refusal, Routine, Run, Side};
 use pellet::ANSWER_LEN;
 use std::fmt;
 
@@ -78,12 +80,15 @@ impl Facts<'_> {
         decisions.iter().any(|&decision| wanted(decision))
     }
 
+    /// The run of these inputs, where they are accepted.
+    fn run(&self, inputs: &[u32]) -> Option<Run> {
+        oracle::run(self.case.routine.slice(), inputs, 32, 32).ok()
+    }
+
     /// Whether the witness's run comes to such a division, of this operation and
     /// by zero or not.
     fn divides(&self, wanted: impl Fn(Operation, bool) -> bool) -> bool {
-        let run = self
-            .lead()
-            .and_then(|lead| oracle::run(self.case.routine.slice(), &lead.witness, 32, 32).ok());
+        let run = self.lead().and_then(|lead| self.run(&lead.witness));
         let mut events = run.iter().flat_map(|run| &run.events);
         events.any(|event| match *event {
             oracle::Event::Division { operation, by_zero } => wanted(operation, by_zero),
@@ -95,13 +100,73 @@ impl Facts<'_> {
     /// access, and whether it takes another arm than a decided one anywhere.
     fn whole_run(&self) -> Option<(bool, bool)> {
         let lead = self.lead()?;
-        let run = oracle::run(self.case.routine.slice(), &lead.witness, 32, 32).ok()?;
+        let run = self.run(&lead.witness)?;
         let access = oracle::Event::Access {
             number: usize::from(lead.access),
         };
         let mut arms = run.trail.iter().zip(lead.decisions);
         let strays = arms.any(|(arm, &decision)| arm.byte() + decision == 1);
         Some((run.events.contains(&access), strays))
+    }
+
+    /// Whether the routine is accepted and such a one.
+    fn routine_is(&self, wanted: impl Fn(&Routine) -> bool) -> bool {
+        self.routine.as_ref().into_iter().any(wanted)
+    }
+
+    fn has_leftovers(&self) -> bool {
+        self.routine_is(|routine| !leftovers(routine).is_empty())
+    }
+
+    /// Whether the witness has another word than 0 for a leftover.
+    fn leaves_something(&self) -> bool {
+        let lead = self.lead();
+        self.routine_is(|routine| {
+            let mut leads = lead.iter();
+            leads.any(|lead| leaves_something(routine, &lead.witness))
+        })
+    }
+
+    /// Whether the witness does not stop as found once each leftover is 0.
+    fn needs_leftovers(&self, finding: &Finding) -> bool {
+        let list = |lead: LeadParts| Some(cleared(self.routine.as_ref()?, &lead.witness));
+        let run = self.lead().and_then(list).and_then(|list| self.run(&list));
+        let found = |outcome: Outcome| match outcome {
+            Outcome::Stopped { access, side, .. } => {
+                access == finding.access && side == finding.side
+            }
+            Outcome::Ended => false,
+        };
+        run.iter().any(|run| !found(run.outcome))
+    }
+
+    /// Whether the witness with other leftovers, and nothing else changed, shows
+    /// that the claim is not so.
+    fn refuted_by_leftovers(&self) -> bool {
+        let (routine, lead) = match (&self.routine, self.lead()) {
+            (Some(routine), Some(lead)) => (routine, lead),
+            _ => return false,
+        };
+        let claim = (lead.access, lead.side, lead.decisions);
+        let tried = try_every_input(self.case.routine.slice(), claim).unwrap_or_default();
+        let is_like =
+            |tried: &&Tried| cleared(routine, &tried.inputs) == cleared(routine, &lead.witness);
+        tried.iter().filter(is_like).any(refutes)
+    }
+
+    /// Whether the report is accepted with a word 0 for each leftover put where
+    /// those words belong.
+    fn is_good_with_zeros(&self) -> bool {
+        let words = match &self.routine {
+            Some(routine) => in_lead(routine),
+            None => return false,
+        };
+        let mut report = self.case.report.slice().to_vec();
+        if words.is_empty() || report.len() < words.start {
+            return false;
+        }
+        report.splice(words.start..words.start, vec![0; words.len()]);
+        oracle::judge(self.case.routine.slice(), &report, self.case.room()).is_ok()
     }
 }
 
@@ -128,9 +193,19 @@ const SHAPES: &[Shape] = &[
         f.is_accepted(|_| f.has_decision(|decision| decision == 2))
     }),
     ("accepted on a wide routine", 100, |f| {
-        let routine = f.routine.as_ref();
-        let is_wide = |routine: &Routine| input_bits(routine) > MAX_INPUT_BITS;
-        f.is_accepted(|_| routine.into_iter().any(is_wide))
+        f.is_accepted(|_| f.routine_is(|routine| input_bits(routine) > MAX_INPUT_BITS))
+    }),
+    ("accepted, and so on every input list", 1000, |f| {
+        f.is_accepted(|_| f.routine_is(|routine| input_bits(routine) <= MAX_INPUT_BITS))
+    }),
+    ("accepted, and so whatever is left", 500, |f| {
+        f.is_accepted(|_| f.has_leftovers())
+    }),
+    ("accepted with a leftover that is not 0", 300, |f| {
+        f.is_accepted(|_| f.leaves_something())
+    }),
+    ("accepted by a leftover that is not 0", 100, |f| {
+        f.is_accepted(|finding| f.needs_leftovers(finding))
     }),
     ("accepted past a quotient", 100, |f| {
         f.is_accepted(|_| f.divides(|operation, _| operation == Operation::Quotient))
@@ -168,6 +243,35 @@ const SHAPES: &[Shape] = &[
     }),
     ("forged, and refused after a step", 100, |f| {
         f.case.kind == Kind::Forged && f.steps_before() > Some(0)
+    }),
+    ("good if each leftover were 0, and refused", 200, |f| {
+        f.case.kind == Kind::Cleared && f.refusal.is_some()
+    }),
+    ("the same, and refused after a step", 20, |f| {
+        f.case.kind == Kind::Cleared && f.steps_before() > Some(0)
+    }),
+    ("the same, and refuted by its leftovers alone", 100, |f| {
+        f.case.kind == Kind::Cleared && f.refuted_by_leftovers()
+    }),
+    ("good but for the leftovers' words", 20, |f| {
+        let is_lead = |refusal: &Refusal| refusal.number < PROOF_COMMAND;
+        f.refusal.iter().any(is_lead) && f.is_good_with_zeros()
+    }),
+    ("refused 10, a leftover", 30, |f| {
+        f.is_refused(INPUT_RANGE, |at| {
+            f.routine_is(|routine| leftovers(routine).contains(&at))
+        })
+    }),
+    ("refused 10, a read behind leftovers", 10, |f| {
+        f.is_refused(INPUT_RANGE, |at| {
+            f.has_leftovers() && f.routine_is(|routine| at >= leftovers(routine).end)
+        })
+    }),
+    ("refused 11, as long as without leftovers", 15, |f| {
+        f.is_refused(LEAD_LENGTH, |len| {
+            let without = |routine: &Routine| lead_len(routine) - in_lead(routine).len();
+            f.has_leftovers() && f.routine_is(|routine| len == without(routine))
+        })
     }),
     ("refused 12, access", 30, |f| f.is_refused(12, |at| at == 0)),
     ("refused 12, side", 30, |f| f.is_refused(12, |at| at == 1)),

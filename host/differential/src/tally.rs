@@ -4,9 +4,11 @@
 use crate::case::Case;
 use crate::compare::{Verdict, Verdicts};
 use crate::counter::Counter;
+use crate::leftovers::{cleared, leaves_something, leftovers, words_without};
 use crate::survey::{AccessSite, IfSite, Survey};
 use oracle::arithmetic::Operation;
-use oracle::refusal::{BUFFER, COMMAND, RANGE, TRAIL_BUFFER, VALUES_BUFFER, WIDTHS};
+use oracle::refusal::{BUFFER, COMMAND, INPUT_COUNT, INPUT_RANGE};
+use oracle::refusal::{RANGE, TRAIL_BUFFER, VALUES_BUFFER, WIDTHS};
 use oracle::{Arm, Counts, Outcome, Refusal, Routine, Run, Side};
 use pellet::ANSWER_LEN;
 use std::fmt;
@@ -14,6 +16,15 @@ use std::fmt;
 const QUOTIENT: u8 = 0x0E;
 const REMAINDER: u8 = 0x0F;
 const FIRST_UNKNOWN: u8 = 0x10;
+
+const NO_INPUTS: &str = "no inputs at all";
+const WITHOUT_LEFTOVERS: &str = "as many as parameters and reads";
+
+const PARAMETER: &str = "parameter";
+const LEFTOVER: &str = "leftover";
+const READ: &str = "read behind parameters alone";
+const READ_BEHIND: &str = "read behind leftovers";
+const INPUTS: [&str; 4] = [PARAMETER, LEFTOVER, READ, READ_BEHIND];
 
 /// Something a case can come to.
 #[derive(Clone, Copy, Debug, PartialEq, Eq, PartialOrd, Ord)]
@@ -24,6 +35,11 @@ pub enum Event {
     RanOut,
     /// Refused at the command of this byte.
     RefusedAt(u8, u8),
+    /// A list of no inputs, or of just those for the parameters and the reads
+    /// where there are other variables.
+    WrongCount(&'static str),
+    /// The first input that is too great is one of these.
+    TooGreat(&'static str),
     BufferRefused(usize),
     /// That buffer has no entries at all.
     EmptyBufferRefused(usize),
@@ -49,6 +65,8 @@ impl fmt::Display for Event {
             Event::RunRefused(number) => write!(f, "run refused {number}"),
             Event::RanOut => write!(f, "refused 3 at the length"),
             Event::RefusedAt(number, code) => write!(f, "refused {number} at a {code:#04X}"),
+            Event::WrongCount(what) => write!(f, "run refused 9, {what}"),
+            Event::TooGreat(what) => write!(f, "run refused 10, a {what}"),
             Event::BufferRefused(buffer) => write!(f, "run refused 16, buffer {buffer}"),
             Event::EmptyBufferRefused(buffer) => {
                 write!(f, "run refused 16, buffer {buffer} of no entries")
@@ -77,11 +95,47 @@ struct Facts<'a> {
     counts: Counts,
     survey: &'a Survey,
     run: &'a Run,
+    /// The run with 0 for each leftover.
+    cleared: Run,
     /// The access that stopped the run, if one did.
     stop: Option<&'a AccessSite>,
 }
 
 impl Facts<'_> {
+    fn has_leftovers(&self) -> bool {
+        self.counts.parameters < self.counts.variables
+    }
+
+    /// Whether the run carries out a read whose word is another than the one
+    /// that stands as far behind the parameters' words alone.
+    fn reads_behind_leftovers(&self) -> bool {
+        let inputs = self.case.inputs.slice();
+        let Counts {
+            variables,
+            parameters,
+            ..
+        } = self.counts;
+        let differs = |&read: &usize| inputs[variables + read] != inputs[parameters + read];
+        self.reads_done().iter().any(differs)
+    }
+
+    /// The numbers of the reads that the run carries out.
+    fn reads_done(&self) -> Vec<usize> {
+        let sites = self.survey.accesses.iter().enumerate();
+        let reads = sites.filter(|(_, site)| site.is_read);
+        let numbered = reads.enumerate().map(|(read, (access, _))| (read, access));
+        let stop = match self.run.outcome {
+            Outcome::Stopped { access, .. } => Some(access),
+            Outcome::Ended => None,
+        };
+        let is_done = |number: usize| {
+            let event = oracle::Event::Access { number };
+            self.run.events.contains(&event) && stop != Some(number)
+        };
+        let done = numbered.filter(|&(_, access)| is_done(access));
+        done.map(|(read, _)| read).collect()
+    }
+
     /// The index that stopped the run, and the size of the array.
     fn stop_index(&self) -> Option<(i64, i64)> {
         match (self.run.outcome, self.stop) {
@@ -211,7 +265,23 @@ const RUN_SHAPES: &[Shape] = &[
     ("trail empty and none needed", 5000, |f| {
         f.case.trail.is_empty()
     }),
-    ("no inputs", 5000, |f| f.case.inputs.is_empty()),
+    ("leftovers", 20_000, |f| f.has_leftovers()),
+    ("a leftover that is not 0", 20_000, |f| {
+        leaves_something(f.routine, f.case.inputs.slice())
+    }),
+    ("an outcome by a leftover that is not 0", 2000, |f| {
+        f.run.outcome != f.cleared.outcome
+    }),
+    ("an arm by a leftover that is not 0", 5000, |f| {
+        f.run.trail != f.cleared.trail
+    }),
+    ("a read whose word stands behind leftovers", 5000, |f| {
+        f.reads_behind_leftovers()
+    }),
+    ("one input", 1000, |f| f.case.inputs.len() == 1),
+    ("one input, of a leftover", 300, |f| {
+        f.case.inputs.len() == 1 && f.has_leftovers()
+    }),
 ];
 
 /// Every event that must come up, with the least number of times. They lie
@@ -226,6 +296,9 @@ fn goals() -> Vec<(Event, u64)> {
         goals.extend(numbers.map(|number| (Event::RefusedAt(number, code), 200)));
     }
     goals.push((Event::RefusedAt(COMMAND, FIRST_UNKNOWN), 500));
+    goals.push((Event::WrongCount(NO_INPUTS), 500));
+    goals.push((Event::WrongCount(WITHOUT_LEFTOVERS), 1000));
+    goals.extend(INPUTS.map(|what| (Event::TooGreat(what), 500)));
     goals.push((Event::RunRefused(BUFFER), 10_000));
     goals.push((Event::BufferRefused(VALUES_BUFFER), 5000));
     goals.push((Event::BufferRefused(TRAIL_BUFFER), 5000));
@@ -294,21 +367,48 @@ impl Tally {
 
     fn run_refused(&mut self, case: &Case, refusal: &Refusal) {
         self.hit(Event::RunRefused(refusal.number));
-        if refusal.number != BUFFER {
-            return;
+        match refusal.number {
+            INPUT_COUNT => self.wrong_count(case, refusal.place),
+            INPUT_RANGE => self.too_great(case, refusal.place),
+            BUFFER => self.buffer_refused(case, refusal.place),
+            _ => {}
         }
-        self.hit(Event::BufferRefused(refusal.place));
-        let is_empty = match refusal.place {
+    }
+
+    fn wrong_count(&mut self, case: &Case, count: usize) {
+        if count == 0 {
+            self.hit(Event::WrongCount(NO_INPUTS));
+        }
+        let routine = run_routine(case);
+        if count == words_without(&routine) && !leftovers(&routine).is_empty() {
+            self.hit(Event::WrongCount(WITHOUT_LEFTOVERS));
+        }
+    }
+
+    fn too_great(&mut self, case: &Case, input: usize) {
+        let routine = run_routine(case);
+        let leftovers = leftovers(&routine);
+        self.hit(Event::TooGreat(match input {
+            _ if input < leftovers.start => PARAMETER,
+            _ if input < leftovers.end => LEFTOVER,
+            _ if leftovers.is_empty() => READ,
+            _ => READ_BEHIND,
+        }));
+    }
+
+    fn buffer_refused(&mut self, case: &Case, buffer: usize) {
+        self.hit(Event::BufferRefused(buffer));
+        let is_empty = match buffer {
             VALUES_BUFFER => case.values.is_empty(),
             _ => case.trail.is_empty(),
         };
         if is_empty {
-            self.hit(Event::EmptyBufferRefused(refusal.place));
+            self.hit(Event::EmptyBufferRefused(buffer));
         }
     }
 
     fn carried_out(&mut self, case: &Case, run: &Run) {
-        let routine = oracle::parse(case.routine.slice()).expect("a routine that was run");
+        let routine = run_routine(case);
         let survey = Survey::of(&routine);
         let stop = match run.outcome {
             Outcome::Ended => None,
@@ -329,6 +429,7 @@ impl Tally {
             counts: routine.counts(),
             survey: &survey,
             run,
+            cleared: cleared_run(case, &routine),
             stop,
         };
         for &(name, _, holds) in ROUTINE_SHAPES.iter().chain(RUN_SHAPES) {
@@ -365,4 +466,15 @@ impl Tally {
             }
         }
     }
+}
+
+/// The routine of a case that passed 1 to 8.
+fn run_routine(case: &Case) -> Routine {
+    oracle::parse(case.routine.slice()).expect("a routine that is run")
+}
+
+/// The run of an accepted list with 0 for each leftover.
+fn cleared_run(case: &Case, routine: &Routine) -> Run {
+    let inputs = cleared(routine, case.inputs.slice());
+    oracle::run(case.routine.slice(), &inputs, 32, 32).expect("an accepted list")
 }

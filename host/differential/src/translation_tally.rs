@@ -3,6 +3,7 @@
 
 use crate::compare::Verdict;
 use crate::counter::Counter;
+use crate::leftovers::leftovers;
 use crate::survey::{AccessSite, DivisionSite, Survey};
 use crate::translation_case::TranslationCase;
 use oracle::arithmetic::Operation;
@@ -67,9 +68,19 @@ impl Facts<'_> {
         sites.any(|site| site.accesses_before <= access && wanted(site))
     }
 
+    fn has_leftovers(&self) -> bool {
+        !leftovers(self.routine).is_empty()
+    }
+
+    /// Whether this is the top bit of what a leftover begins with.
+    fn is_left(&self, literal: Literal) -> bool {
+        let mut bits = self.translation.inputs[leftovers(self.routine)].iter();
+        bits.any(|bits| bits.last().map(|&top| 2 * top) == Some(literal.0))
+    }
+
     /// How many reads stand before the named access.
     fn reads(&self) -> usize {
-        let reads = &self.translation.inputs[self.routine.header.parameters..];
+        let reads = &self.translation.inputs[self.routine.header.widths.len()..];
         reads.iter().filter(|bits| !bits.is_empty()).count()
     }
 }
@@ -94,6 +105,16 @@ const SHAPES: &[Shape] = &[
         f.survey.ifs.iter().any(|site| site.reads_in_both_arms)
     }),
     ("ten reads translated", 100, |f| f.reads() >= 10),
+    ("leftovers translated", 1000, |f| f.has_leftovers()),
+    ("only leftovers translated", 300, |f| {
+        f.routine.header.parameters == 0
+    }),
+    ("a read translated behind leftovers", 500, |f| {
+        f.has_leftovers() && f.reads() > 0
+    }),
+    ("a side that is the top bit left", 30, |f| {
+        f.is_left(f.translation.side)
+    }),
     ("a quotient translated", 500, |f| {
         f.divides(|site| site.operation == Operation::Quotient)
     }),

@@ -1,6 +1,6 @@
 //! What an accepted report says, held against the run on every input list.
 
-use crate::claim::side_byte;
+use crate::claim::{refutes, side_byte};
 use oracle::exhaustive::{input_bits, try_every_input, Tried, MAX_INPUT_BITS};
 use oracle::{lead_len, Finding, Outcome, Routine};
 
@@ -52,8 +52,7 @@ pub fn confirm(routine: &[u8], report: &[u8], finding: &Finding) -> Result<bool,
     if tried.iter().filter(is_witness).count() != 1 {
         return Err("the witness does not go the way".to_string());
     }
-    let refutes = |tried: &&Tried| tried.arrives && !tried.is_on_side;
-    match tried.iter().find(refutes) {
+    match tried.iter().find(|tried| refutes(tried)) {
         Some(tried) => Err(format!("the claim is false for {:?}", tried.inputs)),
         None => Ok(true),
     }

@@ -93,21 +93,25 @@ fn runs_of_the_bench_routines() {
         assert_eq!((ran.status, ran.answer), (0, answer(first)));
         assert_eq!((ran.values, ran.trail), (values(&[word]), trail(&[])));
     }
-    let ran = run(WRITE_AT_ONE_BIT, &[]);
-    assert_eq!((ran.status, ran.answer), (0, answer(&[1, 0, 0, 1, 1])));
-    assert_eq!((ran.values, ran.trail), (values(&[1]), trail(&[])));
+    // Whatever the last pick left in the variable.
+    for leftover in [0, 1] {
+        let ran = run(WRITE_AT_ONE_BIT, &[leftover]);
+        assert_eq!((ran.status, ran.answer), (0, answer(&[1, 0, 0, 1, 1])));
+        assert_eq!((ran.values, ran.trail), (values(&[1]), trail(&[])));
+    }
 }
 
+/// The result's variable is no parameter, and what it begins with is lost.
 #[test]
 fn arithmetic_of_the_bench() {
     for (code, a, b, result) in [(3, 200, 100, 44), (4, 0, 1, 255), (5, 16, 16, 0)] {
-        let ran = run(&[1, 3, 8, 8, 8, 2, 0, code, 2, 0, 1, 0], &[a, b]);
+        let ran = run(&[1, 3, 8, 8, 8, 2, 0, code, 2, 0, 1, 0], &[a, b, 77]);
         assert_eq!((ran.status, ran.answer), (0, answer(&[0])));
         assert_eq!(ran.values, values(&[a, b, result]));
     }
-    let sign_extended = run(&[1, 2, 4, 8, 1, 0, 0x08, 1, 0, 0], &[8]);
+    let sign_extended = run(&[1, 2, 4, 8, 1, 0, 0x08, 1, 0, 0], &[8, 77]);
     assert_eq!(sign_extended.values, values(&[8, 248]));
-    let cut = run(&[1, 2, 9, 8, 1, 0, 0x06, 1, 0, 0], &[500]);
+    let cut = run(&[1, 2, 9, 8, 1, 0, 0x06, 1, 0, 0], &[500, 77]);
     assert_eq!(cut.values, values(&[500, 244]));
     for (relation, arm) in [(6, 0), (2, 1)] {
         let routine = [1, 2, 8, 8, 2, 0, 0x0B, relation, 0, 1, 0x0C, 0x0D, 0];
@@ -127,7 +131,7 @@ fn divisions() {
         (0, 0, 255, 0),
     ] {
         for (code, result) in [(0x0E, quotient), (0x0F, remainder)] {
-            let ran = run(&[1, 3, 8, 8, 8, 2, 0, code, 2, 0, 1, 0], &[a, b]);
+            let ran = run(&[1, 3, 8, 8, 8, 2, 0, code, 2, 0, 1, 0], &[a, b, 77]);
             assert_eq!((ran.status, ran.answer), (0, answer(&[0])));
             assert_eq!(ran.values, values(&[a, b, result]));
         }

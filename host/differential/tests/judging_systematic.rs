@@ -5,7 +5,7 @@ use differential::alike_case::AlikeCase;
 use differential::alike_compare::compare_alike;
 use differential::compare::Verdict;
 use differential::limit::routine_of;
-use differential::proof_draft::encode;
+use differential::proof_draft::{encode, Command};
 use differential::refute::{refute, Style};
 use differential::report_case::ReportCase;
 use differential::report_compare::compare_report;
@@ -17,7 +17,7 @@ const SEED: u64 = 0x50E1_1E7D_2026_000F;
 
 /// The second routine of the bench section, and its report.
 const ROUTINE: &[u8] = &[1, 1, 1, 0, 1, 1, 0, 0x01, 0, 1, 0, 0, 0, 0x0A, 0, 0, 0, 0];
-const REPORT: &[u8] = &[0, 0, 2, 0, 0, 0, 0, 2, 2, 0, 0, 0, 3, 0];
+const REPORT: &[u8] = &[0, 0, 0, 0, 0, 0, 2, 0, 0, 0, 0, 2, 2, 0, 0, 0, 3, 0];
 
 /// What library and oracle both come to, with so much room lent.
 fn agreed(routine: &[u8], report: &[u8], lent: [usize; 5]) -> Verdict<Finding> {
@@ -57,11 +57,12 @@ fn bench_finding() -> Verdict<Finding> {
 #[test]
 fn bench_reports() {
     assert_eq!(judged(ROUTINE, REPORT), bench_finding());
-    let other_hint = [0, 0, 2, 0, 0, 0, 0, 2, 1, 0, 0, 0, 3, 0];
-    assert_eq!(judged(ROUTINE, &other_hint), refused(20, 7));
-    let third_hint = [0, 0, 2, 0, 0, 0, 0, 2, 2, 0, 0, 0, 2, 1, 0, 0, 0, 3, 0];
-    assert_eq!(judged(ROUTINE, &third_hint), refused(22, 12));
-    assert_eq!(judged(ROUTINE, &REPORT[..13]), refused(17, 13));
+    let with = |hints: &[u8]| [&REPORT[..6], hints, &[3, 0]].concat();
+    let other_hint = with(&[2, 0, 0, 0, 0, 2, 1, 0, 0, 0]);
+    assert_eq!(judged(ROUTINE, &other_hint), refused(20, 11));
+    let third_hint = with(&[2, 0, 0, 0, 0, 2, 2, 0, 0, 0, 2, 1, 0, 0, 0]);
+    assert_eq!(judged(ROUTINE, &third_hint), refused(22, 16));
+    assert_eq!(judged(ROUTINE, &REPORT[..17]), refused(17, 17));
     // Missing files are empty ones.
     assert_eq!(judged(&[], REPORT), refused(1, 0));
     assert_eq!(judged(ROUTINE, &[]), refused(11, 0));
@@ -78,24 +79,27 @@ fn divide_constants(code: u8, width: u8, d: u8, [a, b]: [u32; 2]) -> Vec<u8> {
     routine
 }
 
-/// Judges a report on access 0 of a routine without ifs, with these inputs. Its
-/// proof is made where propagation alone can make one, which a constant divisor
-/// of zero or two constants make sure of; else there is none.
-fn judge_division(routine: &[u8], side: u8, inputs: &[u32]) -> Verdict<Finding> {
+/// A proof about access 0 of a routine without ifs that propagation alone makes,
+/// where it can, and the room that judging it takes.
+fn propagated(routine: &[u8], side: u8) -> (Option<Vec<Command>>, [usize; 5]) {
     let mut clauses = Clauses::default();
     let needed = translate(routine, 0, side, &[], &mut clauses).expect("a valid claim");
     let rng = &mut Rng::for_case(SEED, 2);
     let variables = needed.variables as u32;
     let proof = refute(rng, &clauses.numbers(), variables, Style::default(), 1);
+    let (words, starts) = (needed.words + 1, needed.clauses + 1);
+    (proof, [words, starts, needed.variables + 1, 3, 0])
+}
+
+/// Judges a report on access 0 of a routine without ifs, with these inputs. Its
+/// proof is made where propagation alone can make one, which a constant divisor
+/// of zero or two constants make sure of; else there is none.
+fn judge_division(routine: &[u8], side: u8, inputs: &[u32]) -> Verdict<Finding> {
+    let (proof, needed) = propagated(routine, side);
     let mut report = vec![0, side];
     report.extend(inputs.iter().flat_map(|word| word.to_le_bytes()));
     report.extend(encode(&proof.unwrap_or_default()));
-    let (words, starts) = (needed.words + 1, needed.clauses + 1);
-    agreed(
-        routine,
-        &report,
-        [words, starts, needed.variables + 1, 3, 0],
-    )
+    agreed(routine, &report, needed)
 }
 
 /// The side and index of an accepted report.
@@ -124,9 +128,11 @@ fn divisions_of_constants_at_every_width() {
         for (number, operands) in operands.into_iter().enumerate() {
             for code in [0x0E, 0x0F] {
                 let routine = divide_constants(code, width, number as u8 % 3, operands);
-                let run = oracle::run(&routine, &[], 3, 0).expect("an accepted run");
+                // What was left is set, or lost in the result.
+                let left = [most, half, most];
+                let run = oracle::run(&routine, &left, 3, 0).expect("an accepted run");
                 for (byte, side) in [(0, Side::Below), (1, Side::Above)] {
-                    let verdict = judge_division(&routine, byte, &[]);
+                    let verdict = judge_division(&routine, byte, &left);
                     match run.outcome {
                         Outcome::Stopped {
                             side: on, index, ..
@@ -143,17 +149,47 @@ fn divisions_of_constants_at_every_width() {
     assert!(accepted[0] > 100 && accepted[1] > 50, "{accepted:?}");
 }
 
-/// By a zero that is no parameter the quotient is -1 for every dividend.
+/// A write at the quotient of a parameter by a variable that is none, which was
+/// set to 0 or after nothing.
+fn divide_by_leftover(width: u8, before: &[u8]) -> Vec<u8> {
+    let header = [1, 2, width, width, 1, 1, 1, 0];
+    let commands = [0x0E, 1, 0, 1, 0x0A, 0, 1, 0, 0];
+    [header.as_slice(), before, &commands].concat()
+}
+
+const SET_TO_ZERO: &[u8] = &[0x01, 1, 0, 0, 0, 0];
+
+/// By a variable that is set to 0 the quotient is -1 for every dividend.
 #[test]
 fn quotients_by_zero_at_every_width() {
     for width in 1..=32 {
-        let routine = [
-            1, 2, width, width, 1, 1, 1, 0, 0x0E, 1, 0, 1, 0x0A, 0, 1, 0, 0,
-        ];
-        for dividend in [0, 1, u32::MAX >> (32 - width)] {
-            let verdict = judge_division(&routine, 0, &[dividend]);
+        let routine = divide_by_leftover(width, SET_TO_ZERO);
+        let most = u32::MAX >> (32 - width);
+        for dividend in [0, 1, most] {
+            let verdict = judge_division(&routine, 0, &[dividend, most]);
             assert_eq!(found(verdict), Some((Side::Below, -1)));
         }
+    }
+}
+
+/// Where it is not set, a 0 may have been left in it, and the quotient is -1
+/// then. But that is no finding, for 0 by 1 is inside the array; a proof that
+/// took it for 0, whose hints have the same numbers, is turned down.
+#[test]
+fn quotients_by_what_was_left_at_every_width() {
+    for width in 1..=32 {
+        let set = divide_by_leftover(width, SET_TO_ZERO);
+        let left = divide_by_leftover(width, &[]);
+        let (proof, needed) = propagated(&set, 0);
+        let lead = [0; 10];
+        let report = [&lead[..], &encode(&proof.expect("a proof"))].concat();
+        assert!(found(agreed(&set, &report, needed)).is_some());
+        match agreed(&left, &report, needed) {
+            Verdict::Refused(refusal) => assert!([20, 21].contains(&refusal.number)),
+            verdict => panic!("{verdict:?}"),
+        }
+        let run = oracle::run(&left, &[0, 1], 2, 0).expect("an accepted run");
+        assert_eq!(run.outcome, Outcome::Ended);
     }
 }
 
@@ -225,7 +261,7 @@ fn reports_at_the_limit() {
         let case = AlikeCase::of(&mut Rng::for_case(SEED, 1), ROUTINE, first, second);
         compare_alike(&case).unwrap_or_else(|report| panic!("{report}"))
     };
-    assert_eq!(judged(ROUTINE, &longest), refused(24, 14));
+    assert_eq!(judged(ROUTINE, &longest), refused(24, 18));
     assert_eq!(likeness(&longest, REPORT), Verdict::Done(true));
     longest.push(0);
     let too_long = MAX_REPORT + 1;

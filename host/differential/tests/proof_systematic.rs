@@ -44,24 +44,22 @@ fn refused(number: u8, place: usize) -> ProofVerdict {
     ProofVerdict::Refused(Refusal { number, place })
 }
 
-/// The report of the bench section and its two damaged forms.
+/// The report of the bench section and its three damaged forms. Its lead has an
+/// input word, of which variable 2 is the bit.
 #[test]
 fn bench_reports() {
-    let bench = |hints: &[u32]| {
-        let mut commands: Vec<_> = hints.iter().map(|&number| Command::Hint(number)).collect();
-        commands.extend([Command::Close, Command::End]);
-        agreed(
-            &refutation(&[&[2], &[2], &[3]], 1, &commands),
-            16_384,
-            16_384,
-        )
+    let bench = |hints: &[u32], rest: &[Command]| {
+        let hints = hints.iter().map(|&number| Command::Hint(number));
+        let commands: Vec<_> = hints.chain(rest.iter().copied()).collect();
+        let mut given = refutation(&[&[2], &[2], &[3]], 2, &commands);
+        given.lead = vec![0; 6];
+        agreed(&given, 16_384, 16_384)
     };
-    assert_eq!(bench(&[0, 2]), done(1, 2));
-    assert_eq!(bench(&[0, 1]), refused(20, 7));
-    assert_eq!(bench(&[0, 2, 1]), refused(22, 12));
-    let cut = [Command::Hint(0), Command::Hint(2), Command::Close];
-    let cut = refutation(&[&[2], &[2], &[3]], 1, &cut);
-    assert_eq!(agreed(&cut, 16_384, 16_384), refused(17, 13));
+    let rest = [Command::Close, Command::End];
+    assert_eq!(bench(&[0, 2], &rest), done(1, 2));
+    assert_eq!(bench(&[0, 1], &rest), refused(20, 11));
+    assert_eq!(bench(&[0, 2, 1], &rest), refused(22, 16));
+    assert_eq!(bench(&[0, 2], &rest[..1]), refused(17, 17));
 }
 
 #[test]

@@ -10,7 +10,9 @@ use std::hint::black_box;
 
 /// The second routine of the bench section, and its report.
 const ROUTINE: &[u8] = &[1, 1, 1, 0, 1, 1, 0, 0x01, 0, 1, 0, 0, 0, 0x0A, 0, 0, 0, 0];
-const REPORT: &[u8] = &[0, 0, 2, 0, 0, 0, 0, 2, 2, 0, 0, 0, 3, 0];
+const REPORT: &[u8] = &[0, 0, 0, 0, 0, 0, 2, 0, 0, 0, 0, 2, 2, 0, 0, 0, 3, 0];
+/// So many bytes of it are the lead: access, side and the input word.
+const LEAD: usize = 6;
 
 /// No more entries of a buffer are used.
 const USED: usize = 16_777_216;
@@ -52,7 +54,7 @@ fn run_changes_nothing() {
     for routine in [ROUTINE, &[]] {
         with_short_answers(|answer| {
             let (mut values, mut trail) = ([9; 4], [9; 4]);
-            let status = pellet::run(routine, &[], &mut values, &mut trail, answer);
+            let status = pellet::run(routine, &[0], &mut values, &mut trail, answer);
             assert_eq!((values, trail), ([9; 4], [9; 4]));
             status
         });
@@ -99,7 +101,7 @@ const STARTS: [u32; 5] = [0, 2, 4, 9, 9];
 fn prove(report: &[u8], variables: u32, answer: &mut [u64]) -> u8 {
     let (words, mut starts, mut marks) = (WORDS, STARTS, [9; 4]);
     let lent = (&words, &mut starts, &mut marks);
-    let status = pellet::prove(report, 2, 3, variables, lent.0, lent.1, lent.2, answer);
+    let status = pellet::prove(report, LEAD, 3, variables, lent.0, lent.1, lent.2, answer);
     let left = match status {
         254 | 255 => (STARTS, [9; 4]),
         _ => ([0; 5], [0; 4]),
@@ -110,11 +112,11 @@ fn prove(report: &[u8], variables: u32, answer: &mut [u64]) -> u8 {
     status
 }
 
-/// Of one variable, of a proof that is cut short, and of more variables than
+/// Of two variables, of a proof that is cut short, and of more variables than
 /// there are marks for, which is 254 otherwise.
 #[test]
 fn prove_changes_nothing() {
-    for (report, variables) in [(REPORT, 1), (&REPORT[..13], 1), (REPORT, 4)] {
+    for (report, variables) in [(REPORT, 2), (&REPORT[..17], 2), (REPORT, 4)] {
         with_short_answers(|answer| prove(report, variables, answer));
     }
 }
@@ -179,15 +181,15 @@ fn sixteen_entries_suffice() {
         pellet::check(ROUTINE, answer)
     });
     with_long_answers(0, &[1, 0, 0, 1, 1], |answer| {
-        pellet::run(ROUTINE, &[], &mut [9; 4], &mut [9; 4], answer)
+        pellet::run(ROUTINE, &[0], &mut [9; 4], &mut [9; 4], answer)
     });
-    with_long_answers(0, &[3, 6, 1], |answer| {
+    with_long_answers(0, &[3, 6, 2], |answer| {
         pellet::translate(ROUTINE, 0, 0, &[], &mut [9; 8], &mut [9; 5], answer)
     });
-    with_long_answers(0, &[3, 6, 1], |answer| {
+    with_long_answers(0, &[3, 6, 2], |answer| {
         pellet::space(ROUTINE, 0, 0, &[], answer)
     });
-    with_long_answers(0, &[1, 2], |answer| prove(REPORT, 1, answer));
+    with_long_answers(0, &[1, 2], |answer| prove(REPORT, 2, answer));
     with_long_answers(0, &[0, 0, 0, 1, 1, 1, 1, 2], |answer| {
         judge(ROUTINE, REPORT, [16, 16, 16, 4, 4], answer)
     });
@@ -200,8 +202,8 @@ fn sixteen_entries_suffice() {
 #[test]
 fn sixteen_entries_suffice_to_refuse() {
     with_long_answers(1, &[0], |answer| pellet::check(&[], answer));
-    with_long_answers(9, &[1], |answer| {
-        pellet::run(ROUTINE, &[0], &mut [9; 4], &mut [9; 4], answer)
+    with_long_answers(9, &[2], |answer| {
+        pellet::run(ROUTINE, &[0, 0], &mut [9; 4], &mut [9; 4], answer)
     });
     with_long_answers(12, &[1], |answer| {
         pellet::translate(ROUTINE, 0, 9, &[], &mut [9; 8], &mut [9; 5], answer)
@@ -209,7 +211,7 @@ fn sixteen_entries_suffice_to_refuse() {
     with_long_answers(11, &[2], |answer| {
         pellet::space(ROUTINE, 0, 9, &[2, 2], answer)
     });
-    with_long_answers(17, &[13], |answer| prove(&REPORT[..13], 1, answer));
+    with_long_answers(17, &[17], |answer| prove(&REPORT[..17], 2, answer));
     with_long_answers(254, &[], |answer| prove(REPORT, 4, answer));
     with_long_answers(16, &[2], |answer| {
         judge(ROUTINE, REPORT, [16, 16, 0, 4, 4], answer)

@@ -49,10 +49,10 @@ fn sign_and_magnitude(number: i64) -> [u64; 2] {
     [u64::from(number < 0), number.unsigned_abs()]
 }
 
-/// The values and the answer of a run on one input word.
-fn run(routine: &[u8], input: u32) -> ([u32; 2], [u64; ANSWER_LEN]) {
+/// The values and the answer of a run on these input words.
+fn run(routine: &[u8], inputs: &[u32]) -> ([u32; 2], [u64; ANSWER_LEN]) {
     let (mut values, mut answer) = ([9; 2], [9; ANSWER_LEN]);
-    let status = pellet::run(routine, &[input], &mut values, &mut [], &mut answer);
+    let status = pellet::run(routine, inputs, &mut values, &mut [], &mut answer);
     assert_eq!(status, 0);
     (values, answer)
 }
@@ -62,7 +62,7 @@ fn a_run_stops_at_the_number() {
     let mut sides = [0, 0];
     every_word(|width, word| {
         let routine = [1, 1, width as u8, 1, 1, 1, 0, 0x0A, 0, 0, 0, 0];
-        let (values, answer) = run(&routine, word);
+        let (values, answer) = run(&routine, &[word]);
         assert_eq!(values, [word, 9]);
         let number = by_shifts(word, width);
         if number == 0 {
@@ -123,7 +123,8 @@ fn a_sign_extension_keeps_the_number() {
     every_word(|width, word| {
         if width < 32 {
             let routine = [1, 2, width as u8, 32, 1, 0, 0x08, 1, 0, 0];
-            let (values, answer) = run(&routine, word);
+            // Whatever was left in the wider variable, here the opposite bits.
+            let (values, answer) = run(&routine, &[word, !word]);
             assert_eq!(answer[0], 0);
             let extended = by_shifts(word, width) as u32;
             assert_eq!(values, [word, extended], "{word} of {width} bits");

@@ -28,18 +28,19 @@ fn told(routine: &[u8]) -> Most {
     }
 }
 
-/// So many divisions of parameters of one width, then a write.
-fn divisions(width: u8, parameters: u8, count: usize) -> Vec<u8> {
-    let mut routine = vec![1, parameters];
-    routine.extend(vec![width; usize::from(parameters)]);
-    routine.extend([parameters, 1, 1, 0]);
+/// So many divisions of variables of one width, of which half are parameters,
+/// then a write.
+fn divisions(width: u8, variables: u8, count: usize) -> Vec<u8> {
+    let mut routine = vec![1, variables];
+    routine.extend(vec![width; usize::from(variables)]);
+    routine.extend([variables / 2, 1, 1, 0]);
     routine.extend([0x0E, 0, 0, 0].repeat(count));
     routine.extend([0x0A, 0, 0, 0, 0]);
     routine
 }
 
 /// As many divisions as a routine can hold. All variables are used up but those
-/// allowed for the write and the end.
+/// allowed for the write and the end: the bits of what was left take theirs too.
 #[test]
 fn longest_divisions_come_near() {
     for width in 1..=32 {
@@ -111,12 +112,13 @@ fn squares_are_too_few_for_clauses_and_words() {
     assert_eq!(extent.most(), most);
 }
 
-/// A routine of divisions in all places, with few ifs, all variables being
-/// parameters of one width, and a write behind all of it; and its decisions.
+/// A routine of divisions in all places, with few ifs, all variables being of
+/// one width and any number of them parameters, and a write behind all of it; and
+/// its decisions.
 fn draw_near(rng: &mut Rng) -> (Vec<u8>, Vec<u8>) {
     let mut draft = Draft::new(Header {
         widths: vec![rng.within(1, 32) as u8; 32],
-        parameters: 32,
+        parameters: rng.within(0, 32) as u8,
         sizes: vec![1],
     });
     let ifs = rng.pick(&[0, 1, 1, 2]);

@@ -17,6 +17,16 @@ fn agree(rng: &mut Rng, routine: &[u8], inputs: &[u32]) -> Verdicts {
     compare(&Case::ample(rng, routine, inputs)).unwrap_or_else(|report| panic!("{report}"))
 }
 
+/// A run that is not turned down, unless the routine is.
+fn agree_on_run(rng: &mut Rng, routine: &[u8], inputs: &[u32]) {
+    let verdicts = agree(rng, routine, inputs);
+    let is_right = match verdicts.check {
+        Verdict::Done(_) => matches!(verdicts.run, Verdict::Done(_)),
+        _ => true,
+    };
+    assert!(is_right, "{routine:02X?} {inputs:?}: {:?}", verdicts.run);
+}
+
 /// All values of a narrow width, the ends of the ranges of a wide one.
 fn values(width: u8) -> Vec<u32> {
     if width <= 4 {
@@ -39,8 +49,9 @@ fn operations_at_every_width() {
         for code in OPERATIONS {
             for [d, s, t] in [[2, 0, 1], [0, 0, 1], [1, 0, 1], [0, 0, 0], [2, 0, 2]] {
                 let routine = [1, 3, width, width, width, 2, 0, code, d, s, t, 0];
-                for inputs in pairs(width) {
-                    agree(rng, &routine, &inputs);
+                // What was left in the third goes by the first.
+                for [a, b] in pairs(width) {
+                    agree_on_run(rng, &routine, &[a, b, a ^ 1]);
                 }
             }
         }
@@ -97,7 +108,7 @@ fn relations_at_every_width() {
                 1, 2, width, width, 2, 0, 0x0B, relation, 0, 1, 0x0C, 0x0D, 0,
             ];
             for inputs in pairs(width) {
-                agree(rng, &routine, &inputs);
+                agree_on_run(rng, &routine, &inputs);
             }
         }
     }
@@ -111,8 +122,9 @@ fn changes_of_width() {
         for to in 1..=32 {
             for code in [0x02, 0x06, 0x07, 0x08] {
                 let routine = [1, 2, from, to, 1, 0, code, 1, 0, 0];
+                let left = u32::MAX >> (32 - to);
                 for value in values(from) {
-                    agree(rng, &routine, &[value]);
+                    agree_on_run(rng, &routine, &[value, left]);
                 }
             }
         }
@@ -131,7 +143,7 @@ fn constants_at_every_width() {
             let mut routine = vec![1, 1, width, 0, 0, 0x01, 0];
             routine.extend_from_slice(&constant.to_le_bytes());
             routine.push(0);
-            agree(rng, &routine, &[]);
+            agree_on_run(rng, &routine, &[1]);
         }
     }
 }
@@ -153,8 +165,8 @@ fn indices_at_every_width_and_size() {
                 .into_iter()
                 .filter(|&k| k <= most);
             for index in values(width).into_iter().chain(near) {
-                agree(rng, &write, &[index]);
-                agree(rng, &read, &[index, 1]);
+                agree_on_run(rng, &write, &[index]);
+                agree_on_run(rng, &read, &[index, 1]);
             }
         }
     }
@@ -188,12 +200,15 @@ const EVERY_COMMAND: &[u8] = &[
 ];
 
 /// Inputs for all that one byte more or less can make of it, and some that
-/// are too many or too great.
+/// are too few, too many or too great: a word for each of the four variables and
+/// the two reads, or one fewer or more, or only those of the parameters and the
+/// reads.
 const INPUT_LISTS: &[&[u32]] = &[
-    &[255, 3, 9, 5],
+    &[255, 3, 9, 1, 9, 5],
+    &[1, 3, 15, 0, 15, 4],
+    &[0, 0, 0, 0, 0],
+    &[1, 200, 15, 1, 255, 16, 0],
     &[1, 3, 15, 4],
-    &[0, 0, 0],
-    &[1, 200, 255, 16, 0],
 ];
 
 /// Accesses, sides and decisions for the same: the last access with both ifs
@@ -208,6 +223,24 @@ fn agree_on_all(rng: &mut Rng, routine: &[u8]) {
         // Where the translation is not refused, its words are too small.
         let case = TranslationCase::lending(rng, routine, lead, (0, 0));
         compare_as_told(&case).unwrap_or_else(|report| panic!("{report}"));
+    }
+}
+
+/// The first two lists are those of the routine as it is; the others have five,
+/// seven and four words.
+#[test]
+fn every_command() {
+    let rng = &mut Rng::for_case(SEED, 11);
+    for (number, inputs) in INPUT_LISTS.iter().enumerate() {
+        let verdict = agree(rng, EVERY_COMMAND, inputs).run;
+        let wrong = Refusal {
+            number: 9,
+            place: inputs.len(),
+        };
+        match number {
+            0 | 1 => assert!(matches!(verdict, Verdict::Done(_)), "{verdict:?}"),
+            _ => assert_eq!(verdict, Verdict::Refused(wrong)),
+        }
     }
 }
 
@@ -266,14 +299,14 @@ fn every_cut() {
 fn lengths_around_the_longest() {
     let rng = &mut Rng::for_case(SEED, 9);
     for len in [0, 1, 4095, 4096, 4097, 5000, 65_536] {
-        agree(rng, &vec![0; len], &[]);
+        agree_on_run(rng, &vec![0; len], &[7]);
         let mut routine = vec![1, 1, 8, 0, 0];
         while routine.len() + 4 <= len {
             routine.extend_from_slice(&[0x02, 0, 0]);
         }
         routine.push(0);
-        agree(rng, &routine, &[]);
+        agree_on_run(rng, &routine, &[7]);
         routine.resize(len.max(routine.len()), 0);
-        agree(rng, &routine, &[]);
+        agree_on_run(rng, &routine, &[7]);
     }
 }

@@ -5,6 +5,7 @@
 //! `differential::seeded`.
 
 use differential::compare::Verdict;
+use differential::leftovers::cleared;
 use differential::narrow::{draw_followed, draw_narrow};
 use differential::rng::Rng;
 use differential::seeded::{go_through, settle, show};
@@ -13,7 +14,9 @@ use differential::space_tally::SpaceTally;
 use differential::translation_case::TranslationCase;
 use differential::translation_compare::read_clauses;
 use differential::translation_tally::TranslationTally;
-use oracle::exhaustive::{check_every_input, Lists};
+use oracle::exhaustive::{check_every_input, try_every_input, Lists};
+use oracle::Routine;
+use std::collections::BTreeMap;
 
 const SEED: u64 = 0x50E1_1E7D_2026_0003;
 const CASES: u64 = 12_000;
@@ -40,9 +43,12 @@ fn seeded_translations_agree() {
 #[test]
 fn narrow_translations_say_what_the_runs_say() {
     let (mut all, mut met) = (Lists::default(), Lists::default());
+    let mut decided = 0;
     for number in 0..NARROW_CASES {
         let rng = &mut Rng::for_case(NARROW_SEED, number);
-        let lists = check_narrow(rng).unwrap_or_else(|report| panic!("case {number}, {report}"));
+        let (lists, by_leftovers) =
+            check_narrow(rng).unwrap_or_else(|report| panic!("case {number}, {report}"));
+        decided += usize::from(by_leftovers);
         all.all += lists.all;
         all.arriving += lists.arriving;
         all.on_side += lists.on_side;
@@ -52,17 +58,21 @@ fn narrow_translations_say_what_the_runs_say() {
         met.on_side += usize::from(lists.on_side > 0);
         met.past_zero += usize::from(lists.past_zero > 0);
     }
-    show(&format!("input lists {all:?}, translations {met:?}\n"));
+    show(&format!(
+        "input lists {all:?}, translations {met:?}, decided by leftovers {decided}\n"
+    ));
     // Most are to be about something: an access that some run comes to.
     assert!(met.arriving * 3 > met.all && met.on_side * 8 > met.all);
     assert!(all.arriving < all.all && all.on_side < all.arriving);
     // And a good many come past a division by zero.
     assert!(met.past_zero * 20 > met.all && all.past_zero < all.arriving);
+    assert!(decided * 10 > met.all);
 }
 
 /// Translates one narrow routine into buffers of just enough entries and
-/// checks what stands in them.
-fn check_narrow(rng: &mut Rng) -> Result<Lists, String> {
+/// checks what stands in them. Says too whether leftovers alone decide what some
+/// run comes to.
+fn check_narrow(rng: &mut Rng) -> Result<(Lists, bool), String> {
     let (bytes, routine) = draw_narrow(rng);
     let decisions = draw_followed(rng, &bytes, &routine);
     let access = rng.below(routine.accesses) as u8;
@@ -74,6 +84,19 @@ fn check_narrow(rng: &mut Rng) -> Result<Lists, String> {
     assert!(matches!(agreed.verdict, Verdict::Done(_)));
     let (words, starts) = (agreed.words.slice(), agreed.starts.slice());
     let clauses = read_clauses(words, starts, translation.clauses);
-    check_every_input(&bytes, lead, &translation, &clauses)
-        .map_err(|problem| format!("{case}{problem}"))
+    let lists = check_every_input(&bytes, lead, &translation, &clauses)
+        .map_err(|problem| format!("{case}{problem}"))?;
+    Ok((lists, is_decided_by_leftovers(&bytes, &routine, lead)))
+}
+
+/// Whether two lists that differ in nothing but leftovers differ in arriving or
+/// in the side.
+fn is_decided_by_leftovers(bytes: &[u8], routine: &Routine, lead: (u8, u8, &[u8])) -> bool {
+    let mut first = BTreeMap::new();
+    let tried = try_every_input(bytes, lead).expect("a narrow routine");
+    tried.iter().any(|tried| {
+        let found = (tried.arrives, tried.is_on_side);
+        let key = cleared(routine, &tried.inputs);
+        *first.entry(key).or_insert(found) != found
+    })
 }

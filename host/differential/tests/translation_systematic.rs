@@ -55,7 +55,8 @@ fn bench_routine() {
         assert_eq!(status, 0);
         assert_eq!(words, [1, 2, 1, 2, 1, last, 9, 9]);
         assert_eq!(starts, [0, 2, 4, 9, 9]);
-        assert_eq!(answer[..3], [3, 6, 1]);
+        // Variable 2 is what was left, and in no clause.
+        assert_eq!(answer[..3], [3, 6, 2]);
         assert_eq!(answer[3..], [9; ANSWER_LEN - 3]);
     }
 }
@@ -122,7 +123,8 @@ fn operations_at_every_width() {
     let rng = &mut Rng::for_case(SEED, 0);
     for width in 1..=32 {
         for code in OPERATIONS {
-            // The last variable is no parameter and begins as 0.
+            // The last variable is no parameter: its bits are those left, or of
+            // 0 where it is set.
             for [d, s, t] in [
                 [2, 0, 1],
                 [0, 0, 1],
@@ -131,11 +133,13 @@ fn operations_at_every_width() {
                 [0, 0, 2],
                 [2, 2, 0],
             ] {
-                let header = [1, 3, width, width, width, 2, 1, 1, 0];
-                let commands = [code, d, s, t, 0x0A, 0, d, 0, 0];
-                let routine = [header.as_slice(), &commands].concat();
-                for side in 0..2 {
-                    agree_exactly(rng, &routine, (0, side, &[]));
+                for before in [[].as_slice(), &[0x01, 2, 0, 0, 0, 0]] {
+                    let header = [1, 3, width, width, width, 2, 1, 1, 0];
+                    let commands = [code, d, s, t, 0x0A, 0, d, 0, 0];
+                    let routine = [header.as_slice(), before, &commands].concat();
+                    for side in 0..2 {
+                        agree_exactly(rng, &routine, (0, side, &[]));
+                    }
                 }
             }
         }
@@ -160,31 +164,32 @@ fn counts_of_divisions() {
                 assert_eq!(status, 0);
                 let width = u64::from(width);
                 let bits = width * (width + 1);
-                let counts = [3 + 18 * bits, 6 + 72 * bits, 1 + 2 * width + 4 * bits];
+                let counts = [3 + 18 * bits, 6 + 72 * bits, 1 + 3 * width + 4 * bits];
                 assert_eq!(answer[..3], counts);
             }
         }
     }
 }
 
-/// Quotient and remainder of two 1-bit parameters, to the last word.
+/// Quotient and remainder of two 1-bit parameters, to the last word. Variable 4
+/// is what was left in the third, before it is set.
 #[test]
 fn one_bit_divisions() {
     let gates = [
         [1, 2].as_slice(),
-        &[3, 9, 4, 7, 3, 9, 5, 6, 3, 8, 5, 7, 3, 8, 4, 6], // 4 = XOR(2, -3)
-        &[3, 11, 8, 2, 3, 11, 9, 3, 3, 10, 9, 2, 3, 10, 8, 3], // 5 = XOR(4, true)
-        &[3, 5, 6, 12, 3, 5, 3, 12, 3, 6, 3, 12],          // 6 = MAJ(2, -3, true)
-        &[3, 4, 7, 13, 3, 4, 2, 13, 3, 7, 2, 13],
-        &[3, 15, 3, 2, 3, 15, 2, 3, 3, 14, 2, 2, 3, 14, 3, 3], // 7 = XOR(false, true)
-        &[3, 17, 14, 12, 3, 17, 15, 13, 3, 16, 15, 12, 3, 16, 14, 13], // 8 = XOR(7, 6)
-        &[3, 2, 3, 18, 3, 2, 13, 18, 3, 3, 13, 18],            // 9 = MAJ(false, true, 6)
-        &[3, 3, 2, 19, 3, 3, 12, 19, 3, 2, 12, 19],
-        &[3, 19, 11, 20, 3, 19, 10, 21, 3, 18, 5, 20, 3, 18, 4, 21], // 10 = MUX(9, 5, 2)
-        &[3, 19, 17, 22, 3, 19, 16, 23, 3, 18, 2, 22, 3, 18, 3, 23], // 11 = MUX(9, 8, false)
+        &[3, 11, 4, 7, 3, 11, 5, 6, 3, 10, 5, 7, 3, 10, 4, 6], // 5 = XOR(2, -3)
+        &[3, 13, 10, 2, 3, 13, 11, 3, 3, 12, 11, 2, 3, 12, 10, 3], // 6 = XOR(5, true)
+        &[3, 5, 6, 14, 3, 5, 3, 14, 3, 6, 3, 14],              // 7 = MAJ(2, -3, true)
+        &[3, 4, 7, 15, 3, 4, 2, 15, 3, 7, 2, 15],
+        &[3, 17, 3, 2, 3, 17, 2, 3, 3, 16, 2, 2, 3, 16, 3, 3], // 8 = XOR(false, true)
+        &[3, 19, 16, 14, 3, 19, 17, 15, 3, 18, 17, 14, 3, 18, 16, 15], // 9 = XOR(8, 7)
+        &[3, 2, 3, 20, 3, 2, 15, 20, 3, 3, 15, 20],            // 10 = MAJ(false, true, 7)
+        &[3, 3, 2, 21, 3, 3, 14, 21, 3, 2, 14, 21],
+        &[3, 21, 13, 22, 3, 21, 12, 23, 3, 20, 5, 22, 3, 20, 4, 23], // 11 = MUX(10, 6, 2)
+        &[3, 21, 19, 24, 3, 21, 18, 25, 3, 20, 2, 24, 3, 20, 3, 25], // 12 = MUX(10, 9, false)
     ]
     .concat();
-    for (code, opposite) in [(0x0E, 19), (0x0F, 21)] {
+    for (code, opposite) in [(0x0E, 21), (0x0F, 23)] {
         let routine = [1, 3, 1, 1, 1, 2, 1, 1, 0, code, 2, 0, 1, 0x0A, 0, 2, 0, 0];
         let expected = [gates.as_slice(), &[1, 2, 1, opposite]].concat();
         let mut words = vec![0; expected.len()];
@@ -192,7 +197,7 @@ fn one_bit_divisions() {
         let status = pellet::translate(&routine, 0, 0, &[], &mut words, &mut starts, &mut answer);
         assert_eq!(status, 0);
         assert_eq!(words, expected);
-        assert_eq!(answer[..3], [39, expected.len() as u64, 11]);
+        assert_eq!(answer[..3], [39, expected.len() as u64, 12]);
     }
 }
 

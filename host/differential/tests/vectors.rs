@@ -138,6 +138,22 @@ impl Vector {
         }
     }
 
+    /// Words for all variables: the operands, and for the result's variable what
+    /// the result is not.
+    fn with_leftover(&self) -> Vec<u32> {
+        let mut words = self.operands();
+        if let Some(&width) = self.widths().get(words.len()) {
+            words.push(!self.result & (u32::MAX >> (32 - width)));
+        }
+        words
+    }
+
+    /// Words for all variables that are nothing but ones.
+    fn all_ones(&self) -> Vec<u32> {
+        let ones = |&width: &u8| u32::MAX >> (32 - width);
+        self.widths().iter().map(ones).collect()
+    }
+
     /// A routine that takes the operands as parameters.
     fn of_parameters(&self) -> Vec<u8> {
         let (widths, operands) = (self.widths(), self.operands());
@@ -149,7 +165,7 @@ impl Vector {
         routine
     }
 
-    /// A routine that sets the operands itself.
+    /// A routine that sets the operands itself, whatever was left.
     fn of_constants(&self) -> Vec<u8> {
         let widths = self.widths();
         let mut routine = vec![1, widths.len() as u8];
@@ -188,6 +204,7 @@ impl Vector {
             Term::Resize { code, .. } => routine.extend([code, found, 0]),
             // The word is 1 if the relation is to hold, 0 if it is not.
             Term::Relate { number, .. } => {
+                routine.extend([0x01, found, 0, 0, 0, 0]);
                 routine.extend([0x0B, number, 0, 1, 0x01, found, 1, 0, 0, 0, 0x0C, 0x0D]);
             }
         }
@@ -239,20 +256,19 @@ fn every_kind_of_division_is_there() {
 #[test]
 fn runs_agree() {
     for vector in vectors() {
-        let operands = vector.operands();
         let routines = [
-            (vector.of_parameters(), operands.as_slice()),
-            (vector.of_constants(), &[]),
+            (vector.of_parameters(), vector.with_leftover()),
+            (vector.of_constants(), vector.all_ones()),
         ];
         for (routine, inputs) in routines {
-            let run = oracle::run(&routine, inputs, 4, 1).expect("an accepted run");
+            let run = oracle::run(&routine, &inputs, 4, 1).expect("an accepted run");
             assert_eq!(run.outcome, Outcome::Ended);
             let trail: Vec<u8> = run.trail.iter().map(|arm| arm.byte()).collect();
             let by_oracle = vector.result_of(&run.values, &trail);
             assert_eq!(by_oracle, vector.result, "{}", vector.line);
 
             let (mut values, mut trail, mut answer) = ([0; 4], [9; 1], [9; ANSWER_LEN]);
-            let status = pellet::run(&routine, inputs, &mut values, &mut trail, &mut answer);
+            let status = pellet::run(&routine, &inputs, &mut values, &mut trail, &mut answer);
             assert_eq!((status, answer[0]), (0, 0), "{}", vector.line);
             let by_library = vector.result_of(&values, &trail);
             assert_eq!(by_library, vector.result, "{}", vector.line);
@@ -267,7 +283,8 @@ fn circuits_agree() {
     for vector in vectors() {
         for (expected, arrives) in [(vector.result, true), (vector.result ^ 1, false)] {
             let mut inputs = vector.operands();
-            inputs.push(expected);
+            // The last is left in the result's variable.
+            inputs.extend([expected, vector.result ^ 1]);
             let found = arrival(&vector.of_expected(), &inputs);
             assert_eq!(found, Some(arrives), "{} with {expected}", vector.line);
         }

@@ -11,7 +11,8 @@ const MAX_BYTES: usize = 4096;
 pub struct Header {
     /// The width of each variable, in bits.
     pub widths: Vec<u32>,
-    /// The first so many variables are parameters.
+    /// The first so many variables are parameters; the others begin with what
+    /// the last pick left in them.
     pub parameters: usize,
     /// The size of each array.
     pub sizes: Vec<u32>,
@@ -121,11 +122,11 @@ impl Routine {
         }
     }
 
-    /// The width of each input word: one for each parameter, then one for
-    /// each read, which is that of the variable that the read sets.
+    /// The width of each input word: one for each variable, parameter or not,
+    /// then one for each read, which is that of the variable that the read sets.
     pub fn input_widths(&self) -> Vec<u32> {
         let widths = &self.header.widths;
-        (0..self.header.parameters)
+        (0..widths.len())
             .chain(self.reads.iter().copied())
             .map(|variable| widths[variable])
             .collect()

@@ -79,7 +79,7 @@ pub fn run(
     Ok(carry_out(&routine, inputs))
 }
 
-/// One word for each parameter and each read, each below 2 to the width of
+/// One word for each variable and each read, each below 2 to the width of
 /// its variable, whether the run will come to the read or not.
 pub(crate) fn check_inputs(routine: &Routine, inputs: &[u32]) -> Result<(), Refusal> {
     let widths = routine.input_widths();
@@ -111,13 +111,11 @@ pub(crate) fn check_buffers(
 }
 
 pub(crate) fn carry_out(routine: &Routine, inputs: &[u32]) -> Run {
-    let (parameters, words) = inputs.split_at(routine.header.parameters);
-    let mut values = parameters.to_vec();
-    values.resize(routine.header.widths.len(), 0);
+    let (beginnings, words) = inputs.split_at(routine.header.widths.len());
     let mut machine = Machine {
         routine,
         words,
-        values,
+        values: beginnings.to_vec(),
         trail: vec![Arm::NotComeTo; routine.ifs],
         events: Vec::new(),
     };

@@ -162,18 +162,18 @@ struct Translator<'a, S> {
 
 impl<'a, S: Sink> Translator<'a, S> {
     fn new(routine: &'a Routine, named: Named, sink: &'a mut S) -> Self {
-        let widths = &routine.header.widths;
+        let variables = routine.header.widths.len();
         let mut translator = Translator {
             routine,
             header: &routine.header,
             named,
             netlist: Netlist::new(sink),
-            bits: widths.iter().map(|&width| constant(0, width)).collect(),
+            bits: vec![Vec::new(); variables],
             arrival: Literal::TRUE,
-            inputs: vec![Vec::new(); routine.header.parameters + routine.reads.len()],
+            inputs: vec![Vec::new(); variables + routine.reads.len()],
         };
-        for parameter in 0..routine.header.parameters {
-            translator.input(parameter, parameter);
+        for variable in 0..variables {
+            translator.input(variable, variable);
         }
         translator
     }
@@ -226,7 +226,7 @@ impl<'a, S: Sink> Translator<'a, S> {
                 read,
             } => {
                 self.access(access, array, i)?;
-                self.input(self.header.parameters + read, d);
+                self.input(self.header.widths.len() + read, d);
             }
             Command::Write {
                 array, i, access, ..

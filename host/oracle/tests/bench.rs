@@ -30,7 +30,8 @@ fn stopped(access: usize, side: Side, index: i64) -> Outcome {
     }
 }
 
-/// The header `01 01 08 00 00`: one 8-bit variable, no parameter, no array.
+/// The header `01 01 08 00 00`: one 8-bit variable, no parameter, no array. It
+/// begins with the one word of an input list.
 fn one_variable(commands: &[u8]) -> Vec<u8> {
     [&[1, 1, 8, 0, 0], commands].concat()
 }
@@ -85,11 +86,14 @@ fn index_is_signed() {
     }
 }
 
+/// Whatever the last pick left: the variable is set before it is used.
 #[test]
 fn one_bit_index_is_minus_one() {
-    let run = ample_run(WRITE_AT_ONE_BIT, &[]);
-    assert_eq!(run.outcome, stopped(0, Side::Below, -1));
-    assert_eq!(run.values, [1]);
+    for leftover in [0, 1] {
+        let run = ample_run(WRITE_AT_ONE_BIT, &[leftover]);
+        assert_eq!(run.outcome, stopped(0, Side::Below, -1));
+        assert_eq!(run.values, [1]);
+    }
 }
 
 /// An 8-bit index never reaches 256, and the size is not cut to its width.
@@ -100,16 +104,20 @@ fn size_is_a_whole_number() {
     assert_eq!(ample_run(&routine, &[0]).outcome, Outcome::Ended);
 }
 
+/// The result's variable is no parameter, and what it begins with is lost.
 #[test]
 fn arithmetic_of_the_bench() {
-    for (code, a, b, expected) in [(3, 200, 100, 44), (4, 0, 1, 255), (5, 16, 16, 0)] {
-        let routine = [1, 3, 8, 8, 8, 2, 0, code, 2, 0, 1, 0];
-        assert_eq!(ample_run(&routine, &[a, b]).values, [a, b, expected]);
+    for leftover in [0, 77, 255] {
+        for (code, a, b, expected) in [(3, 200, 100, 44), (4, 0, 1, 255), (5, 16, 16, 0)] {
+            let routine = [1, 3, 8, 8, 8, 2, 0, code, 2, 0, 1, 0];
+            let run = ample_run(&routine, &[a, b, leftover]);
+            assert_eq!(run.values, [a, b, expected]);
+        }
+        let sign_extend = [1, 2, 4, 8, 1, 0, 0x08, 1, 0, 0];
+        assert_eq!(ample_run(&sign_extend, &[8, leftover]).values, [8, 248]);
+        let cut = [1, 2, 9, 8, 1, 0, 0x06, 1, 0, 0];
+        assert_eq!(ample_run(&cut, &[500, leftover]).values, [500, 244]);
     }
-    let sign_extend = [1, 2, 4, 8, 1, 0, 0x08, 1, 0, 0];
-    assert_eq!(ample_run(&sign_extend, &[8]).values, [8, 248]);
-    let cut = [1, 2, 9, 8, 1, 0, 0x06, 1, 0, 0];
-    assert_eq!(ample_run(&cut, &[500]).values, [500, 244]);
     for (relation, arm) in [(6, Arm::First), (2, Arm::Else)] {
         let routine = [1, 2, 8, 8, 2, 0, 0x0B, relation, 0, 1, 0x0C, 0x0D, 0];
         assert_eq!(ample_run(&routine, &[128, 127]).trail, [arm]);
@@ -128,14 +136,15 @@ fn nothing_is_carried_out_after_a_stop() {
         &[0],
     ]
     .concat();
-    let run = ample_run(&one_array(&commands), &[77]);
+    let run = ample_run(&one_array(&commands), &[2, 77]);
     assert_eq!(run.outcome, stopped(0, Side::Above, 4));
     assert_eq!(run.values, [4]);
     assert_eq!(run.trail, [Arm::First, Arm::NotComeTo]);
 }
 
 /// The word of a read goes by its number in the text: the read in the else
-/// arm takes the second word though the run comes to it first.
+/// arm takes the second word behind the variable's though the run comes to it
+/// first.
 #[test]
 fn word_of_a_read_goes_by_the_text() {
     let commands = [
@@ -146,7 +155,7 @@ fn word_of_a_read_goes_by_the_text() {
         &[0x0D, 0],
     ]
     .concat();
-    let run = ample_run(&one_array(&commands), &[200, 3]);
+    let run = ample_run(&one_array(&commands), &[2, 200, 3]);
     assert_eq!(run.outcome, Outcome::Ended);
     assert_eq!(run.values, [3]);
     assert_eq!(run.trail, [Arm::Else]);
@@ -216,7 +225,7 @@ fn refusal_4() {
     }
     // Every constant fits a variable of 32 bits.
     let widest = [1, 1, 32, 0, 0, 0x01, 0, 0xFF, 0xFF, 0xFF, 0xFF, 0];
-    assert_eq!(ample_run(&widest, &[]).values, [u32::MAX]);
+    assert_eq!(ample_run(&widest, &[0]).values, [u32::MAX]);
 }
 
 #[test]
@@ -306,4 +315,100 @@ fn refusals_of_a_run_in_their_order() {
     assert_eq!(refused(&[255, 255], 0, 0), refusal(16, 3));
     assert_eq!(refused(&[255, 255], 1, 0), refusal(16, 4));
     assert!(run(&routine, &[255, 255], 1, 1).is_ok());
+}
+
+/// The widths of four variables.
+const FOUR: [u8; 4] = [8, 4, 1, 32];
+
+/// Four variables, so many of them parameters, and no commands.
+fn do_nothing(parameters: u8) -> Vec<u8> {
+    [&[1, 4], &FOUR[..], &[parameters, 0, 0]].concat()
+}
+
+/// Every variable begins with the word of its own number, parameter or not.
+#[test]
+fn variables_begin_with_their_words() {
+    for parameters in 0..=4 {
+        let routine = do_nothing(parameters);
+        for words in [
+            [0, 0, 0, 0],
+            [255, 15, 1, u32::MAX],
+            [200, 0, 0, 0],
+            [0, 9, 0, 0],
+            [0, 0, 1, 0],
+            [0, 0, 0, 1 << 31],
+        ] {
+            let run = ample_run(&routine, &words);
+            assert_eq!(run.outcome, Outcome::Ended);
+            assert_eq!(run.values, words);
+        }
+    }
+}
+
+/// Where the input list is too long or too short, and where a word is too great
+/// for a variable or a read, how many variables are parameters does not matter.
+#[test]
+fn refusals_with_leftovers() {
+    for parameters in 0..=4 {
+        let nothing = do_nothing(parameters);
+        let refused = |inputs: &[u32]| run(&nothing, inputs, 4, 0).unwrap_err();
+        for len in [0, 1, 2, 3, 5, 6] {
+            assert_eq!(refused(&vec![0; len]), refusal(9, len));
+        }
+        assert_eq!(refused(&[256, 16, 2, 0]), refusal(10, 0));
+        assert_eq!(refused(&[255, 16, 2, 0]), refusal(10, 1));
+        assert_eq!(refused(&[255, 15, 2, 0]), refusal(10, 2));
+        assert!(run(&nothing, &[255, 15, 1, u32::MAX], 4, 0).is_ok());
+        // A variable of 1 bit and one of 4, and two reads into each.
+        let reads = [0x09, 0, 0, 0, 0x09, 1, 0, 0].repeat(2);
+        let header = [1, 2, 1, 4, parameters.min(2), 1, 1, 0];
+        let routine = [&header, reads.as_slice(), &[0]].concat();
+        let refused = |inputs: &[u32]| run(&routine, inputs, 2, 0).unwrap_err();
+        for len in [4, 5, 7] {
+            assert_eq!(refused(&vec![0; len]), refusal(9, len));
+        }
+        assert_eq!(refused(&[1, 15, 2, 16, 2, 16]), refusal(10, 2));
+        assert_eq!(refused(&[1, 15, 1, 16, 2, 16]), refusal(10, 3));
+        assert_eq!(refused(&[1, 15, 1, 15, 2, 16]), refusal(10, 4));
+        assert_eq!(refused(&[1, 15, 1, 15, 1, 16]), refusal(10, 5));
+        assert!(run(&routine, &[1, 15, 1, 15, 1, 15], 2, 0).is_ok());
+    }
+}
+
+/// The words of the reads come behind those of all variables, not behind those
+/// of the parameters.
+#[test]
+fn words_of_reads_come_behind_the_leftovers() {
+    for parameters in 0..=3 {
+        let header = [1, 3, 8, 8, 8, parameters, 1, 4, 0];
+        let commands = [
+            [0x09, 1, 0, 0].as_slice(), // v1 := array 0 at v0
+            &[0x09, 2, 0, 0],           // v2 := array 0 at v0
+            &[0],
+        ]
+        .concat();
+        let routine = [header.as_slice(), &commands].concat();
+        let run = ample_run(&routine, &[3, 10, 20, 30, 40]);
+        assert_eq!(run.outcome, Outcome::Ended);
+        assert_eq!(run.values, [3, 30, 40]);
+        // Stopped before it reads, so the leftovers are still there.
+        let run = ample_run(&routine, &[4, 10, 20, 30, 40]);
+        assert_eq!(run.outcome, stopped(0, Side::Above, 4));
+        assert_eq!(run.values, [4, 10, 20]);
+    }
+}
+
+/// A write at a variable that is never set: what the last pick left in it is
+/// the index.
+#[test]
+fn leftover_is_an_index() {
+    for (leftover, outcome) in [
+        (0, Outcome::Ended),
+        (3, Outcome::Ended),
+        (4, stopped(0, Side::Above, 4)),
+        (255, stopped(0, Side::Below, -1)),
+    ] {
+        let routine = one_array(&[0x0A, 0, 0, 0, 0]);
+        assert_eq!(ample_run(&routine, &[leftover]).outcome, outcome);
+    }
 }

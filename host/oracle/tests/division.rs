@@ -24,10 +24,12 @@ fn pairs(width: u8) -> Vec<[u32; 2]> {
     values.iter().flat_map(with_each).collect()
 }
 
-/// What a run leaves of one command on two parameters.
-fn result(code: u8, width: u8, operands: &[u32]) -> u32 {
+/// What a run leaves of one command on two parameters, in a variable that had
+/// all ones left in it.
+fn result(code: u8, width: u8, [a, b]: [u32; 2]) -> u32 {
     let routine = [1, 3, width, width, width, 2, 0, code, 2, 0, 1, 0];
-    run(&routine, operands, 3, 0)
+    let inputs = [a, b, u32::MAX >> (32 - width)];
+    run(&routine, &inputs, 3, 0)
         .expect("an accepted run")
         .values[2]
 }
@@ -37,8 +39,8 @@ fn results_are_those_of_division() {
     for width in 1..=32 {
         let most = u32::MAX >> (32 - width);
         for [a, b] in pairs(width) {
-            let quotient = result(QUOTIENT, width, &[a, b]);
-            let remainder = result(REMAINDER, width, &[a, b]);
+            let quotient = result(QUOTIENT, width, [a, b]);
+            let remainder = result(REMAINDER, width, [a, b]);
             if b == 0 {
                 assert_eq!((quotient, remainder), (most, a), "{a} by 0 in {width}");
                 continue;
@@ -76,27 +78,28 @@ fn one_bit(code: u8) -> [u8; 18] {
 }
 
 /// The gates of one step at width 1, over the bits 4 and 6 of the operands: the
-/// shifted remainder is 4 and 3, the divisor's opposite 7 and 2.
+/// shifted remainder is 4 and 3, the divisor's opposite 7 and 2. Variable 4 is
+/// what the last pick left in the result's variable, and stands in no clause.
 #[rustfmt::skip]
 const ONE_STEP: &[&[u32]] = &[
     &[2],
-    // 4 = XOR(2, -3), 5 = XOR(4, true), 6 = MAJ(2, -3, true).
-    &[9, 4, 7], &[9, 5, 6], &[8, 5, 7], &[8, 4, 6],
-    &[11, 8, 2], &[11, 9, 3], &[10, 9, 2], &[10, 8, 3],
-    &[5, 6, 12], &[5, 3, 12], &[6, 3, 12], &[4, 7, 13], &[4, 2, 13], &[7, 2, 13],
-    // 7 = XOR(false, true), 8 = XOR(7, 6), 9 = MAJ(false, true, 6).
-    &[15, 3, 2], &[15, 2, 3], &[14, 2, 2], &[14, 3, 3],
-    &[17, 14, 12], &[17, 15, 13], &[16, 15, 12], &[16, 14, 13],
-    &[2, 3, 18], &[2, 13, 18], &[3, 13, 18], &[3, 2, 19], &[3, 12, 19], &[2, 12, 19],
-    // 10 = MUX(9, 5, 2), 11 = MUX(9, 8, false).
-    &[19, 11, 20], &[19, 10, 21], &[18, 5, 20], &[18, 4, 21],
-    &[19, 17, 22], &[19, 16, 23], &[18, 2, 22], &[18, 3, 23],
+    // 5 = XOR(2, -3), 6 = XOR(5, true), 7 = MAJ(2, -3, true).
+    &[11, 4, 7], &[11, 5, 6], &[10, 5, 7], &[10, 4, 6],
+    &[13, 10, 2], &[13, 11, 3], &[12, 11, 2], &[12, 10, 3],
+    &[5, 6, 14], &[5, 3, 14], &[6, 3, 14], &[4, 7, 15], &[4, 2, 15], &[7, 2, 15],
+    // 8 = XOR(false, true), 9 = XOR(8, 7), 10 = MAJ(false, true, 7).
+    &[17, 3, 2], &[17, 2, 3], &[16, 2, 2], &[16, 3, 3],
+    &[19, 16, 14], &[19, 17, 15], &[18, 17, 14], &[18, 16, 15],
+    &[2, 3, 20], &[2, 15, 20], &[3, 15, 20], &[3, 2, 21], &[3, 14, 21], &[2, 14, 21],
+    // 11 = MUX(10, 6, 2), 12 = MUX(10, 9, false).
+    &[21, 13, 22], &[21, 12, 23], &[20, 5, 22], &[20, 4, 23],
+    &[21, 19, 24], &[21, 18, 25], &[20, 2, 24], &[20, 3, 25],
 ];
 
 #[test]
 fn one_bit_to_the_last_literal() {
     // The last carry is the quotient, the first choice the remainder.
-    for (code, opposite) in [(QUOTIENT, 19), (REMAINDER, 21)] {
+    for (code, opposite) in [(QUOTIENT, 21), (REMAINDER, 23)] {
         let mut clauses = Clauses::default();
         translate(&one_bit(code), 0, 0, &[], &mut clauses).expect("accepted");
         let mut expected: Vec<Vec<u32>> = ONE_STEP.iter().map(|clause| clause.to_vec()).collect();
@@ -105,13 +108,14 @@ fn one_bit_to_the_last_literal() {
     }
 }
 
-/// The variables, clauses and words that a division adds to a translation. The
-/// write at the end is at a variable that no division sets.
-fn added(code: u8, width: u8, [d, s, t]: [u8; 3]) -> [usize; 3] {
+/// The variables, clauses and words that a division adds to a translation,
+/// behind these commands. The write at the end is at a variable that no division
+/// sets.
+fn added(before: &[u8], code: u8, width: u8, [d, s, t]: [u8; 3]) -> [usize; 3] {
     let header = [1, 4, width, width, width, 1, 2, 1, 1, 0];
     let write = [0x0A, 0, 3, 0, 0];
     let counts = |commands: &[u8]| {
-        let routine = [&header, commands, &write].concat();
+        let routine = [&header, before, commands, &write].concat();
         let counted = measure(&routine, 0, 0, &[]).expect("accepted");
         [counted.variables, counted.clauses, counted.words]
     };
@@ -119,16 +123,18 @@ fn added(code: u8, width: u8, [d, s, t]: [u8; 3]) -> [usize; 3] {
     [0, 1, 2].map(|k| with[k] - without[k])
 }
 
-/// Nothing is simplified, whether the operands are parameters, one and the same
-/// or the constant 0.
+/// Nothing is simplified, whether the operands are parameters, one and the same,
+/// a leftover or the constant 0.
 #[test]
 fn counts_at_every_width() {
+    let set_to_zero = [0x01, 2, 0, 0, 0, 0];
     for width in 1..=32 {
         let bits = usize::from(width) * (usize::from(width) + 1);
+        let expected = [4 * bits, 18 * bits, 72 * bits];
         for code in [QUOTIENT, REMAINDER] {
             for operands in [[2, 0, 1], [0, 0, 1], [1, 0, 1], [0, 0, 0], [0, 1, 2]] {
-                let expected = [4 * bits, 18 * bits, 72 * bits];
-                assert_eq!(added(code, width, operands), expected);
+                assert_eq!(added(&[], code, width, operands), expected);
+                assert_eq!(added(&set_to_zero, code, width, operands), expected);
             }
         }
     }
@@ -154,8 +160,9 @@ fn circuits_at_every_width() {
             let mut clauses = Clauses::default();
             let translation = translate(&routine, 0, 0, &[0], &mut clauses).expect("accepted");
             for [a, b] in pairs(width) {
-                let expected = result(code, width, &[a, b]);
-                let found = |word| arrives(&translation, &clauses, &[a, b, word]);
+                let expected = result(code, width, [a, b]);
+                // Whatever the result's variable began with.
+                let found = |word| arrives(&translation, &clauses, &[a, b, word, b]);
                 assert_eq!(found(expected), Some(true), "{a} by {b} in {width}");
                 let other = expected ^ 1 << (a % u32::from(width));
                 assert_eq!(found(other), Some(false), "{a} by {b} in {width}");

@@ -69,13 +69,29 @@ fn indices() {
     }
 }
 
+/// Into a variable of its own, whatever was left in it.
 #[test]
 fn operations() {
     for code in OPERATIONS {
-        for width in 1..=5 {
+        for width in 1..=3 {
             for size in sizes(width) {
                 let header = [1, 3, width, width, width, 2, 1, size, 0];
                 let commands = [code, 2, 0, 1, 0x0A, 0, 2, 0, 0];
+                let lists = check_all(&[header.as_slice(), &commands].concat());
+                assert_eq!(lists.past_zero > 0, DIVISIONS.contains(&code));
+            }
+        }
+    }
+}
+
+/// The index is one of the operands itself, at sizes around the greatest index.
+#[test]
+fn operations_on_the_index() {
+    for code in OPERATIONS {
+        for width in 1..=5 {
+            for size in sizes(width) {
+                let header = [1, 2, width, width, 2, 1, size, 0];
+                let commands = [code, 1, 0, 1, 0x0A, 0, 1, 0, 0];
                 let lists = check_all(&[header.as_slice(), &commands].concat());
                 assert_eq!(lists.past_zero > 0, DIVISIONS.contains(&code));
             }
@@ -99,20 +115,20 @@ fn operations_in_place() {
     }
 }
 
-/// Comes to its access just where a third parameter is the result, so that every
-/// bit of it counts.
+/// Comes to its access just where a third variable, a parameter or not, is the
+/// result, so that every bit of it counts.
 #[test]
 fn results_of_operations() {
     for code in OPERATIONS {
-        for width in 1..=3 {
-            let header = [1, 4, width, width, width, width, 3, 1, 1, 0];
+        for (width, parameters) in [(1, 3), (1, 2), (2, 3), (2, 0), (3, 3), (3, 2)] {
+            let header = [1, 3, width, width, width, parameters, 1, 1, 0];
             let commands = [
-                [code, 3, 0, 1].as_slice(),
-                &[0x0B, 0, 3, 2, 0x0A, 0, 2, 0, 0x0C, 0x0D, 0],
+                [code, 0, 0, 1].as_slice(),
+                &[0x0B, 0, 0, 2, 0x0A, 0, 2, 0, 0x0C, 0x0D, 0],
             ]
             .concat();
             let lists = check_all(&[header.as_slice(), &commands].concat());
-            // One third parameter for each pair, for both sides and under the
+            // One third word for each pair, for both sides and under the
             // decisions 0 and 2.
             assert_eq!(lists.arriving, 2 * 2 << (2 * width));
         }
@@ -124,15 +140,16 @@ fn results_of_operations() {
 #[test]
 fn divisions_in_arms() {
     for (code, other) in [(0x0E, 0x0F), (0x0F, 0x0E)] {
-        for width in 1..=4 {
+        for width in 1..=3 {
             let header = [1, 3, width, width, width, 2, 1, 1, 0];
             let commands = [
-                [0x0B, 1, 1, 2].as_slice(), // if v1 ≠ v2, which is 0
-                &[code, 2, 0, 1],           //   v2 := v0 by v1
-                &[0x0A, 0, 2, 0],           //   array 0 at v2 := v0
-                &[0x0C, other, 0, 0, 1],    // else v0 := v0 by 0
-                &[0x0D, other, 2, 0, 2],    // v2 := v0 by v2
-                &[0x0A, 0, 2, 0, 0],        // array 0 at v2 := v0
+                [0x01, 2, 0, 0, 0, 0].as_slice(), // v2 := 0
+                &[0x0B, 1, 1, 2],                 // if v1 ≠ v2
+                &[code, 2, 0, 1],                 //   v2 := v0 by v1
+                &[0x0A, 0, 2, 0],                 //   array 0 at v2 := v0
+                &[0x0C, other, 0, 0, 1],          // else v0 := v0 by 0
+                &[0x0D, other, 2, 0, 2],          // v2 := v0 by v2
+                &[0x0A, 0, 2, 0, 0],              // array 0 at v2 := v0
             ]
             .concat();
             let lists = check_all(&[header.as_slice(), &commands].concat());
@@ -225,4 +242,46 @@ fn depth_8() {
             check_one(&routine, access, side, &decisions);
         }
     }
+}
+
+/// How many lists there are, arrive, and are on the side, at a write at this
+/// variable into an array of 1; of four 2-bit variables none is set, and as many
+/// are parameters as given.
+fn at_variable(i: u8, side: u8, parameters: u8) -> [usize; 3] {
+    let header = [1, 4, 2, 2, 2, 2, parameters, 1, 1, 0];
+    let routine = [header.as_slice(), &[0x0A, 0, i, 0, 0]].concat();
+    let lists = check_one(&routine, 0, side, &[]);
+    [lists.all, lists.arriving, lists.on_side]
+}
+
+/// Each variable begins as any number, so that of its four words two are
+/// negative and one is at or above the size, whichever variable it is.
+#[test]
+fn leftovers_are_any_numbers() {
+    for i in 0..4 {
+        for parameters in 0..=4 {
+            assert_eq!(at_variable(i, 0, parameters), [256, 256, 128]);
+            assert_eq!(at_variable(i, 1, parameters), [256, 256, 64]);
+        }
+    }
+}
+
+/// Copied, joined behind an if and read over: what is left in variables that are
+/// no parameters, all that there are, decides about everything.
+#[test]
+fn leftovers_in_arms() {
+    let header = [1, 3, 2, 2, 1, 0, 2, 1, 0, 2, 0];
+    let commands = [
+        [0x0B, 8, 0, 1].as_slice(), // if v0 >s v1
+        &[0x02, 0, 1],              //   v0 := v1
+        &[0x09, 2, 1, 0],           //   v2 := array 1 at v0
+        &[0x0C, 0x07, 1, 2, 0x0D],  // else v1 := v2 zero-extended
+        &[0x0A, 0, 1, 0],           // array 0 at v1 := v0
+        &[0x08, 0, 2],              // v0 := v2 sign-extended
+        &[0x0A, 1, 0, 0, 0],        // array 1 at v0 := v0
+    ]
+    .concat();
+    let lists = check_all(&[header.as_slice(), &commands].concat());
+    assert!(lists.on_side > 0 && lists.on_side < lists.arriving);
+    assert!(lists.arriving < lists.all);
 }

@@ -13,22 +13,24 @@ fn measured(routine: &[u8], access: u8, side: u8, decisions: &[u8]) -> (Translat
     (translation, most)
 }
 
-/// So many divisions of 32 parameters, all of one width, and a write.
-fn divisions(width: u8, count: usize) -> Vec<u8> {
+/// So many divisions of 32 variables, all of one width, and a write.
+fn divisions(width: u8, parameters: u8, count: usize) -> Vec<u8> {
     let mut routine = vec![1, 32];
     routine.extend([width; 32]);
-    routine.extend([32, 1, 1, 0]);
+    routine.extend([parameters, 1, 1, 0]);
     routine.extend([0x0E, 0, 1, 2].repeat(count));
     routine.extend([0x0A, 0, 0, 0, 0]);
     routine
 }
 
-/// All variables are used up but those allowed for the write and the end.
+/// All variables are used up but those allowed for the write and the end, be
+/// the bits of the 32 variables those of parameters or not.
 #[test]
 fn divisions_take_all_that_is_allowed_for_them() {
     for width in 1..=32 {
-        for count in [0, 1, 2, 10] {
-            let (translation, most) = measured(&divisions(width, count), 0, 0, &[]);
+        for (count, parameters) in [(0, 32), (1, 0), (2, 31), (10, 32), (10, 0)] {
+            let routine = divisions(width, parameters, count);
+            let (translation, most) = measured(&routine, 0, 0, &[]);
             let bits = usize::from(width) * (usize::from(width) + 1);
             assert_eq!(most.variables - translation.variables, 2 * 4 * bits);
         }

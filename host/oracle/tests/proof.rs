@@ -6,7 +6,9 @@ use std::collections::HashMap;
 
 /// One 1-bit variable set to 1, then a write at it into an array of 1.
 const ROUTINE: &[u8] = &[1, 1, 1, 0, 1, 1, 0, 0x01, 0, 1, 0, 0, 0, 0x0A, 0, 0, 0, 0];
-const REPORT: &[u8] = &[0, 0, 2, 0, 0, 0, 0, 2, 2, 0, 0, 0, 3, 0];
+/// Access, side and what was left in the variable, then the proof.
+const REPORT: &[u8] = &[0, 0, 0, 0, 0, 0, 2, 0, 0, 0, 0, 2, 2, 0, 0, 0, 3, 0];
+const LEAD: usize = 6;
 /// Room for everything in these tests.
 const AMPLE: (usize, usize) = (1000, 1000);
 
@@ -82,16 +84,17 @@ fn bench_reports() {
         .map(|clause| clause.iter().map(number).collect())
         .collect();
     let variables = translation.variables as u32;
-    let checked = |report: &[u8]| plain(check_proof(report, 2, &clauses, variables, 16384, 16384));
+    let checked =
+        |report: &[u8]| plain(check_proof(report, LEAD, &clauses, variables, 16384, 16384));
     assert_eq!(checked(REPORT), Ok((1, 2)));
     let with = |hints: &[u32]| {
         let hints: Vec<_> = hints.iter().map(|&number| Hint(number)).collect();
-        [&REPORT[..2], &encode(&hints), &[3, 0]].concat()
+        [&REPORT[..LEAD], &encode(&hints), &[3, 0]].concat()
     };
     assert_eq!(checked(&with(&[0, 2])), Ok((1, 2)));
-    assert_eq!(checked(&with(&[0, 1])), Err((20, 7)));
-    assert_eq!(checked(&with(&[0, 2, 1])), Err((22, 12)));
-    assert_eq!(checked(&REPORT[..13]), Err((17, 13)));
+    assert_eq!(checked(&with(&[0, 1])), Err((20, 11)));
+    assert_eq!(checked(&with(&[0, 2, 1])), Err((22, 16)));
+    assert_eq!(checked(&REPORT[..17]), Err((17, 17)));
 }
 
 #[test]

@@ -15,12 +15,13 @@ const BENCH_ROOM: Room = Room {
     trail: 32,
 };
 
-/// A 2-bit parameter and a 2-bit zero. If 0: where the parameter is 0 nothing,
-/// else access 0 with it. If 1 asks whether it is negative and does nothing.
-/// Then access 1 at 0. The array has one entry.
+/// A 2-bit parameter and a 2-bit variable that is set to 0. If 0: where the
+/// parameter is 0 nothing, else access 0 with it. If 1 asks whether it is
+/// negative and does nothing. Then access 1 at 0. The array has one entry.
 #[rustfmt::skip]
 const ROUTINE: &[u8] = &[
     1, 2, 2, 2, 1, 1, 1, 0,
+    0x01, 1, 0, 0, 0, 0,
     0x0B, 0, 0, 1, 0x0C, 0x0A, 0, 0, 0, 0x0D,
     0x0B, 6, 0, 1, 0x0C, 0x0D,
     0x0A, 0, 1, 1,
@@ -33,10 +34,16 @@ fn judged(routine: &[u8], report: &[u8], room: Room) -> Outcome {
     judge(routine, report, room).map_err(|refusal| (refusal.number, refusal.place))
 }
 
-/// The lead of a report on `ROUTINE`.
+/// The lead of a report on `ROUTINE`, with these words for the parameter and the
+/// leftover.
+fn lead_with(access: u8, side: u8, decisions: [u8; 2], words: [u32; 2]) -> Vec<u8> {
+    let words = words.map(u32::to_le_bytes).concat();
+    [&[access, side], &decisions[..], &words].concat()
+}
+
+/// With a leftover that is not 0: the routine does not use it.
 fn lead(access: u8, side: u8, decisions: [u8; 2], input: u32) -> Vec<u8> {
-    let word = input.to_le_bytes();
-    [&[access, side], &decisions[..], &word].concat()
+    lead_with(access, side, decisions, [input, 3])
 }
 
 /// What a report on `ROUTINE` with this lead and no proof comes to: refused
@@ -46,11 +53,19 @@ fn without_proof(access: u8, side: u8, decisions: [u8; 2], input: u32) -> Outcom
     judged(ROUTINE, &report, BENCH_ROOM)
 }
 
-const NO_PROOF: Outcome = Err((17, 8));
+const NO_PROOF: Outcome = Err((17, 12));
 
+/// With an input word 0, and with a 1 in its place, which is as good.
 #[test]
 fn bench_reports() {
-    let judged = |proof: &[u8]| judged(BENCH, &[&[0, 0], proof].concat(), BENCH_ROOM);
+    for leftover in [0, 1] {
+        bench_reports_with(leftover);
+    }
+}
+
+fn bench_reports_with(leftover: u8) {
+    let lead = [0, 0, leftover, 0, 0, 0];
+    let judged = |proof: &[u8]| judged(BENCH, &[&lead, proof].concat(), BENCH_ROOM);
     let good = [2, 0, 0, 0, 0, 2, 2, 0, 0, 0, 3, 0];
     let finding = Finding {
         access: 0,
@@ -63,11 +78,22 @@ fn bench_reports() {
     };
     assert_eq!(judged(&good), Ok(finding));
     let other_hint = [2, 0, 0, 0, 0, 2, 1, 0, 0, 0, 3, 0];
-    assert_eq!(judged(&other_hint), Err((20, 7)));
+    assert_eq!(judged(&other_hint), Err((20, 11)));
     let third_hint = [2, 0, 0, 0, 0, 2, 2, 0, 0, 0, 2, 1, 0, 0, 0, 3, 0];
-    assert_eq!(judged(&third_hint), Err((22, 12)));
-    assert_eq!(judged(&good[..11]), Err((17, 13)));
-    assert_eq!(judged(&[&good[..], &[0]].concat()), Err((24, 14)));
+    assert_eq!(judged(&third_hint), Err((22, 16)));
+    assert_eq!(judged(&good[..11]), Err((17, 17)));
+    assert_eq!(judged(&[&good[..], &[0]].concat()), Err((24, 18)));
+}
+
+/// The bench's report without the word for what was left: the proof's first
+/// bytes stand in its place, and 2 does not fit one bit.
+#[test]
+fn bench_report_without_a_leftover() {
+    let report = [0, 0, 2, 0, 0, 0, 0, 2, 2, 0, 0, 0, 3, 0];
+    assert_eq!(judged(BENCH, &report, BENCH_ROOM), Err((10, 0)));
+    for len in 0..6 {
+        assert_eq!(judged(BENCH, &report[..len], BENCH_ROOM), Err((11, len)));
+    }
 }
 
 /// The routine first, whatever the report.
@@ -83,7 +109,7 @@ fn routines() {
 fn leads_cut_short_or_too_long() {
     // Access, side and a decision are out of range, the input too great.
     let wrong = lead(9, 9, [9, 9], 9);
-    for len in 0..8 {
+    for len in 0..12 {
         assert_eq!(judged(ROUTINE, &wrong[..len], BENCH_ROOM), Err((11, len)));
     }
     let mut longest = wrong;
@@ -105,7 +131,20 @@ fn leads_out_of_range() {
     assert_eq!(without_proof(0, 1, [0, 2], 4), Err((10, 0)));
     // A routine without accesses has none to name.
     let none = [1, 1, 1, 0, 0, 0];
-    assert_eq!(judged(&none, &[0, 0], BENCH_ROOM), Err((12, 0)));
+    assert_eq!(judged(&none, &[0; 5], BENCH_ROOM), Err((11, 5)));
+    assert_eq!(judged(&none, &[0; 6], BENCH_ROOM), Err((12, 0)));
+}
+
+/// The word of the leftover is looked at like the parameter's, and after it.
+#[test]
+fn inputs_too_great() {
+    let judged = |words| judged(ROUTINE, &lead_with(0, 1, [2, 2], words), BENCH_ROOM);
+    assert_eq!(judged([4, 4]), Err((10, 0)));
+    assert_eq!(judged([1, 4]), Err((10, 1)));
+    assert_eq!(judged([1, u32::MAX]), Err((10, 1)));
+    for leftover in 0..4 {
+        assert_eq!(judged([1, leftover]), NO_PROOF);
+    }
 }
 
 #[test]
@@ -132,7 +171,10 @@ fn witness_does_not_come_to_the_access() {
     let skipping = [
         1, 1, 1, 0, 1, 1, 0, 0x0B, 0, 0, 0, 0x0C, 0x0A, 0, 0, 0, 0x0D, 0,
     ];
-    assert_eq!(judged(&skipping, &[0, 0, 2], BENCH_ROOM), Err((14, 0)));
+    for leftover in [0, 1] {
+        let report = [0, 0, 2, leftover, 0, 0, 0];
+        assert_eq!(judged(&skipping, &report, BENCH_ROOM), Err((14, 0)));
+    }
 }
 
 #[test]
@@ -208,16 +250,41 @@ fn alike_refuses_in_order() {
     let good = lead(0, 1, [2, 2], 1);
     let out_of_range = lead(0, 1, [2, 3], 1);
     let refused = |number, place| Err(Refusal { number, place });
-    let cut = &good[..7];
+    // The last byte of the leftover's word is gone.
+    let cut = &good[..11];
     assert_eq!(alike(&[], cut, cut), refused(1, 0));
     assert_eq!(alike(ROUTINE, &out_of_range, cut), refused(12, 3));
-    assert_eq!(alike(ROUTINE, cut, &out_of_range), refused(11, 7));
+    assert_eq!(alike(ROUTINE, cut, &out_of_range), refused(11, 11));
     assert_eq!(alike(ROUTINE, &good, &out_of_range), refused(12, 3));
-    assert_eq!(alike(ROUTINE, &good, cut), refused(11, 7));
+    assert_eq!(alike(ROUTINE, &good, cut), refused(11, 11));
     assert_eq!(alike(ROUTINE, &good, &[]), refused(11, 0));
     let too_long = vec![0; MAX_REPORT + 1];
     assert_eq!(
         alike(ROUTINE, &good, &too_long),
         refused(11, MAX_REPORT + 1)
     );
+}
+
+/// A write at a 1-bit leftover, after it was set to 1 or after nothing.
+fn write_at_leftover(commands: &[u8]) -> Vec<u8> {
+    [&[1, 1, 1, 0, 1, 1, 0], commands, &[0x0A, 0, 0, 0, 0]].concat()
+}
+
+/// Set, the index is -1 in every run, and the bench's hints prove it. Not set,
+/// it is -1 where 1 was left, and 0 where 0 was: there is a witness, but no
+/// proof, for clause 2 is then {5}, and only variable 2 becomes false by it.
+#[test]
+fn leftover_that_is_not_set_is_no_finding() {
+    let report = |leftover: u8, proof: &[u8]| [&[0, 0, leftover, 0, 0, 0], proof].concat();
+    let proof = [2, 0, 0, 0, 0, 2, 2, 0, 0, 0, 3, 0];
+    let set = write_at_leftover(&[0x01, 0, 1, 0, 0, 0]);
+    for leftover in [0, 1] {
+        let index = judged(&set, &report(leftover, &proof), BENCH_ROOM).map(|found| found.index);
+        assert_eq!(index, Ok(-1));
+    }
+    let not_set = write_at_leftover(&[]);
+    let judged = |report: &[u8]| judged(&not_set, report, BENCH_ROOM);
+    assert_eq!(judged(&report(0, &proof)), Err((15, 0)));
+    assert_eq!(judged(&report(1, &proof)), Err((21, 16)));
+    assert_eq!(judged(&report(1, &[2, 2, 0, 0, 0, 3])), Err((21, 11)));
 }

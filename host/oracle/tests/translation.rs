@@ -42,7 +42,8 @@ fn checked(bytes: &[u8], access: u8, side: u8, decisions: &[u8]) -> Lists {
 }
 
 /// Three clauses, {2}, {2} and {3}: the report of the bench section closes the
-/// empty clause with the hints 0 and 2.
+/// empty clause with the hints 0 and 2. Variable 2 is what was left in the
+/// variable before it is set, and stands in no clause.
 #[test]
 fn bench_routine_below() {
     let (translation, clauses) = translated(WRITE_AT_ONE_BIT, 0, 0, &[]);
@@ -54,9 +55,87 @@ fn bench_routine_below() {
         side,
         ..
     } = translation;
-    assert_eq!((words, variables), (6, 1));
+    assert_eq!((words, variables), (6, 2));
     assert_eq!((arrival, side), (Literal::TRUE, Literal::TRUE));
-    assert_eq!(translation.inputs, Vec::<Vec<u32>>::new());
+    assert_eq!(translation.inputs, [[2]]);
+}
+
+/// Without its set the side is what was left: {2}, {2} and the opposite of
+/// variable 2, which both words of one bit come to.
+#[test]
+fn bench_routine_without_its_set() {
+    let routine = [1, 1, 1, 0, 1, 1, 0, 0x0A, 0, 0, 0, 0];
+    let (translation, clauses) = translated(&routine, 0, 0, &[]);
+    assert_eq!(numbers(&clauses), [[2], [2], [5]]);
+    assert_eq!((translation.words, translation.variables), (6, 2));
+    assert_eq!(translation.inputs, [[2]]);
+    assert_eq!(
+        checked(&routine, 0, 0, &[]),
+        Lists {
+            all: 2,
+            arriving: 2,
+            on_side: 1,
+            past_zero: 0,
+        }
+    );
+}
+
+/// The bits of a 2-bit parameter are variables 2 and 3, those of a 3-bit
+/// leftover 4 to 6, that of a 1-bit one 7. A read at the 1-bit one makes its
+/// gates 8 and 9, and then the bits that it gives the 3-bit one.
+#[test]
+fn bits_of_leftovers_come_before_all_else() {
+    for parameters in 0..=3 {
+        let header = [1, 3, 2, 3, 1, parameters, 1, 1, 0];
+        let commands = [0x09, 1, 0, 2, 0x0A, 0, 1, 0, 0];
+        let routine = [header.as_slice(), &commands].concat();
+        let (named, clauses) = translated(&routine, 0, 0, &[]);
+        assert_eq!(numbers(&clauses), [[2], [2], [15]]);
+        assert_eq!(named.inputs, [vec![2, 3], vec![4, 5, 6], vec![7], vec![]]);
+        let (behind, clauses) = translated(&routine, 1, 0, &[]);
+        // A size of 1 is never reached by one bit, so above is 3.
+        let expected: &[&[u32]] = &[
+            &[2],
+            &[17, 15], // 8 = AND(-7, -above)
+            &[17, 2],
+            &[16, 14, 3],
+            &[19, 2], // 9 = AND(true, 8)
+            &[19, 16],
+            &[18, 3, 17],
+            &[18],
+            &[25], // the top bit of what was read is variable 12
+        ];
+        assert_eq!(numbers(&clauses), expected);
+        let read = vec![10, 11, 12];
+        assert_eq!(behind.inputs, [vec![2, 3], vec![4, 5, 6], vec![7], read]);
+        assert_eq!(behind.variables, 12);
+    }
+}
+
+/// How many variables are parameters changes nothing in a translation.
+#[test]
+fn parameters_change_nothing() {
+    let commands = [
+        [0x0B, 2, 0, 1].as_slice(), // if v0 <u v1
+        &[0x03, 1, 0, 1],           //   v1 := v0 + v1
+        &[0x0C, 0x09, 0, 0, 1],     // else v0 := array 0 at v1
+        &[0x0D, 0x0A, 0, 0, 0, 0],  // array 0 at v0 := v0
+    ]
+    .concat();
+    let routine = |parameters: u8| {
+        let header = [1, 3, 2, 2, 2, parameters, 1, 1, 0];
+        [header.as_slice(), &commands].concat()
+    };
+    for (access, side, decision) in [(0, 0, 1), (0, 1, 2), (1, 0, 0), (1, 1, 2)] {
+        let all = |parameters| {
+            let (translation, clauses) =
+                translated(&routine(parameters), access, side, &[decision]);
+            (translation, numbers(&clauses))
+        };
+        for parameters in 0..3 {
+            assert_eq!(all(parameters), all(3));
+        }
+    }
 }
 
 /// A size of 1 is more than a 1-bit index can hold: above is 3, no gates.

@@ -34,9 +34,11 @@ mod ffi {
     }
 }
 
-/// Judges a report. On 0, `answer` holds the access, the side, the array, its
-/// size, whether the index is negative, its magnitude, and the numbers of steps
-/// and hints. On every return, [`ANSWER_TOO_SHORT`](crate::ANSWER_TOO_SHORT) too,
+/// Judges a report: an access, a side, a decision for each if, an input list of
+/// four bytes a word, and a proof. On 0, the claim holds on every run, from any
+/// leftovers, and `answer` holds the access, the side, the array, its size,
+/// whether the index is negative, its magnitude, and the numbers of steps and
+/// hints. On every return, [`ANSWER_TOO_SHORT`](crate::ANSWER_TOO_SHORT) too,
 /// the first 16,777,216 entries of all five buffers are zeros.
 #[allow(clippy::too_many_arguments)] // They are those of C.
 pub fn judge(

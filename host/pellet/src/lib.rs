@@ -2,6 +2,9 @@
 //!
 //! Routines have document 01's commands and, from note 1 of document 02, the
 //! unsigned quotient (0x0E) and remainder (0x0F). [`space`] is the call of note 2.
+//! From note 4 on an input list has one word for each variable, the parameters
+//! first and then what the last pick left in the others, and then one for each
+//! read in the order of the text.
 //!
 //! The functions take slices where C takes pointers and lengths, and hand back
 //! what C returns: 0, the number of a refusal, [`ANSWER_TOO_SHORT`], or from
@@ -91,9 +94,10 @@ pub fn check(routine: &[u8], answer: &mut [u64]) -> u8 {
     }
 }
 
-/// Runs a routine. On 0, `answer` begins with 0 for a run that ended, or with
-/// 1, the access, the side, whether the index is negative, and its magnitude
-/// for one that stopped; `values` and `trail` are filled in both cases.
+/// Runs a routine on an input list: a word for each variable, which begins with
+/// it, and then one for each read. On 0, `answer` begins with 0 for a run that
+/// ended, or with 1, the access, the side, whether the index is negative, and its
+/// magnitude for one that stopped; `values` and `trail` are filled in both cases.
 pub fn run(
     routine: &[u8],
     inputs: &[u32],
@@ -122,7 +126,8 @@ pub fn run(
 /// Translates a routine into clauses that say how a run comes to this access
 /// with an index not on this side. On 0, `answer` begins with the numbers of
 /// clauses, words and variables; `words` holds the clauses, each as a count and
-/// its literals, and `starts` the offset of each count.
+/// its literals, and `starts` the offset of each count. The variables from 2 on
+/// are the bits with which the routine's variables begin.
 pub fn translate(
     routine: &[u8],
     access: u8,

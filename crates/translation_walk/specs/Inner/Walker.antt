@@ -21,7 +21,7 @@ use Rattle.translation_command.specs.Command.{Encoding}
 use Rattle.translation_state.specs.Wires.{Wires, allPlaces, isMade}
 use Rattle.translation_state.specs.Inner.Reach.{wiresOf, reaching}
 use Rattle.translation_meaning.specs.Walk.{encodeIf, encodeArm}
-use Rattle.translation_meaning.specs.Translation.{parameterNodes, parameterLits, translationOf, clausesOfAll, translationSize}
+use Rattle.translation_meaning.specs.Translation.{givenNodes, givenLits, translationOf, clausesOfAll, translationSize}
 use Rattle.lead.specs.declared.Target.{Target}
 use Rattle.translation_walk.specs.declared.Walk.{Walk}
 use Rattle.translation_if.specs.declared.IfBegun.{IfBegun}
@@ -84,10 +84,10 @@ pub record IfReady (bs : List ℕ) (h : Header) (t : Target) (ds : List ℕ) (de
   pub room : Roomy (p .net) (ifOf bs h t ds c l p (some .first) (some .second))
   pub places : length l ≡ allPlaces h
 
--- the parameters take no clauses, so that no buffer changes; the literals became l₁
+-- the bits of the variables take no clauses, so that no buffer changes; the literals became l₁
 pub record Begun (bs : List ℕ) (h : Header) (n : Net) (l₁ : List ℕ) (r : Net) : Type 0 where
-  pub emitted : (w u : List ℕ) → Emitted w u n (parameterNodes bs (given h)) w u r
-  pub lits : l₁ ≡ parameterLits bs (allPlaces h) (given h)
+  pub emitted : (w u : List ℕ) → Emitted w u n (givenNodes bs (given h)) w u r
+  pub lits : l₁ ≡ givenLits bs (allPlaces h) (given h)
 
 -- nothing is stored yet
 abbrev pub noStore : Store

@@ -6,7 +6,7 @@ use Rattle.run_state.proofs.ways.follow.Statement.{statement}
 use Rattle.run_state.proofs.ways.follow.Tie as tie
 
 initial-requires : tie.Need-initial-requires
-initial-requires c κs = let f = header-fine _ _ (c .before .before .before .before .before .pre) in omega (arith, c .given-of .ensures, f .few, f .parameters)
+initial-requires c κs = let f = header-fine _ _ (c .before .before .before .before .before .pre) in omega (arith, c .given-of .ensures, f .few)
 
 follow-arm-requires : tie.Need-follow-arm-requires
 follow-arm-requires c κs =

@@ -13,8 +13,8 @@ array-borrow-prefix-lits c = omega (arith, fine-here _ _ (c .before .before .bef
 slice-aggregate-own : tie.Need-slice-aggregate-own
 slice-aggregate-own c = sym (length-take-le _ _ (array-borrow-prefix-lits (c .before)))
 
-begin-parameters-requires : tie.Need-begin-parameters-requires
-begin-parameters-requires c κs =
+begin-variables-requires : tie.Need-begin-variables-requires
+begin-variables-requires c κs =
     let l = array-borrow-prefix-lits (c .before .before) in
     let e = c .before .before .before .before .before .before .before .emit .ensures in
     let i = c .before .before .before .before .before .before .before .before .before .before .before .before .before .before .pre in
@@ -23,25 +23,25 @@ begin-parameters-requires c κs =
 encode-arm-requires : tie.Need-encode-arm-requires
 encode-arm-requires c κs =
     let i = c .before .before .before .before .before .before .before .before .before .before .before .before .before .before .before .before .before .before .before .before .before .pre in
-    rw (c .before .before .first-walk .ensures) (whole-roomy i (c .before .before .before .before .before .before .before .before .before .before .before .before .before .before .emit .ensures) (c .before .before .before .before .before .before .begin-parameters .ensures) (c .before .before .before .first-command .ensures), fine-here _ _ i, refl)
+    rw (c .before .before .first-walk .ensures) (whole-roomy i (c .before .before .before .before .before .before .before .before .before .before .before .before .before .before .emit .ensures) (c .before .before .before .before .before .before .begin-variables .ensures) (c .before .before .before .first-command .ensures), fine-here _ _ i, refl)
 
 append-claim-requires : tie.Need-append-claim-requires
 append-claim-requires c κs =
     let m = c .before .before .before .before .before .before .before .before .before .before in
     let b = m .before .before .before .before .before .before .before in
-    claim-room (b .before .before .before .before .before .before .before .before .before .before .before .before .before .before .before .pre) (b .before .before .before .before .before .before .before .before .emit .ensures) (b .begin-parameters .ensures) (m .before .before .before .before .first-command .ensures) (arm-from _ _ refl (m .before .before .before .first-walk .ensures) (m .encode-arm .ensures))
+    claim-room (b .before .before .before .before .before .before .before .before .before .before .before .before .before .before .before .pre) (b .before .before .before .before .before .before .before .before .emit .ensures) (b .begin-variables .ensures) (m .before .before .before .before .first-command .ensures) (arm-from _ _ refl (m .before .before .before .first-walk .ensures) (m .encode-arm .ensures))
 
 sub-t40 : tie.Need-sub-t40
 sub-t40 c =
     let m = c .before .before .before .before .before .before .before .before .before .before .before .before .before .before .before .before in
     let b = m .before .before .before .before .before .before .before in
-    omega (arith, some-variables (b .before .before .before .before .before .before .before .before .before .before .before .before .before .before .before .pre) (b .before .before .before .before .before .before .before .before .emit .ensures) (b .begin-parameters .ensures) (m .before .before .before .before .first-command .ensures) (arm-from _ _ refl (m .before .before .before .first-walk .ensures) (m .encode-arm .ensures)))
+    omega (arith, some-variables (b .before .before .before .before .before .before .before .before .before .before .before .before .before .before .before .pre) (b .before .before .before .before .before .before .before .before .emit .ensures) (b .begin-variables .ensures) (m .before .before .before .before .first-command .ensures) (arm-from _ _ refl (m .before .before .before .first-walk .ensures) (m .encode-arm .ensures)))
 
 returns : tie.Need-returns
 returns c =
     let m = c .before .before .before .before .before .before .before .before .before .before .before .before .before .before .before .before in
     let b = m .before .before .before .before .before .before .before in
-    whole-made (b .before .before .before .before .before .before .before .before .before .before .before .before .before .before .before .pre) (b .before .before .before .before .before .before .before .before .emit .ensures) (b .begin-parameters .ensures) (m .before .before .before .before .first-command .ensures) (arm-from _ _ refl (m .before .before .before .first-walk .ensures) (m .encode-arm .ensures)) (c .before .before .before .before .before .append-claim .ensures)
+    whole-made (b .before .before .before .before .before .before .before .before .before .before .before .before .before .before .before .pre) (b .before .before .before .before .before .before .before .before .emit .ensures) (b .begin-variables .ensures) (m .before .before .before .before .first-command .ensures) (arm-from _ _ refl (m .before .before .before .first-walk .ensures) (m .encode-arm .ensures)) (c .before .before .before .before .before .append-claim .ensures)
 
 same-length : tie.Need-same-length
 same-length c = returns c .words-long
@@ -57,7 +57,7 @@ make-spec =
     (λ c κs. search needs)
     array-borrow-prefix-lits
     slice-aggregate-own
-    begin-parameters-requires
+    begin-variables-requires
     (λ c κs. search needs)
     (λ c κs. search needs)
     encode-arm-requires

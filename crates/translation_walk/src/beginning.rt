@@ -18,8 +18,8 @@ ghost use Rattle.netlist.specs.Inner.Emit.{Ready};
 ghost use Rattle.translation_state.specs.Wires.{allPlaces};
 ghost use Rattle.translation_walk.specs.Inner.Walker.{Begun, beginning};
 
-// The parameters' bits take the next variables; other bits begin as literal 3.
-pub fn begin_parameters(lits: &mut [u32], n: Net, bytes: &[u8], h: Header) -> Net
+// The bits of all variables of the routine, from variable 0 on, take the next variables of the clauses.
+pub fn begin_variables(lits: &mut [u32], n: Net, bytes: &[u8], h: Header) -> Net
     requires { ⌜ (length (now lits) ≡ allPlaces h) × (now lits ≡ replicate (length (now lits)) 3) ⌝ }
     requires { ⌜ Ready n 2048 × (n .next ≡ 2) ⌝ }
     requires { ⌜ Fine (now bytes) h ⌝ }

@@ -1,7 +1,7 @@
 use borrow.Author.Needs.{needs}
 use Rattle.translation_state.specs.declared.Claim.{Claim}
-use Rattle.translation_walk.proofs.parameters.first_walk.Statement.{statement}
-use Rattle.translation_walk.proofs.parameters.first_walk.Tie as tie
+use Rattle.translation_walk.proofs.beginning.first_walk.Statement.{statement}
+use Rattle.translation_walk.proofs.beginning.first_walk.Tie as tie
 
 returns : tie.Need-returns
 returns c =
