@@ -1,2 +1,3 @@
 pub mod Answer
+pub mod Leftovers
 pub mod Inner

@@ -10,6 +10,7 @@ use run_state::Side;
 use run_state::runs::run_to_end;
 use slices::Buffer;
 ghost use Rattle.run.specs.Answer.{RunAnswers};
+ghost use Rattle.run.specs.Leftovers.{AnyLeftovers};
 
 // Why there is no run.
 pub enum Refusal {
@@ -38,9 +39,11 @@ pub enum Ran {
     Refused(Refusal),
 }
 
-// Runs a routine on an input list. The values and the trail are handed out for a stop as for an end; a refusal leaves both buffers as they were.
+// Runs a routine on an input list, from whatever it gives the variables to begin with. The values and the trail are handed out for a stop as for an
+// end; a refusal leaves both buffers as they were.
 pub fn run(routine: &[u8], inputs: &[u32], values: &mut [u32], trail: &mut [u8]) -> Ran
     ensures { λ r. ⌜ RunAnswers (now (routine .entry)) (now (inputs .entry)) (now (values .entry)) (now (trail .entry)) (now (values .exit)) (now (trail .exit)) r ⌝ }
+    ensures { λ _. ⌜ AnyLeftovers (now (routine .entry)) ⌝ }
 {
     match admission::admit(routine, inputs, values.len(), trail.len()) {
         AdmittedRun::Refused(refusal) => Ran::Refused(refusal),

@@ -11,7 +11,7 @@ returns c = short _ _ _ _ (lt-ltb _ _ (c .if1 .taken))
 
 returns-2 : tie.Need-returns-2
 unfolding runLeaves
-returns-2 c = run-leaves _ _ _ _ _ _ _ _ _ (c .before .before .fill-run .ensures) (c .before .before .before .before .before .before .before .before .run .ensures) (le-ltb _ _ (c .before .before .before .before .before .before .before .before .before .before .before .if1 .left))
+returns-2 c = run-leaves _ _ _ _ _ _ _ _ _ (c .before .before .fill-run .ensures) (c .before .before .before .before .before .before .before .before .run .ensures .0) (le-ltb _ _ (c .before .before .before .before .before .before .before .before .before .before .before .if1 .left))
 
 pub pellet-run-spec : {M : Type 1} → statement M
 pellet-run-spec =

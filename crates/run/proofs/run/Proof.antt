@@ -1,4 +1,5 @@
 use Rattle.run.proofs.Admitting.{answers-refusal, run-routine, values-fit, trail-fits, answers-run}
+use Rattle.run.proofs.Leftovers.{any-leftovers}
 use borrow.Author.Needs.{needs}
 use Rattle.run.proofs.run.Statement.{statement}
 use Rattle.run.proofs.run.Tie as tie
@@ -13,10 +14,10 @@ hand-out-trail-requires : tie.Need-hand-out-trail-requires
 hand-out-trail-requires c κs = trail-fits _ _ _ _ _ (c .before .before .before .before .before .before .before .before .before .admit .ensures) _ _ (c .before .before .before .before .before .before .before .h .given .1)
 
 returns : tie.Need-returns
-returns c = answers-refusal _ _ _ _ _ (c .before .before .before .admit .ensures) _ (c .before .refusal .given .1)
+returns c = (answers-refusal _ _ _ _ _ (c .before .before .before .admit .ensures) _ (c .before .refusal .given .1), any-leftovers _)
 
 returns-2 : tie.Need-returns-2
-returns-2 c = answers-run _ _ _ _ _ (c .before .before .before .before .before .before .before .before .before .before .before .before .before .admit .ensures) _ _ (c .before .before .before .before .before .before .before .before .before .before .before .h .given .1) _ (c .before .before .before .before .before .before .before .before .before .run-to-end .ensures) _ _ _ (c .answer-of .ensures) (c .before .before .before .before .before .before .before .hand-out-values .ensures) (c .before .before .before .hand-out-trail .ensures)
+returns-2 c = (answers-run _ _ _ _ _ (c .before .before .before .before .before .before .before .before .before .before .before .before .before .admit .ensures) _ _ (c .before .before .before .before .before .before .before .before .before .before .before .h .given .1) _ (c .before .before .before .before .before .before .before .before .before .run-to-end .ensures) _ _ _ (c .answer-of .ensures) (c .before .before .before .before .before .before .before .hand-out-values .ensures) (c .before .before .before .hand-out-trail .ensures), any-leftovers _)
 
 pub run-spec : {M : Type 1} → statement M
 run-spec =
