@@ -5,9 +5,10 @@ use differential::rng::Rng;
 const QUOTIENT: u8 = 0x0E;
 const REMAINDER: u8 = 0x0F;
 
-/// Variables from 0 on are parameters, and so many after them are results.
+/// Variables from 0 on are parameters, and so many after them are results, whose
+/// leftovers are never used.
 pub const PARAMETERS: usize = 4;
-const RESULTS: usize = 4;
+pub const RESULTS: usize = 4;
 
 /// So many divisions of parameters by one another, and behind them an access at
 /// the last result.

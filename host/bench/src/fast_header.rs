@@ -5,11 +5,11 @@ use crate::fast_refusal::Refusal;
 const LENGTH: u8 = 1;
 const WRONG: u8 = 2;
 
-/// What the header says. The widths have an entry for every byte, 0 where there
-/// is no such variable, so that one look-up is the test too.
+/// What the header says, but for the number of parameters, by which nothing
+/// changes. The widths have an entry for every byte, 0 where there is no such
+/// variable, so that one look-up is the test too.
 pub struct Header {
     pub variables: usize,
-    pub parameters: usize,
     pub first_command: usize,
     pub widths: [u8; 256],
     sizes: [u16; 16],
@@ -40,7 +40,7 @@ pub fn read(bytes: &[u8]) -> Result<Header, Refusal> {
     for (k, width) in widths[..variables].iter_mut().enumerate() {
         *width = field(bytes, 2 + k, 1, 32)?;
     }
-    let parameters = field(bytes, 2 + variables, 0, variables as u8)? as usize;
+    field(bytes, 2 + variables, 0, variables as u8)?;
     let arrays = field(bytes, 3 + variables, 0, 16)? as usize;
     let mut at = 4 + variables;
     let mut sizes = [0; 16];
@@ -50,7 +50,6 @@ pub fn read(bytes: &[u8]) -> Result<Header, Refusal> {
     }
     Ok(Header {
         variables,
-        parameters,
         first_command: at,
         widths,
         sizes,

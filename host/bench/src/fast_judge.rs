@@ -48,7 +48,7 @@ pub fn zero(lent: &mut Buffers) {
 fn decide(bytes: &[u8], report: &[u8], lent: &mut Buffers) -> Result<[u64; 8], Refusal> {
     let routine = check(bytes)?;
     let ifs = routine.counts.ifs as usize;
-    let inputs = routine.header.parameters + routine.counts.reads as usize;
+    let inputs = routine.header.variables + routine.counts.reads as usize;
     let lead = 2 + ifs + 4 * inputs;
     if report.len() > MAX_ENTRIES || report.len() < lead {
         return Err(Refusal(CUT, report.len()));

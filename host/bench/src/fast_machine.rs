@@ -61,9 +61,9 @@ pub struct Machine<'a, W> {
 
 impl<'a, W: Watch> Machine<'a, W> {
     pub fn new(routine: &'a Routine, inputs: &'a [u32], watch: W) -> Self {
-        let parameters = routine.header.parameters;
+        let variables = routine.header.variables;
         let mut values = [0; 256];
-        values[..parameters].copy_from_slice(&inputs[..parameters]);
+        values[..variables].copy_from_slice(&inputs[..variables]);
         Machine {
             routine,
             inputs,
@@ -72,7 +72,7 @@ impl<'a, W: Watch> Machine<'a, W> {
             trail: [2; 32],
             ifs: 0,
             accesses: 0,
-            reads: parameters,
+            reads: variables,
             depth: 0,
             open: [0; 8],
         }
@@ -203,7 +203,7 @@ impl<'a, W: Watch> Machine<'a, W> {
         let place = which(&self.routine.counts.arms[(number & 31) as usize]);
         self.ifs = place.ifs;
         self.accesses = place.accesses;
-        self.reads = place.reads as usize + self.routine.header.parameters;
+        self.reads = place.reads as usize + self.routine.header.variables;
         &bytes[place.at as usize..]
     }
 }

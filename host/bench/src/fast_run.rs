@@ -58,11 +58,11 @@ fn carry_out(
 
 /// 9, then 10.
 pub fn check_inputs(header: &Header, counts: &Counts, inputs: &[u32]) -> Result<(), Refusal> {
-    if inputs.len() != header.parameters + counts.reads as usize {
+    if inputs.len() != header.variables + counts.reads as usize {
         return Err(Refusal(INPUT_COUNT, inputs.len()));
     }
     let is_wide = |(&word, variable): (&u32, u8)| reduce(word, header.width(variable)) != word;
-    let variables = (0..header.parameters as u8).chain(counts.read_by);
+    let variables = (0..header.variables as u8).chain(counts.read_by);
     match inputs.iter().zip(variables).position(is_wide) {
         Some(number) => Err(Refusal(INPUT_RANGE, number)),
         None => Ok(()),

@@ -25,8 +25,8 @@ pub fn walk<S: Sink, const V: usize>(bytes: &[u8], header: &Header, claim: Claim
         accesses: 0,
     };
     walk.net.sink.unit(TRUE);
-    for parameter in 0..header.parameters as u8 {
-        walk.input(parameter);
+    for variable in 0..header.variables as u8 {
+        walk.input(variable);
     }
     if let Err(Arrived(side)) = walk.arm(&bytes[header.first_command..]) {
         walk.net.sink.unit(walk.arrival);

@@ -1,5 +1,6 @@
-//! Routines without inputs: rounds of a generator of pseudo-random numbers, the
-//! last number being the index, and beside it a sum that nothing depends on.
+//! Routines that set all their variables before they use them, so that no gate
+//! depends on an input: rounds of a generator of pseudo-random numbers, the last
+//! number being the index, and beside it a sum that nothing depends on.
 
 use oracle::{Outcome, Side};
 
@@ -8,14 +9,19 @@ const FACTOR: u8 = 1;
 const SUMMAND: u8 = 2;
 const ASIDE: u8 = 3;
 
-/// Variables of the sum aside in the translation: three for each of 32 bits,
-/// after variable 1.
-pub const ASIDE_VARIABLES: std::ops::Range<u32> = 2..98;
+/// What the last pick left in the four variables; it is never used.
+const LEFTOVERS: [u32; 4] = [0; 4];
+
+/// Variables of the inputs' bits in the translation, after variable 1.
+pub const INPUT_BITS: u32 = 4 * 32;
+
+/// Those of the sum aside, after them: three for each of 32 bits.
+pub const ASIDE_VARIABLES: std::ops::Range<u32> = 2 + INPUT_BITS..98 + INPUT_BITS;
 
 /// So many rounds from the first seed whose last number is negative.
 pub fn negative(rounds: usize) -> Vec<u8> {
     let below = |routine: &Vec<u8>| {
-        let run = oracle::run(routine, &[], 32, 32).expect("a valid routine");
+        let run = oracle::run(routine, &LEFTOVERS, 32, 32).expect("a valid routine");
         matches!(
             run.outcome,
             Outcome::Stopped {
@@ -48,6 +54,7 @@ fn routine(rounds: usize, seed: u32) -> Vec<u8> {
 fn rounded(rounds: usize, seed: u32) -> Vec<u8> {
     // Four variables of 32 bits, no parameters, one array of 4,096.
     let mut bytes = vec![1, 4, 32, 32, 32, 32, 0, 1, 0x00, 0x10];
+    bytes.extend([0x01, ASIDE, 0, 0, 0, 0]);
     bytes.extend([0x03, ASIDE, ASIDE, ASIDE]);
     for (d, c) in [
         (NUMBER, seed),

@@ -8,6 +8,9 @@ const BYTES: usize = 4096;
 /// last is the index and only ever set.
 const WIDTHS: [u8; 9] = [32, 32, 32, 32, 16, 16, 8, 8, 13];
 const INDEX: u8 = 8;
+/// The first so many are parameters; the last pick left 0 in all others.
+const PARAMETERS: usize = 2;
+const LEFTOVERS: usize = WIDTHS.len() - PARAMETERS;
 const IFS: usize = 32;
 const ACCESSES: usize = 64;
 
@@ -15,8 +18,8 @@ pub fn draw(seed: u64) -> (Vec<u8>, Vec<u32>) {
     let mut rng = Rng::for_case(seed, 2);
     let mut bytes = vec![1, WIDTHS.len() as u8];
     bytes.extend(WIDTHS);
-    // Two parameters; one array of 4,096.
-    bytes.extend([2, 1, 0x00, 0x10]);
+    // One array of 4,096.
+    bytes.extend([PARAMETERS as u8, 1, 0x00, 0x10]);
     for part in 0..IFS {
         for _ in 0..ACCESSES / IFS {
             set(&mut rng, &mut bytes, INDEX, 4095);
@@ -36,7 +39,9 @@ pub fn draw(seed: u64) -> (Vec<u8>, Vec<u32>) {
     }
     fill(&mut rng, &mut bytes, BYTES - 16);
     pad(&mut bytes);
-    let inputs = (0..2 + ACCESSES).map(|_| rng.word() as u32).collect();
+    // All accesses are reads, and of 32 bits, as the parameters are.
+    let mut words = |count| (0..count).map(|_| rng.word() as u32).collect::<Vec<_>>();
+    let inputs = [words(PARAMETERS), vec![0; LEFTOVERS], words(ACCESSES)].concat();
     (bytes, inputs)
 }
 

@@ -1,16 +1,19 @@
-//! The one model of the clauses of a routine without inputs: each gate comes
-//! behind those that it is made of, so one pass over the clauses settles all.
+//! The one value of each gate in the clauses of a routine that sets its variables
+//! before it uses them: none is made of an input's bits, and each comes behind
+//! those that it is made of, so one pass over the clauses settles all.
 
+use differential::proof_draft::{Command, Refutation};
+use examples::long_report::lead;
 use oracle::{translate, Clauses};
 
 pub struct Settled {
     pub clauses: Vec<Vec<u32>>,
     pub variables: u32,
-    /// For each variable its true literal.
+    /// For each variable its true literal; 0 for an input's bit.
     pub literals: Vec<u32>,
-    /// For each variable a clause of which all other literals are false.
+    /// For each gate's variable a clause of which all other literals are false.
     pub reasons: Vec<u32>,
-    /// The clause that is false in the model.
+    /// The clause that is false by these values.
     pub conflict: u32,
 }
 
@@ -50,5 +53,15 @@ impl Settled {
         let reason = &self.clauses[self.reasons[variable as usize] as usize];
         let others = reason.iter().map(|literal| literal / 2);
         others.filter(move |&other| other != variable)
+    }
+
+    /// A report on the routine with these commands as its proof.
+    pub fn refuted_by(self, routine: &[u8], commands: Vec<Command>) -> Refutation {
+        Refutation {
+            clauses: self.clauses,
+            variables: self.variables,
+            commands,
+            lead: lead(routine),
+        }
     }
 }

@@ -17,12 +17,7 @@ pub fn report(seed: u64, steps: usize) -> (Vec<u8>, Refutation) {
     let routine = negative(0);
     let settled = settle(&routine);
     let commands = commands(&settled, &mut Rng::for_case(seed, 1), steps);
-    let refutation = Refutation {
-        clauses: settled.clauses,
-        variables: settled.variables,
-        commands,
-        lead: vec![0, 0],
-    };
+    let refutation = settled.refuted_by(&routine, commands);
     (routine, refutation)
 }
 
@@ -47,12 +42,7 @@ pub fn scattered(seed: u64, rounds: usize, steps: usize) -> (Vec<u8>, Refutation
     }
     commands.extend([Command::Hint(0), Command::Hint(settled.conflict)]);
     commands.extend([Command::Close, Command::End]);
-    let refutation = Refutation {
-        clauses: settled.clauses,
-        variables: settled.variables,
-        commands,
-        lead: vec![0, 0],
-    };
+    let refutation = settled.refuted_by(&routine, commands);
     (routine, refutation)
 }
 

@@ -7,7 +7,7 @@
 //! gates' own clauses for some of the gates before, and the clauses of earlier
 //! steps for what those are made of.
 
-use crate::generator::{negative, ASIDE_VARIABLES};
+use crate::generator::{negative, ASIDE_VARIABLES, INPUT_BITS};
 use crate::settled::{settle, Settled};
 use differential::proof_draft::{Command, Refutation};
 use differential::rng::Rng;
@@ -27,12 +27,7 @@ pub fn report(seed: u64) -> (Vec<u8>, Refutation) {
         draft.step(variable);
     }
     let commands = draft.finish();
-    let refutation = Refutation {
-        clauses: settled.clauses,
-        variables: settled.variables,
-        commands,
-        lead: vec![0, 0],
-    };
+    let refutation = settled.refuted_by(&routine, commands);
     (routine, refutation)
 }
 
@@ -64,11 +59,13 @@ impl<'a> Draft<'a> {
 
     fn step(&mut self, variable: u32) {
         let settled = self.settled;
-        let span = (EXTRA.1 - EXTRA.0) * variable as usize / settled.variables as usize;
+        let [gate, gates] = [variable, settled.variables].map(|v| (v - INPUT_BITS) as usize);
+        let span = (EXTRA.1 - EXTRA.0) * gate / gates;
         let mut clause = self.extra[..EXTRA.0 + span].to_vec();
         clause.push(settled.literals[variable as usize]);
         self.rng.shuffle(&mut clause);
-        self.commands.extend(clause.into_iter().map(Command::Literal));
+        self.commands
+            .extend(clause.into_iter().map(Command::Literal));
         let (inner, outer) = self.chain(variable);
         let cited = outer.iter().map(|&outer| self.numbers[outer as usize]);
         self.commands.extend(cited.map(Command::Hint));

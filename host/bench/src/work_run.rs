@@ -67,7 +67,8 @@ pub fn measure() {
     let mut job = Running::new(routine, inputs);
     job.measure("run a routine of 4,096 bytes");
     assert_eq!(job.answers[0][0], 0, "the run goes to the end");
-    let inputs: [u32; divisions::PARAMETERS] = [0xFEDC_BA98, 0x1234_5678, 0x9ABC, 0xF];
-    let mut job = Running::new(divisions::of_parameters(1000), inputs.to_vec());
+    let parameters: [u32; divisions::PARAMETERS] = [0xFEDC_BA98, 0x1234_5678, 0x9ABC, 0xF];
+    let inputs = [parameters, [0; divisions::RESULTS]].concat();
+    let mut job = Running::new(divisions::of_parameters(1000), inputs);
     job.measure("run 1,000 divisions of 32 bits");
 }

@@ -1,8 +1,9 @@
-//! A report whose proof has a step for every gate: the routine takes no input,
-//! so that each gate has one value, and a step settles it.
+//! A report whose proof has a step for every gate: the routine sets each variable
+//! before it uses it, so that no gate depends on what the last pick left. Each
+//! has one value then, and a step settles it.
 
 use differential::proof_draft::{encode, offset, Command, Refutation};
-use oracle::{translate, Clauses};
+use oracle::{lead_len, parse, translate, Clauses};
 
 const ACCESS: u8 = 0;
 const BELOW: u8 = 0;
@@ -17,8 +18,17 @@ pub fn long_report(routine: &[u8]) -> Refutation {
         clauses,
         variables,
         commands,
-        lead: vec![ACCESS, BELOW],
+        lead: lead(routine),
     }
+}
+
+/// The lead of such a report, for a routine without ifs. Any witness will do,
+/// and this one is all 0.
+pub fn lead(routine: &[u8]) -> Vec<u8> {
+    let routine = parse(routine).expect("a valid routine");
+    let mut lead = vec![ACCESS, BELOW];
+    lead.resize(lead_len(&routine), 0);
+    lead
 }
 
 /// What is settled: for each variable its true literal and the number of the
