@@ -24,17 +24,25 @@ are document 01's, and 0x0E and 0x0F, unsigned quotient and remainder, from note
 const RUN: &str = "\
 usage: pelletperiod run ROUTINE [WORD]...
 
-Runs a routine on input words, decimal or hexadecimal after 0x: one for each parameter, then
-one for each read. Prints where the run ended or stopped, the values of all variables, and the
-trail: for each if 0 (first arm), 1 (else) or 2 (not come to).";
+Runs a routine on input words, decimal or hexadecimal after 0x, of three kinds in this order:
+
+  parameters  one for each parameter; they are the first variables
+  leftovers   one for each other variable: what the last pick left in it
+  reads       one for each read in the order of the text, also where the run does not come to it
+
+Prints a line `inputs:` that tells the words by their kinds (one that the routine has none of is
+left out), where the run ended or stopped, the values of all variables there, and the trail: for
+each if 0 (first arm), 1 (else) or 2 (not come to).";
 
 const TRANSLATE: &str = "\
 usage: pelletperiod translate ROUTINE ACCESS SIDE DECISIONS
 
 Prints clauses in DIMACS CNF: a run comes to the access by the decisions, and its index there is
 not on the side. Where nothing satisfies them, every run that comes there by the decisions has
-its index on the side. Comments name the variables of the input bits, the literal that is true
-where a run comes to the access, and the one that is true where its index is on the side.
+its index on the side, whatever the last pick left. Comments name the variables of the input bits,
+the literal that is true where a run comes to the access, and the one that is true where its index
+is on the side. Parameters and leftovers have the numbers of their variables in the routine, reads
+those of the text, all from 0.
 
 ACCESS is the number of the access from 0; SIDE is 0 for below and 1 for above; DECISIONS has a
 digit for each if: 0 first arm, 1 else, 2 free; `-` where there is no if.";
@@ -64,8 +72,12 @@ Has a SAT solver decide whether every run that comes to the access by the decisi
 there on the side (see `pelletperiod translate --help` for the four), and prints one of
 
   accepted ...          the report stands in the file, and the library accepts it
-  not so: inputs ...    these input words go there, and their index is not on the side
+  not so: inputs ...    these input words go there, and their index is not on the side: they can
+                        be given to `pelletperiod run`, and the next line tells their kinds as
+                        that does
   no run goes there
+
+A leftover is 0 there, and in a report's witness, wherever 0 does as well.
 
   --out FILE        where to put the report (report.bin)
   --solver COMMAND  the solver with its options (cadical --no-block --no-cover --no-condition);
@@ -83,7 +95,7 @@ Makes a report of a solver's proof of the clauses that `pelletperiod translate` 
 library judge it, and prints the judge's line. PROOF is LRAT, or DRAT, for which hints are found;
 both as text. Steps must follow by unit propagation: RAT steps cannot stand in a report.
 
-  --witness WORDS  input words with commas between them, `-` for none
+  --witness WORDS  input words as `pelletperiod run` takes them, with commas between them
   --model FILE     what a solver printed about the clauses without the last one: the witness is
                    taken from its lines that begin with v
   --out FILE       where to put the report, if it is accepted (report.bin)

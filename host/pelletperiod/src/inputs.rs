@@ -1,7 +1,9 @@
-//! Which variables of a translation are the bits of the inputs.
+//! The words of input lists: of which kind each is, and which variables of a
+//! translation are its bits.
 
 use crate::claim::{Claim, Translation};
-use crate::refused::{accepted, Refused};
+use crate::counts::Counts;
+use crate::refused::Refused;
 use std::fmt;
 
 /// How many bytes of operands a command has, by its byte.
@@ -9,9 +11,12 @@ const OPERANDS: [usize; 16] = [0, 5, 2, 3, 3, 3, 2, 2, 2, 3, 3, 3, 0, 0, 3, 3];
 const READ: u8 = 0x09;
 const WRITE: u8 = 0x0A;
 
+/// What a word of an input list is for. A leftover is what the last pick left in
+/// a variable that is no parameter, and has the variable's number.
 #[derive(Clone, Copy, Debug, PartialEq, Eq)]
 pub enum Name {
     Parameter(usize),
+    Leftover(usize),
     Read(usize),
 }
 
@@ -19,6 +24,7 @@ impl fmt::Display for Name {
     fn fmt(&self, f: &mut fmt::Formatter) -> fmt::Result {
         match self {
             Name::Parameter(number) => write!(f, "parameter {number}"),
+            Name::Leftover(number) => write!(f, "leftover {number}"),
             Name::Read(number) => write!(f, "read {number}"),
         }
     }
@@ -67,6 +73,30 @@ pub fn list(inputs: &[Input], model: &[bool]) -> Vec<u32> {
     inputs.iter().map(word).collect()
 }
 
+/// The line that tells an input list by its kinds, each with its words in order.
+/// A kind of which the routine has none is left out.
+pub fn by_kind(routine: &[u8], list: &[u32]) -> Result<String, Refused> {
+    let counts = Counts::of(routine)?;
+    let (beginnings, reads) = list.split_at(counts.variables);
+    let (parameters, leftovers) = beginnings.split_at(counts.parameters);
+    let kinds = [
+        ("parameters", parameters),
+        ("leftovers", leftovers),
+        ("reads", reads),
+    ];
+    let kinds: Vec<String> = (kinds.iter())
+        .filter(|(_, words)| !words.is_empty())
+        .map(|(kind, words)| format!("{kind} {}", in_a_row(words)))
+        .collect();
+    Ok(format!("inputs: {}", kinds.join(", ")))
+}
+
+/// Words as the command line takes them.
+pub fn in_a_row(list: &[u32]) -> String {
+    let words: Vec<String> = list.iter().map(u32::to_string).collect();
+    words.join(" ")
+}
+
 /// The variables that no gate makes, variable 1 aside. Every clause of a gate
 /// has the gate's variable, which is newer than those that it is made from; the
 /// first clause and the last two are no gate's.
@@ -83,23 +113,24 @@ fn free_variables(translation: &Translation) -> Vec<u32> {
 
 /// Goes through the commands of a routine that the library passes.
 fn words(routine: &[u8]) -> Result<Vec<Word>, Refused> {
-    let mut answer = [0; pellet::ANSWER_LEN];
-    accepted(pellet::check(routine, &mut answer), &answer)?;
-    let (parameters, mut at) = (answer[1] as usize, answer[6] as usize);
+    let counts = Counts::of(routine)?;
     let width = |variable: usize| usize::from(routine[2 + variable]);
-    let mut words: Vec<Word> = (0..parameters)
+    let mut words: Vec<Word> = (0..counts.variables)
         .map(|k| Word {
-            name: Name::Parameter(k),
+            name: match k < counts.parameters {
+                true => Name::Parameter(k),
+                false => Name::Leftover(k),
+            },
             width: width(k),
             access: None,
         })
         .collect();
-    let mut accesses = 0;
+    let (mut at, mut accesses) = (counts.first_command, 0);
     while at < routine.len() {
         let command = routine[at];
         if command == READ {
             words.push(Word {
-                name: Name::Read(words.len() - parameters),
+                name: Name::Read(words.len() - counts.variables),
                 width: width(usize::from(routine[at + 1])),
                 access: Some(accesses),
             });

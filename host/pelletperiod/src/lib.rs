@@ -5,6 +5,7 @@
 #![forbid(unsafe_code)]
 
 pub mod claim;
+pub mod counts;
 pub mod dimacs;
 pub mod elaborate;
 pub mod follow;
@@ -23,6 +24,7 @@ mod store;
 mod watches;
 
 pub use claim::{Claim, Space, Translation};
+pub use counts::Counts;
 pub use judge::judge;
 pub use propose::{propose, Proposal};
 pub use refused::Refused;

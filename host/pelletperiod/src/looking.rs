@@ -3,32 +3,38 @@
 
 use crate::done::Done;
 use pelletperiod::claim::side_name;
+use pelletperiod::inputs::by_kind;
 use pelletperiod::judge::index;
 use pelletperiod::propose::translate;
 use pelletperiod::refused::accepted;
-use pelletperiod::{dimacs, Claim, Refused, Room, Space};
+use pelletperiod::{dimacs, Claim, Counts, Refused, Room, Space};
 
 pub fn check(routine: &[u8]) -> Result<String, Refused> {
-    let mut answer = [0; pellet::ANSWER_LEN];
-    accepted(pellet::check(routine, &mut answer), &answer)?;
-    let [variables, parameters, arrays, ifs, accesses, reads, first, ..] = answer;
+    let Counts {
+        variables,
+        parameters,
+        arrays,
+        ifs,
+        accesses,
+        reads,
+        first_command,
+    } = Counts::of(routine)?;
     Ok(format!(
         "variables {variables} parameters {parameters} arrays {arrays} \
-         ifs {ifs} accesses {accesses} reads {reads} first command {first}"
+         ifs {ifs} accesses {accesses} reads {reads} first command {first_command}"
     ))
 }
 
 pub fn run(routine: &[u8], inputs: &[u32]) -> Result<String, Refused> {
-    let mut counts = [0; pellet::ANSWER_LEN];
-    accepted(pellet::check(routine, &mut counts), &counts)?;
-    let mut values = vec![0; counts[0] as usize];
-    let mut trail = vec![0; counts[3] as usize];
+    let counts = Counts::of(routine)?;
+    let mut values = vec![0; counts.variables];
+    let mut trail = vec![0; counts.ifs];
     let mut answer = [0; pellet::ANSWER_LEN];
     let code = pellet::run(routine, inputs, &mut values, &mut trail, &mut answer);
     accepted(code, &answer)?;
+    let (kinds, outcome) = (by_kind(routine, inputs)?, outcome(&answer));
     Ok(format!(
-        "{}\nvalues {values:?}\ntrail {trail:?}",
-        outcome(&answer)
+        "{kinds}\n{outcome}\nvalues {values:?}\ntrail {trail:?}"
     ))
 }
 

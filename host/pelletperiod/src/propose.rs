@@ -3,13 +3,13 @@
 use crate::elaborate::elaborate;
 use crate::follow::follow;
 use crate::inputs::{inputs, list, Input};
-use crate::judge::judge;
+use crate::judge::{judge, judge_in};
 use crate::progress::{during, Count};
 use crate::proof::{encode, trim, Step};
 use crate::refused::Refused;
 use crate::solver::{Answer, Solver};
 use crate::solver_proof::{parse, SolverProof};
-use crate::{Claim, Translation};
+use crate::{Claim, Counts, Room, Translation};
 
 /// The refusals of a witness: it goes another way, it does not come to the
 /// access, its index there is not on the side.
@@ -50,14 +50,16 @@ pub fn propose(claim: &Claim, solver: &Solver) -> Result<Proposal, String> {
         Answer::Unsatisfiable(_) => return Ok(Proposal::NoRun),
         Answer::Model(model) => list(&inputs, &model),
     };
-    if !is_on_side(claim, &witness)? {
+    let is_witness = is_on_side(claim, &witness)?;
+    let witness = tidied(claim, witness, is_witness);
+    if !is_witness {
         return Ok(Proposal::NotSo(witness));
     }
     match solver.solve(&translation, all, "looking for a proof")? {
         Answer::Model(model) => {
             let other = list(&inputs, &model);
             match is_on_side(claim, &other)? {
-                false => Ok(Proposal::NotSo(other)),
+                false => Ok(Proposal::NotSo(tidied(claim, other, false))),
                 true => Err(at_odds(&format!("{other:?} is on the side after all"))),
             }
         }
@@ -82,15 +84,35 @@ pub fn judge_report(claim: &Claim, report: &[u8]) -> Result<String, Refused> {
 }
 
 /// Whether the run of a list that is to come to the access has its index there
-/// on the side: the judge says so of a report without a proof.
+/// on the side.
 fn is_on_side(claim: &Claim, inputs: &[u32]) -> Result<bool, String> {
-    match judge(&claim.routine, &claim.report(inputs, &[])) {
+    let does_not = |_| at_odds(&format!("{inputs:?} does not go there"));
+    run_to_access(claim, inputs).map_err(does_not)
+}
+
+/// Whether the run of a list has its index on the side where it comes to the
+/// access. The judge says so of a report without a proof, and needs no room for
+/// it: it runs the witness first.
+fn run_to_access(claim: &Claim, inputs: &[u32]) -> Result<bool, Refused> {
+    let report = claim.report(inputs, &[]);
+    match judge_in(&Room::default(), &claim.routine, &report) {
         Err(refused) if refused.number == OTHER_SIDE => Ok(false),
-        Err(refused) if matches!(refused.number, 10 | OTHER_WAY | NO_ARRIVAL) => {
-            Err(at_odds(&format!("{inputs:?} does not go there")))
-        }
+        Err(refused) if matches!(refused.number, 10 | OTHER_WAY | NO_ARRIVAL) => Err(refused),
         _ => Ok(true),
     }
+}
+
+/// The list with 0 for every leftover without which its run comes there as well,
+/// on the side as before or not: so those are seen that count.
+fn tidied(claim: &Claim, mut list: Vec<u32>, is_on_side: bool) -> Vec<u32> {
+    let counts = Counts::of(&claim.routine).expect("a routine that has clauses");
+    for k in counts.parameters..counts.variables {
+        let leftover = std::mem::take(&mut list[k]);
+        if run_to_access(claim, &list) != Ok(is_on_side) {
+            list[k] = leftover;
+        }
+    }
+    list
 }
 
 /// A report with the steps of a solver's proof that are needed.

@@ -3,8 +3,9 @@
 use crate::done::Done;
 use crate::help::help;
 use crate::words::{claim_of, parse_seconds, parse_witness, read, Words};
+use pelletperiod::inputs::{by_kind, in_a_row, list};
 use pelletperiod::propose::{judge_report, report, translate};
-use pelletperiod::{inputs, model, propose, solver, Proposal, Solver};
+use pelletperiod::{model, propose, solver, Claim, Proposal, Solver};
 
 /// Where a report goes that nothing else is said about.
 const REPORT: &str = "report.bin";
@@ -22,16 +23,19 @@ pub fn propose_report(words: &[&str]) -> Result<Done, String> {
     match propose(&claim, &solver)? {
         Proposal::Refused(refused) => Ok(Done::new(Err(refused))),
         Proposal::NoRun => Ok(Done::text("no run goes there", true)),
-        Proposal::NotSo(inputs) => {
-            let inputs: Vec<String> = inputs.iter().map(u32::to_string).collect();
-            let line = format!("not so: inputs {}", inputs.join(" "));
-            Ok(Done::text(line.trim_end(), true))
-        }
+        Proposal::NotSo(inputs) => Ok(not_so(&claim, &inputs)),
         Proposal::Good { report, line } => {
             keep(&words, &report)?;
             Ok(Done::text(&line, false))
         }
     }
+}
+
+/// The words as `run` takes them, and then what each of them is.
+fn not_so(claim: &Claim, list: &[u32]) -> Done {
+    let kinds = by_kind(&claim.routine, list).expect("a routine that has clauses");
+    let words = in_a_row(list);
+    Done::text(&format!("not so: inputs {words}\n{kinds}"), true)
 }
 
 pub fn report_of_proof(words: &[&str]) -> Result<Done, String> {
@@ -49,14 +53,15 @@ pub fn report_of_proof(words: &[&str]) -> Result<Done, String> {
         (None, Some(file)) => {
             let text = String::from_utf8_lossy(&read(file)?).into_owned();
             let model = model::parse(&text, translation.variables);
-            inputs::list(&inputs, &model.map_err(|e| format!("{file}: {e}"))?)
+            list(&inputs, &model.map_err(|e| format!("{file}: {e}"))?)
         }
         _ => return Err("give either --witness or --model".to_string()),
     };
     if witness.len() != inputs.len() {
         let (given, wanted) = (witness.len(), inputs.len());
         return Err(format!(
-            "the witness has {given} words, the routine takes {wanted}"
+            "the witness has {given} words, the routine takes {wanted}: \
+             one for each variable, then one for each read"
         ));
     }
     let file = words.plain[4];

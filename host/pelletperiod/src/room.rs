@@ -1,8 +1,11 @@
 //! The room that judging takes.
 
 use crate::claim::{Claim, Space};
-use crate::refused::{accepted, Refused};
+use crate::counts::Counts;
+use crate::refused::Refused;
 
+/// What a word of the witness takes of a report.
+const WORD_BYTES: usize = 4;
 /// What a literal takes of a report.
 const LITERAL_BYTES: usize = 5;
 /// What the shortest step takes that can be closed: a hint and the close.
@@ -30,30 +33,32 @@ impl Room {
 
     /// So much room that more would not change what the judge says of a report.
     ///
-    /// Each literal takes five bytes of the report and one word. Each step that
+    /// Each literal takes five bytes of the proof and one word. Each step that
     /// is closed takes a word for its count and a start, and at least a hint and
     /// the close, six bytes: one without a conflict is refused before its word
     /// and its start are looked for. One more of both is for the step being
     /// read. So 16 and 25 come only where they come in any room.
     ///
-    /// None is lent where the routine is refused, the report ends within the
-    /// decisions, or the claim is refused: all this comes before the judge looks
-    /// at a buffer, and so does a report that ends within its witness.
+    /// None is lent where the routine is refused, the report ends within its
+    /// lead, or the claim is refused: all this comes before the judge looks at a
+    /// buffer.
     pub fn of_report(routine: &[u8], report: &[u8]) -> Room {
         Room::told(routine, report).unwrap_or_default()
     }
 
     fn told(routine: &[u8], report: &[u8]) -> Option<Room> {
         let counts = Counts::of(routine).ok()?;
+        let lead = 2 + counts.ifs + WORD_BYTES * counts.inputs();
+        let proof = report.len().checked_sub(lead)?;
         let claim = Claim {
             routine: routine.to_vec(),
-            access: *report.first()?,
-            side: *report.get(1)?,
-            decisions: report.get(2..2 + counts.ifs)?.to_vec(),
+            access: report[0],
+            side: report[1],
+            decisions: report[2..2 + counts.ifs].to_vec(),
         };
         let space = claim.space().ok()?;
-        let words = report.len() / LITERAL_BYTES + 1;
-        let starts = report.len() / STEP_BYTES + 1;
+        let words = proof / LITERAL_BYTES + 1;
+        let starts = proof / STEP_BYTES + 1;
         Some(Room::with(&counts, &space, words, starts).used())
     }
 
@@ -83,23 +88,5 @@ impl Room {
     /// bytes.
     pub fn bytes(&self) -> usize {
         4 * (self.words + self.starts + self.values) + self.marks + self.trail
-    }
-}
-
-/// How many variables and ifs a routine has.
-struct Counts {
-    variables: usize,
-    ifs: usize,
-}
-
-impl Counts {
-    fn of(routine: &[u8]) -> Result<Self, Refused> {
-        let mut answer = [0; pellet::ANSWER_LEN];
-        accepted(pellet::check(routine, &mut answer), &answer)?;
-        let [variables, _, _, ifs, ..] = answer;
-        Ok(Counts {
-            variables: variables as usize,
-            ifs: ifs as usize,
-        })
     }
 }

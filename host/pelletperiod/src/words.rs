@@ -58,10 +58,7 @@ pub fn parse_inputs(words: &[&str]) -> Result<Vec<u32>, String> {
 
 /// Inputs with commas between them.
 pub fn parse_witness(word: &str) -> Result<Vec<u32>, String> {
-    match word {
-        "-" | "" => Ok(Vec::new()),
-        _ => parse_inputs(&word.split(',').collect::<Vec<_>>()),
-    }
+    parse_inputs(&word.split(',').collect::<Vec<_>>())
 }
 
 fn parse_input(word: &str) -> Result<u32, String> {

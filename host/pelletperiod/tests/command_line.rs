@@ -33,25 +33,82 @@ fn checks_the_bench_routine() {
 #[test]
 fn runs_the_bench_routine() {
     for (word, line) in [
-        ("0", "ended\nvalues [0]\ntrail []\n"),
-        ("99", "ended\nvalues [99]\ntrail []\n"),
+        ("0", "ended\nvalues [0]"),
+        ("99", "ended\nvalues [99]"),
+        ("100", "stopped access 0 side above index 100\nvalues [100]"),
         (
-            "100",
-            "stopped access 0 side above index 100\nvalues [100]\ntrail []\n",
+            "128",
+            "stopped access 0 side below index -128\nvalues [128]",
         ),
-        (
-            "0x80",
-            "stopped access 0 side below index -128\nvalues [128]\ntrail []\n",
-        ),
-        (
-            "255",
-            "stopped access 0 side below index -1\nvalues [255]\ntrail []\n",
-        ),
+        ("255", "stopped access 0 side below index -1\nvalues [255]"),
     ] {
+        let text = format!("inputs: parameters {word}\n{line}\ntrail []\n");
         assert_eq!(
             printed(&["run", "examples/bench.bin", word]),
-            (line.to_string(), Some(0))
+            (text, Some(0))
         );
+    }
+    let hexadecimal = printed(&["run", "examples/bench.bin", "0x80"]);
+    assert_eq!(hexadecimal, printed(&["run", "examples/bench.bin", "128"]));
+}
+
+/// A routine of a parameter of 3 bits, a variable of 4, a read into it at the
+/// parameter's index, a write there, and a read behind it.
+const THREE_KINDS: [u8; 21] = [
+    1, 2, 3, 4, 1, 1, 8, 0, // One array of 8.
+    9, 1, 0, 0, 10, 0, 1, 0, 9, 1, 0, 0, 0,
+];
+
+/// The second variable begins with its leftover, keeps it where the run stops at
+/// the first read, and then has the words of the reads.
+#[test]
+fn runs_tell_the_words_by_their_kinds() {
+    let routine = file("three_kinds", &THREE_KINDS);
+    for (words, text) in [
+        (
+            ["2", "9", "3", "5"],
+            "inputs: parameters 2, leftovers 9, reads 3 5\nended\nvalues [2, 5]\n",
+        ),
+        (
+            ["2", "9", "15", "5"],
+            "inputs: parameters 2, leftovers 9, reads 15 5\n\
+             stopped access 1 side below index -1\nvalues [2, 15]\n",
+        ),
+        (
+            ["7", "9", "3", "5"],
+            "inputs: parameters 7, leftovers 9, reads 3 5\n\
+             stopped access 0 side below index -1\nvalues [7, 9]\n",
+        ),
+    ] {
+        let words = [&["run", &routine], &words[..]].concat();
+        assert_eq!(printed(&words), (format!("{text}trail []\n"), Some(0)));
+    }
+}
+
+/// A routine whose variables are set before they are used runs alike from any
+/// leftovers, and one that never sets its second variable does not.
+#[test]
+fn runs_begin_with_leftovers() {
+    let run = |name: &str, words: [&str; 3]| {
+        let (text, status) = printed(&[&["run", name], &words[..]].concat());
+        assert_eq!(status, Some(0));
+        let (kinds, rest) = text.split_once('\n').expect("several lines");
+        let [parameter, first, second] = words;
+        let given = format!("inputs: parameters {parameter}, leftovers {first} {second}");
+        assert_eq!(kinds, given);
+        rest.to_string()
+    };
+    let below = "stopped access 0 side below index -3\nvalues [253, 253, 0]\ntrail [0]\n";
+    let ended = "ended\nvalues [253, 7, 0]\ntrail [0]\n";
+    for (leftovers, text) in [
+        (["0", "0"], below),
+        (["0", "9"], below),
+        (["10", "9"], ended),
+    ] {
+        let [first, second] = leftovers;
+        let words = ["253", first, second];
+        assert_eq!(run("examples/last-pick/routine.bin", words), text);
+        assert_eq!(run("examples/last-pick/home.bin", words), below);
     }
 }
 
@@ -69,6 +126,23 @@ fn tells_refusals_by_number_and_place() {
         printed(&["check", "host/Cargo.toml"]),
         ("refused 2 place 0\n".to_string(), Some(1))
     );
+    // One parameter and two leftovers of 8 bits each.
+    for (words, line) in [
+        (&["253"][..], "refused 9 place 1\n"),
+        (&["253", "0"], "refused 9 place 2\n"),
+        (&["253", "0", "0", "0"], "refused 9 place 4\n"),
+        (&["256", "256", "0"], "refused 10 place 0\n"),
+        (&["253", "256", "256"], "refused 10 place 1\n"),
+        (&["253", "0", "256"], "refused 10 place 2\n"),
+    ] {
+        let words = [&["run", "examples/last-pick/routine.bin"], words].concat();
+        assert_eq!(printed(&words), (line.to_string(), Some(1)));
+    }
+    // The reads' words come behind both variables'.
+    let routine = file("three_kinds_refused", &THREE_KINDS);
+    let words = ["run", &routine, "2", "9", "3", "16"];
+    let refused = ("refused 10 place 3\n".to_string(), Some(1));
+    assert_eq!(printed(&words), refused);
 }
 
 #[test]
@@ -93,6 +167,37 @@ fn translates_the_bench_routine() {
     assert_eq!(lines[5..8], ["1 0", "-10 2 1 0", "-10 -2 -1 0"]);
     assert_eq!(lines[118..], ["1 0", "-33 0"]);
     assert_eq!(lines.len(), 5 + 115);
+}
+
+/// The bits of both variables come first, then an AND for the first index inside
+/// and one for the arrival behind it, and then the first read's bits. The index of
+/// 3 bits is always below the size, so nothing is made for above.
+#[test]
+fn comments_name_every_input() {
+    let routine = file("three_kinds_named", &THREE_KINDS);
+    let clauses = "c clauses 9 words 26 variables 14\n\
+                   c parameter 0, lowest bit first: 2 3 4\n\
+                   c leftover 1, lowest bit first: 5 6 7 8\n\
+                   c read 0, lowest bit first: 11 12 13 14\n\
+                   c read 1: no bits, it does not stand before the access\n\
+                   c comes to access 1: 10\nc index below: 14\n\
+                   p cnf 14 9\n1 0\n\
+                   -9 -4 0\n-9 1 0\n9 4 -1 0\n\
+                   -10 1 0\n-10 9 0\n10 -1 -9 0\n\
+                   10 0\n-14 0\n";
+    assert_eq!(
+        printed(&["translate", &routine, "1", "0", "-"]),
+        (clauses.to_string(), Some(0))
+    );
+    // The only variable is no parameter, and is set to 1: the index is below.
+    let clauses = "c clauses 3 words 6 variables 2\n\
+                   c leftover 0, lowest bit first: 2\n\
+                   c comes to access 0: 1\nc index below: 1\n\
+                   p cnf 2 3\n1 0\n1 0\n-1 0\n";
+    assert_eq!(
+        printed(&["translate", ROUTINE, "0", "0", "-"]),
+        (clauses.to_string(), Some(0))
+    );
 }
 
 #[test]
@@ -145,11 +250,12 @@ fn tells_the_space_of_claims() {
         (["examples/bench.bin", "0", "0", "-"], [3, 6, 9], 58),
         (["examples/bench.bin", "0", "0", ""], [3, 6, 9], 58),
         (["examples/bench.bin", "0", "1", "-"], [115, 454, 33], 2322),
-        ([ROUTINE, "0", "0", "-"], [3, 6, 1], 50),
+        ([ROUTINE, "0", "0", "-"], [3, 6, 2], 51),
+        // Variable 1, 4 variables of 32 bits and 387 gates.
         (
             ["examples/two-sensors/routine.bin", "0", "0", "000"],
-            [1804, 7204, 452],
-            36512,
+            [1804, 7204, 516],
+            36576,
         ),
     ] {
         assert_eq!(told(claim), (numbers, at_least(bytes)));
@@ -165,6 +271,7 @@ fn space_is_what_translate_prints() {
         ["examples/two-sensors/routine.bin", "0", "0", "000"],
         ["examples/sum-of-squares/routine.bin", "0", "0", "0"],
         ["examples/repeat-groups/routine.bin", "0", "1", "2"],
+        ["examples/last-pick/routine.bin", "0", "0", "0"],
         ["examples/eight-branches/routine.bin", "0", "1", "22222222"],
         ["examples/eight-branches/routine.bin", "0", "1", "11110222"],
     ] {
@@ -205,12 +312,13 @@ fn the_bytes_told_are_the_fewest() {
     let header = [1, 1, 1, 0, 1, 1, 0];
     let commands = [1, 0, 1, 0, 0, 0, 11, 0, 0, 0, 12, 13, 10, 0, 0, 0, 0];
     let with_if = [&header[..], &commands].concat();
-    let report = [0, 0, 2, 2, 0, 0, 0, 0, 2, 18, 0, 0, 0, 3, 0];
+    let lead = [0, 0, 2, 0, 0, 0, 0];
+    let report = [&lead[..], &[2, 0, 0, 0, 0, 2, 18, 0, 0, 0, 3, 0]].concat();
     let root = Path::new(env!("CARGO_MANIFEST_DIR")).join("../..");
     let in_tree = |name| std::fs::read(root.join(name)).expect("it is in the tree");
     for (routine, report, decisions, ifs) in [
         (in_tree(ROUTINE), in_tree(REPORT), "-", 0),
-        (with_if, report.to_vec(), "2", 1),
+        (with_if, report, "2", 1),
     ] {
         let name = file(&format!("room_{ifs}"), &routine);
         let ([clauses, words, variables], judging) = told([&name, "0", "0", decisions]);
@@ -248,6 +356,9 @@ fn tells_what_is_too_large_to_judge() {
 /// The routine and the report of document 01's second bench.
 const ROUTINE: &str = "examples/bench/routine.bin";
 const REPORT: &str = "examples/bench/report.bin";
+/// The report's access, its side, and a witness of one word, which is what is left
+/// in the only variable.
+const BENCH_LEAD: [u8; 6] = [0; 6];
 const ACCEPTED: &str = "accepted access 0 side below array 0 size 1 index -1 steps 1 hints 2";
 
 /// Puts bytes into a file of this name, apart from the tree.
@@ -263,29 +374,43 @@ fn judges_the_bench_report() {
         printed(&["judge", ROUTINE, REPORT]),
         (format!("{ACCEPTED}\n"), Some(0))
     );
-    for (name, report, line) in [
+    for (name, proof, line) in [
         (
             "other_hint",
-            &[0, 0, 2, 0, 0, 0, 0, 2, 1, 0, 0, 0, 3, 0][..],
-            "refused 20 place 7\n",
+            &[2, 0, 0, 0, 0, 2, 1, 0, 0, 0, 3, 0][..],
+            "refused 20 place 11\n",
         ),
         (
             "third_hint",
-            &[0, 0, 2, 0, 0, 0, 0, 2, 2, 0, 0, 0, 2, 1, 0, 0, 0, 3, 0],
-            "refused 22 place 12\n",
+            &[2, 0, 0, 0, 0, 2, 2, 0, 0, 0, 2, 1, 0, 0, 0, 3, 0],
+            "refused 22 place 16\n",
         ),
         (
             "cut",
-            &[0, 0, 2, 0, 0, 0, 0, 2, 2, 0, 0, 0, 3],
-            "refused 17 place 13\n",
+            &[2, 0, 0, 0, 0, 2, 2, 0, 0, 0, 3],
+            "refused 17 place 17\n",
         ),
-        ("empty", &[], "refused 11 place 0\n"),
     ] {
+        let report = file(name, &[&BENCH_LEAD, proof].concat());
         assert_eq!(
-            printed(&["judge", ROUTINE, &file(name, report)]),
+            printed(&["judge", ROUTINE, &report]),
             (line.to_string(), Some(1))
         );
     }
+}
+
+/// A lead that lacks a byte, in its witness or before it, or whose witness is too
+/// great for the one bit of the variable.
+#[test]
+fn judges_leads() {
+    for length in 0..BENCH_LEAD.len() {
+        let report = file(&format!("lead_{length}"), &BENCH_LEAD[..length]);
+        let line = format!("refused 11 place {length}\n");
+        assert_eq!(printed(&["judge", ROUTINE, &report]), (line, Some(1)));
+    }
+    let report = file("great_leftover", &[0, 0, 2, 0, 0, 0]);
+    let line = "refused 10 place 0\n".to_string();
+    assert_eq!(printed(&["judge", ROUTINE, &report]), (line, Some(1)));
 }
 
 #[test]
@@ -295,7 +420,7 @@ fn judges_several_reports() {
         printed(&["judge", ROUTINE, REPORT, REPORT]),
         (both, Some(0))
     );
-    let other = file("other_side", &[0, 1, 0]);
+    let other = file("other_side", &[0, 1, 0, 0, 0, 0, 0]);
     let one_refused = format!("{other}: refused 15 place 0\n{REPORT}: {ACCEPTED}\n");
     assert_eq!(
         printed(&["judge", ROUTINE, &other, REPORT]),
@@ -319,7 +444,8 @@ fn lends_as_much_as_a_report_needs() {
     let clauses: u32 = 1 + 5 * (528 * 3 + 1024 * 14) + 2;
     let last = (clauses - 1).to_le_bytes();
     let hints = [&[2, 0, 0, 0, 0, 2], &last[..], &[3, 0]].concat();
-    let report = file("product_report", &[&[0, 0], &hints[..]].concat());
+    // Access, side and a word for each of the two variables.
+    let report = file("product_report", &[&[0; 10], &hints[..]].concat());
     assert_eq!(
         printed(&["judge", &routine, &report]),
         (format!("{ACCEPTED}\n"), Some(0))
@@ -352,9 +478,10 @@ propose examples/bench/routine.bin 0 0 - --seconds x
 propose examples/bench/routine.bin 0 0 - --out
 propose examples/bench/routine.bin 0 0 - --other x
 from-lrat examples/bench/routine.bin 0 0 - host/Cargo.toml
-from-lrat examples/bench/routine.bin 0 0 - no-such-file --witness -
+from-lrat examples/bench/routine.bin 0 0 - no-such-file --witness 0
+from-lrat examples/bench/routine.bin 0 0 - host/Cargo.toml --witness 0
+from-lrat examples/bench/routine.bin 0 0 - host/Cargo.toml --witness 0,0
 from-lrat examples/bench/routine.bin 0 0 - host/Cargo.toml --witness -
-from-lrat examples/bench/routine.bin 0 0 - host/Cargo.toml --witness 1
 from-lrat examples/bench/routine.bin 0 0 - host/Cargo.toml --model host/Cargo.toml
 no-such-command";
 

@@ -102,12 +102,15 @@ fn whole_reports_are_judged_alike() {
 #[test]
 fn bench_refusals_are_judged_alike() {
     let routine = in_tree("bench", "routine");
-    let other = [0, 0, 2, 0, 0, 0, 0, 2, 1, 0, 0, 0, 3, 0];
-    assert_eq!(expect_alike(&routine, &other), refused(20, 7));
-    let third = [0, 0, 2, 0, 0, 0, 0, 2, 2, 0, 0, 0, 2, 1, 0, 0, 0, 3, 0];
-    assert_eq!(expect_alike(&routine, &third), refused(22, 12));
-    let cut = [0, 0, 2, 0, 0, 0, 0, 2, 2, 0, 0, 0, 3];
-    assert_eq!(expect_alike(&routine, &cut), refused(17, 13));
+    // Access, side and a word, for what is left in the only variable.
+    let lead = [0; 6];
+    let judged = |proof: &[u8]| expect_alike(&routine, &[&lead, proof].concat());
+    let other = [2, 0, 0, 0, 0, 2, 1, 0, 0, 0, 3, 0];
+    assert_eq!(judged(&other), refused(20, 11));
+    let third = [2, 0, 0, 0, 0, 2, 2, 0, 0, 0, 2, 1, 0, 0, 0, 3, 0];
+    assert_eq!(judged(&third), refused(22, 16));
+    let cut = [2, 0, 0, 0, 0, 2, 2, 0, 0, 0, 3];
+    assert_eq!(judged(&cut), refused(17, 17));
 }
 
 /// Cut at every length and with every byte changed; of long reports every 31st.
@@ -133,17 +136,18 @@ fn damaged_reports_are_judged_alike() {
     }
 }
 
-/// A report of a lead of two bytes and literals alone takes every word that it
-/// is lent: with one less the last literal is refused.
+/// A report of a lead and literals alone takes every word that it is lent: with
+/// one less the last literal is refused.
 #[test]
 fn literals_take_all_words_lent() {
     // Variable 0 is set to 1, which is -1 in one bit; the sum of variable 1 with
-    // itself has 96 gates.
+    // itself has 96 gates, and what is left in the two has 33 bits.
     let header = [1, 2, 1, 32, 0, 1, 1, 0];
     let commands = [1, 0, 1, 0, 0, 0, 3, 1, 1, 1, 10, 0, 0, 0, 0];
     let routine = [&header[..], &commands].concat();
-    let mut report = vec![0, 0];
-    for variable in 1..=97 {
+    // Access, side and two words.
+    let mut report = vec![0; 10];
+    for variable in 1..=1 + 33 + 96 {
         let place = report.len() as u64;
         report.push(1);
         report.extend(u32::to_le_bytes(2 * variable));
@@ -185,8 +189,8 @@ fn leads_that_are_refused_are_lent_nothing() {
     let none = Room::default();
     assert_eq!(Room::of_report(&[], &report), none);
     assert_eq!(expect_alike(&[], &report), refused(1, 0));
-    // Two bytes, and one for each of three ifs.
-    for length in 0..5 {
+    // Two bytes, one for each of three ifs, and four for each of four variables.
+    for length in 0..21 {
         assert_eq!(Room::of_report(&routine, &report[..length]), none);
         let cut = refused(11, length as u64);
         assert_eq!(expect_alike(&routine, &report[..length]), cut);
