@@ -80,8 +80,36 @@ pub fn eight_branches() -> Vec<u8> {
     routine(&[16; 3], 1, &[150], &[bands, write(0, INDEX, WORD)])
 }
 
+/// A step moves a carriage, and its new position is marked if the step went back.
+/// Nothing sets the position, which is where the last pick left the carriage.
+pub fn last_pick() -> Vec<u8> {
+    carriage(&[])
+}
+
+/// The same for a carriage that is brought home first: every step back from there
+/// ends below.
+pub fn from_home() -> Vec<u8> {
+    carriage(&[set(POSITION, 0)])
+}
+
+const STEP: u8 = 0;
+const POSITION: u8 = 1;
+const ZERO: u8 = 2;
+
+/// The carriage's routine behind these commands.
+fn carriage(before: &[Vec<u8>]) -> Vec<u8> {
+    let back = [write(0, POSITION, STEP)];
+    let commands = [
+        add(POSITION, POSITION, STEP),
+        set(ZERO, 0),
+        branch(LessSigned, STEP, ZERO, &back, &[]),
+    ];
+    routine(&[8; 3], 1, &[100], &[before, &commands].concat())
+}
+
 /// Rounds of a generator of pseudo-random numbers, the last number being an
-/// index. Its clauses have exactly 100,000 variables.
+/// index. Every variable is set before it is used, the narrow one too, whose sum
+/// makes the gates of the clauses exactly 99,999.
 pub fn generator(seed: u32) -> Vec<u8> {
     const NUMBER: u8 = 0;
     const FACTOR: u8 = 1;
@@ -91,6 +119,7 @@ pub fn generator(seed: u32) -> Vec<u8> {
         set(NUMBER, seed),
         set(FACTOR, 1_664_525),
         set(SUMMAND, 1_013_904_223),
+        set(NARROW, 0),
     ];
     for _ in 0..27 {
         commands.push(multiply(NUMBER, NUMBER, FACTOR));
