@@ -1,4 +1,4 @@
--- The input list: one word for each variable that begins with one, then one for each read in text order, each below 2 to the width of its variable.
+-- The input list: one word for each variable, parameter or not, then one for each read in text order, each below 2 to the width of its variable.
 use Prim.Native.Nat.{ℕ, zero, suc, _+_, _^_}
 use mathlib.Core.List.{List, [], _∷_, _++_}
 use lib.ListN.{length}
@@ -32,7 +32,7 @@ unfoldable pub readVariables : List Simple → List ℕ
 readVariables [] = []
 readVariables (c ∷ cs) = readFirst (touches c) (readVariables cs)
 
--- the variables of the input words: those that begin with one, then the one that each read writes, in text order
+-- which variable each input word is for: all variables in order, then the one that each read writes, in text order
 abbrev pub inputVariables : Header → Arm → List ℕ
 inputVariables h a = variablesFrom 0 (given h) ++ readVariables (textOf a)
 
