@@ -13,7 +13,7 @@ pub any-leftovers : (bs : List ℕ) → AnyLeftovers bs
 unfolding initial
 any-leftovers bs = record {
   holds = λ h a k d. record {
-    begins = λ ins f v l. laid-entry ins (replicate 32 0) (h .variables) v l (fine bs h (decoded bs h a k d .header) .few);
+    begins = λ ins v l. laid-entry ins (replicate 32 0) (h .variables) v l (fine bs h (decoded bs h a k d .header) .few);
     accepts = λ ins f v x l b. reworded bs ins v x b h a k l f;
   };
 }

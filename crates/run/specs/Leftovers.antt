@@ -14,10 +14,10 @@ use Rattle.run_inputs.specs.Inputs.{listed}
 use Rattle.run_inputs.specs.declared.Listed.{Listed}
 use Rattle.run_state.specs.State.{initial, value}
 
--- of a routine: on an accepted input list each variable, parameter or not, begins with its own word; and with any other word of its width in that place
--- the list is accepted too
+-- of a routine: each variable, parameter or not, begins with its own word; and an accepted input list with any other word of its width in that place is
+-- accepted too
 pub record FromAny (bs : List ℕ) (h : Header) (a : Arm) (k : Counts) : Type 0 where
-  pub begins : (ins : List ℕ) → listed bs ins h a k ≡ Listed.Accepted → (v : ℕ) → v < h .variables → value (initial ins (given h)) v ≡ entry ins v
+  pub begins : (ins : List ℕ) (v : ℕ) → v < h .variables → value (initial ins (given h)) v ≡ entry ins v
   pub accepts : (ins : List ℕ) → listed bs ins h a k ≡ Listed.Accepted → (v x : ℕ) → v < h .variables → x < 2 ^ width bs v
       → listed bs (set ins v x) h a k ≡ Listed.Accepted
 
