@@ -63,6 +63,7 @@ pub mod report_damage;
 pub mod report_draft;
 pub mod report_tally;
 pub mod rng;
+mod run_shapes;
 pub mod seeded;
 pub mod space_compare;
 pub mod space_tally;
