@@ -1,4 +1,6 @@
 // Arithmetic on bits as netlists. A number's bits are a slice of literals, the lowest first.
+#![tactic(auto)]
+
 pub mod choices;
 pub mod constants;
 pub mod extensions;
@@ -12,14 +14,14 @@ use netlist::Net;
 pub const PLACES: usize = 33;
 
 // What a circuit makes of numbers: the state, and the bits of a result.
-#[derive(Drop)]
+#[derive(Clone, Copy)]
 pub struct Bundle {
     pub net: Net,
     pub bits: [u32; PLACES],
 }
 
 // What a comparison makes: the state, and the literal that says whether it holds.
-#[derive(Drop)]
+#[derive(Clone, Copy)]
 pub struct Test {
     pub net: Net,
     pub lit: u32,

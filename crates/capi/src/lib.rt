@@ -1,4 +1,6 @@
 // The C interface, and nothing else: each call hands its arguments to the layer that does the work and writes what it answered into `answer`.
+#![tactic(auto)]
+
 ghost use Rattle.std.specs.Prelude.{[], ◌∷◌};
 ghost use Rattle.lead.specs.Lead.{target_of};
 ghost use Rattle.translation_meaning.specs.Faithful.{Demand2};

@@ -1,4 +1,6 @@
 // What a caller of the C interface gets to see of an answer: a number returned, and entries of the lent `answer`.
+#![tactic(auto)]
+
 mod entries;
 
 ghost use Rattle.std.specs.Prelude.{◌≤◌, length};

@@ -1,4 +1,6 @@
 // Comparisons of numbers of one width: the ten relations, and an index against a size.
+#![tactic(auto)]
+
 pub mod accesses;
 pub mod comparisons;
 

@@ -1,4 +1,6 @@
 // Long division: for each bit of the dividend from the top, a subtraction and a choice.
+#![tactic(auto)]
+
 ghost use Rattle.std.specs.Prelude.{◌≡◌, ◌*◌, ◌+◌, ◌<◌, ◌^◌, ◌≤◌, suc, length};
 ghost use Rattle.arithmetic.specs.Bits.{lit_at, places, tabulate};
 ghost use Rattle.division.specs.Division.{division_step, quotient_bit, remainder_bit, division_steps};

@@ -1,4 +1,6 @@
 // Judges cases that are not accepted, one after the other, and prints a line for each. The last three are the bench's report as document 01 changes it.
+#![tactic(auto)]
+
 use judge_files::arguments::judge_arguments;
 use judge_files::judge_files;
 

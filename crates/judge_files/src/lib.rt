@@ -1,4 +1,6 @@
 // What is printed of the files that a program is given. It is proved for whatever bytes the files give; that these are the files' bytes is only tested.
+#![tactic(auto)]
+
 mod answer;
 pub mod arguments;
 mod reading;

@@ -2,7 +2,7 @@
 ghost use Rattle.judge_files.specs.Inner.Read.{Within};
 
 // What reading a file gave: so many bytes, or that it cannot be read to its end.
-#[derive(Drop)]
+#[derive(Clone, Copy)]
 pub enum Reading {
     Bytes(usize),
     Unreadable,

@@ -1,4 +1,6 @@
 // The line that is printed of a judgement, written into a lent buffer.
+#![tactic(auto)]
+
 mod accepted;
 mod decimal;
 pub mod text;

@@ -1,4 +1,5 @@
 // The lead of a claim: an access, a side and a decision for each if. Whether a routine has such a claim: 1 to 8, then 11 and 12.
+#![tactic(auto)]
 
 ghost use Rattle.std.specs.Prelude.{◌≡◌};
 ghost use Rattle.lead.specs.Lead.{first_odd, admitted_lead};
@@ -11,14 +12,14 @@ use routine_header::Header;
 use slices::wide;
 
 // What a claim names: an access, and a side (0 below, 1 above).
-#[derive(Drop)]
+#[derive(Clone, Copy)]
 pub struct Target {
     pub access: u8,
     pub side: u8,
 }
 
 // Why there is no such claim.
-#[derive(Drop)]
+#[derive(Clone, Copy)]
 pub enum Refusal {
     Routine(routine::Refusal),
     // so many decisions were given
@@ -28,14 +29,14 @@ pub enum Refusal {
 }
 
 // What 11 and 12 say of a lead.
-#[derive(Drop)]
+#[derive(Clone, Copy)]
 pub enum AdmittedLead {
     Refused(Refusal),
     Passes,
 }
 
 // Whether there is such a claim.
-#[derive(Drop)]
+#[derive(Clone, Copy)]
 pub enum AdmittedClaim {
     Refused(Refusal),
     Translates(Header),

@@ -1,4 +1,6 @@
 // The check of a proof for anyone who asks, whatever the buffers hold.
+#![tactic(auto)]
+
 mod fits;
 mod parts;
 
@@ -10,14 +12,14 @@ use proof_check::Refusal;
 use slices::usable;
 
 // Whether clauses stand one after another in the words, and where they end.
-#[derive(Drop)]
+#[derive(Clone, Copy)]
 pub enum Standing {
     Ends(usize),
     Nowhere,
 }
 
 // What is said to anyone who asks for a check.
-#[derive(Drop)]
+#[derive(Clone, Copy)]
 pub enum Checked {
     Accepted { steps: usize, hints: usize },
     Refused(Refusal),

@@ -1,4 +1,6 @@
 // The checking of a proof by hinted unit propagation.
+#![tactic(auto)]
+
 mod ahead;
 mod closes;
 mod ends;
@@ -22,7 +24,7 @@ use slices::zero_bytes;
 use turns::finish;
 
 // Where a step stands.
-#[derive(Drop)]
+#[derive(Clone, Copy)]
 pub enum Phase {
     // among its literals
     Literals,
@@ -36,7 +38,7 @@ pub enum Phase {
 
 // Where the check stands: the offset of the next command, and of the step's first; the clauses that were given, the words that all would take, and
 // their number; the step's literals, and those that its hints made true; its phase; the steps closed and the hints read.
-#[derive(Drop)]
+#[derive(Clone, Copy)]
 pub struct Progress {
     pub at: usize,
     pub begin: usize,
@@ -51,7 +53,7 @@ pub struct Progress {
 }
 
 // Why a proof is turned down, with the place of its command, or of the byte after the end.
-#[derive(Drop)]
+#[derive(Clone, Copy)]
 pub enum Refusal {
     // unknown, cut short or missing
     Unreadable(usize),
@@ -74,28 +76,28 @@ pub enum Refusal {
 }
 
 // What is said of a proof.
-#[derive(Drop)]
+#[derive(Clone, Copy)]
 pub enum Verdict {
     Accepted { steps: usize, hints: usize },
     Refused(Refusal),
 }
 
 // Where a row of hints ends, and the command that follows it.
-#[derive(Drop)]
+#[derive(Clone, Copy)]
 pub struct Row {
     pub progress: Progress,
     pub command: Command,
 }
 
 // What follows a command.
-#[derive(Drop)]
+#[derive(Clone, Copy)]
 pub enum Turn {
     More(Progress),
     Stop(Verdict),
 }
 
 // What is said of a proof, and where the check stood when it was said.
-#[derive(Drop)]
+#[derive(Clone, Copy)]
 pub struct Ended {
     pub progress: Progress,
     pub verdict: Verdict,

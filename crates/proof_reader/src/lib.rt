@@ -1,4 +1,6 @@
 // A proof in a report, read command by command.
+#![tactic(auto)]
+
 mod commands;
 pub mod joined;
 
@@ -8,7 +10,7 @@ ghost use Rattle.proof_reader.specs.Command.{command_at};
 use commands::command_at;
 
 // A command of a proof.
-#[derive(Drop)]
+#[derive(Clone, Copy)]
 pub enum Command {
     // of the step's clause
     Literal(u32),
@@ -21,7 +23,7 @@ pub enum Command {
 }
 
 // A report, and the offset of the command that is read next.
-#[derive(Drop)]
+#[derive(Clone, Copy)]
 pub struct Reader<'a> {
     pub report: &'a [u8],
     pub at: usize,

@@ -1,5 +1,7 @@
 // The table of documents 01 and 02: the number and the place of each refusal, one function a layer. Below, refusals are named cases; only what is handed out
 // or printed needs their numbers.
+#![tactic(auto)]
+
 ghost use Rattle.std.specs.Prelude.{◌≡◌};
 ghost use Rattle.refusals.specs.Table.{row, number_of_fault, routine_row, run_row, lead_row, translation_row, witness_row, proof_row, report_row, pair_row};
 
@@ -8,7 +10,7 @@ use routine_faults::Fault;
 use slices::buffer_number;
 
 // A row of the table, as it is returned: the number, and the place.
-#[derive(Drop)]
+#[derive(Clone, Copy)]
 pub struct Row {
     pub number: u8,
     pub place: usize,

@@ -1,4 +1,6 @@
 // The calls on whole reports: judging one, and whether two are alike.
+#![tactic(auto)]
+
 mod checks;
 mod claim_proof;
 mod lent_parts;

@@ -1,4 +1,6 @@
 // Whether two reports on one routine are alike: by what they name, and by what they decide before it.
+#![tactic(auto)]
+
 mod pairs;
 
 ghost use Rattle.std.specs.Prelude.{◌≡◌};
@@ -9,7 +11,7 @@ use report_witness::Refusal;
 use routine::Checked;
 
 // Whether two reports are alike, or why one of them, or the routine, is turned down.
-#[derive(Drop)]
+#[derive(Clone, Copy)]
 pub enum Compared {
     Alike(bool),
     Refused(Refusal),

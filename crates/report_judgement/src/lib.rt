@@ -1,10 +1,12 @@
 // What is said of a report, by definition, and what acceptance says of every run. There is no code here: what is proved are laws of definitions, so
 // that no change of the code that judges has them checked again.
+#![tactic(auto)]
+
 use bitvec::Whole;
 use slices::Buffer;
 
 // Why a report is turned down.
-#[derive(Drop)]
+#[derive(Clone, Copy)]
 pub enum Refusal {
     // 1 to 8, the lead or the witness
     Witness(report_witness::Refusal),
@@ -13,7 +15,7 @@ pub enum Refusal {
 }
 
 // What is said of the proof: the steps that it closes and the hints that it has, or why it is turned down.
-#[derive(Drop)]
+#[derive(Clone, Copy)]
 pub enum Proved {
     Refused(Refusal),
     Closed { steps: usize, hints: usize },
@@ -21,7 +23,7 @@ pub enum Proved {
 
 // What an accepted report says: the access and the side that it names; the array that its witness reaches there, the size of that array, and the index;
 // the steps and the hints of its proof.
-#[derive(Drop)]
+#[derive(Clone, Copy)]
 pub struct Finding {
     pub access: u8,
     pub side: u8,
@@ -33,7 +35,7 @@ pub struct Finding {
 }
 
 // What is said of a report.
-#[derive(Drop)]
+#[derive(Clone, Copy)]
 pub enum Judged {
     Accepted(Finding),
     Refused(Refusal),

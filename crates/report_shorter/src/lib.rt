@@ -1,4 +1,6 @@
 // Of two reports that are alike the shorter one, itself and not a copy.
+#![tactic(auto)]
+
 ghost use Rattle.std.specs.Prelude.{◌≡◌};
 ghost use Rattle.report_alike.specs.Alike.{alike};
 ghost use Rattle.refusals.specs.Table.{row, pair_row};

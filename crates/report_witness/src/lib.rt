@@ -1,4 +1,6 @@
 // A report as far as its proof: its lead, read once, the run of the witness in it, and two leads beside each other.
+#![tactic(auto)]
+
 mod arrays;
 pub mod leads;
 pub mod pairs;
@@ -9,7 +11,7 @@ use lead::Target;
 
 // The lead of a report: what it names, a decision for each if, and the witness's input words. A routine has at most 32 ifs, and words for at most 32
 // variables and 64 reads; zeros stand after those that it has.
-#[derive(Drop)]
+#[derive(Clone, Copy)]
 pub struct Lead {
     pub target: Target,
     pub decisions: [u8; 32],
@@ -17,7 +19,7 @@ pub struct Lead {
 }
 
 // Why a report is turned down before its proof is looked at.
-#[derive(Drop)]
+#[derive(Clone, Copy)]
 pub enum Refusal {
     Lead(lead::Refusal),
     // the report, of this length, is too long, or its lead is cut short
@@ -33,28 +35,28 @@ pub enum Refusal {
 }
 
 // What 11 and 12 say of the lead of a report.
-#[derive(Drop)]
+#[derive(Clone, Copy)]
 pub enum Opening {
     Refused(Refusal),
     Whole,
 }
 
 // What is said of the lead of a report, and the lead.
-#[derive(Drop)]
+#[derive(Clone, Copy)]
 pub struct Opened {
     pub verdict: Opening,
     pub lead: Lead,
 }
 
 // What is said of the witness in a lead: the array that it reaches at the named access, and the index that it has there.
-#[derive(Drop)]
+#[derive(Clone, Copy)]
 pub enum Witness {
     Refused(Refusal),
     Stands { array: u8, index: Whole },
 }
 
 // Whether two reports are alike.
-#[derive(Drop)]
+#[derive(Clone, Copy)]
 pub enum Compared {
     Alike(bool),
     Refused(Refusal),

@@ -1,4 +1,6 @@
 // The routine: its header and commands, read from bytes, and the check that refuses what is no routine.
+#![tactic(auto)]
+
 pub mod seeking;
 pub mod walks;
 
@@ -9,7 +11,7 @@ use routine_faults::{Counts, Fault};
 use routine_header::{Head, Header};
 
 // Why bytes are no routine.
-#[derive(Drop)]
+#[derive(Clone, Copy)]
 pub enum Refusal {
     // empty or over 4,096 bytes
     Length,
@@ -22,28 +24,28 @@ pub enum Refusal {
 }
 
 // What checking a routine answers.
-#[derive(Drop)]
+#[derive(Clone, Copy)]
 pub enum Checked {
     Accepted { header: Header, counts: Counts },
     Refused(Refusal),
 }
 
 // What walking over an arm, or over an if, answers: the fault of the command at an offset, or the offset after it and the counts there.
-#[derive(Drop)]
+#[derive(Clone, Copy)]
 pub enum Walked {
     Refused(Fault, usize),
     Ended(usize, Counts),
 }
 
 // Where an arm ends, and the counts there.
-#[derive(Drop)]
+#[derive(Clone, Copy)]
 pub struct Passed {
     pub next: usize,
     pub counts: Counts,
 }
 
 // The access of a number: the counts before it, its array, and the variable that holds its index.
-#[derive(Drop)]
+#[derive(Clone, Copy)]
 pub enum Access {
     Nowhere,
     Here { counts: Counts, array: u8, i: u8 },

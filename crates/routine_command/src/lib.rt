@@ -1,8 +1,10 @@
 // The commands of a routine: the command at an offset.
+#![tactic(auto)]
+
 pub mod commands;
 
 // The condition of an if.
-#[derive(Drop)]
+#[derive(Clone, Copy)]
 pub struct Condition {
     pub relation: u8,
     pub s: u8,
@@ -10,7 +12,7 @@ pub struct Condition {
 }
 
 // A command that is no part of an if: its operands as they stand in the bytes.
-#[derive(Drop)]
+#[derive(Clone, Copy)]
 pub enum Simple {
     Set { d: u8, c: u32 },
     // 0x02 copy, 0x06 cut, 0x07 zero-extend, 0x08 sign-extend
@@ -22,7 +24,7 @@ pub enum Simple {
 }
 
 // What a command does with an array: nothing, or it is an access, by the index in variable i. A read gives its value to variable d.
-#[derive(Drop)]
+#[derive(Clone, Copy)]
 pub enum Touch {
     Nothing,
     Reads { d: u8, array: u8, i: u8 },
@@ -30,7 +32,7 @@ pub enum Touch {
 }
 
 // What stands at an offset.
-#[derive(Drop)]
+#[derive(Clone, Copy)]
 pub enum Command {
     // unknown or cut short, or no command there
     Missing,

@@ -1,9 +1,11 @@
 // A command where it stands: what is refused of it, and the counts after it.
+#![tactic(auto)]
+
 pub mod steps;
 pub mod words;
 
 // How many ifs, reads and writes were met. Reads and writes are the accesses.
-#[derive(Drop)]
+#[derive(Clone, Copy)]
 pub struct Counts {
     pub ifs: u8,
     pub reads: u8,
@@ -11,7 +13,7 @@ pub struct Counts {
 }
 
 // What is wrong with a command.
-#[derive(Drop)]
+#[derive(Clone, Copy)]
 pub enum Fault {
     // unknown or cut short, or no command there
     Unknown,
@@ -26,7 +28,7 @@ pub enum Fault {
 }
 
 // What is found of a command where it stands: nothing, or what is wrong with it.
-#[derive(Drop)]
+#[derive(Clone, Copy)]
 pub enum Flaw {
     Nothing,
     Fault(Fault),

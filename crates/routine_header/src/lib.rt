@@ -1,11 +1,13 @@
 // The header: reading it, and the widths and sizes that it holds.
+#![tactic(auto)]
+
 ghost use Rattle.std.specs.Prelude.{◌≡◌, ◌<◌, ◌&&◌, leb};
 ghost use Rattle.routine_header.specs.Header.{within, width_ok, size_ok, first_bad, header_of, first_command, width, array_size};
 
 use slices::{byte_at, half_at};
 
 // A whole header. The widths and sizes stay in the bytes.
-#[derive(Drop)]
+#[derive(Clone, Copy)]
 pub struct Header {
     pub variables: u8,
     pub parameters: u8,
@@ -13,7 +15,7 @@ pub struct Header {
 }
 
 // What reading the header finds: a header, or the offset that is wrong.
-#[derive(Drop)]
+#[derive(Clone, Copy)]
 pub enum Head {
     Valid(Header),
     Wrong(usize),

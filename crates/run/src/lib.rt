@@ -1,4 +1,6 @@
 // The run of a routine on an input list.
+#![tactic(auto)]
+
 mod admission;
 mod answers;
 mod buffers;
@@ -14,7 +16,7 @@ use run_state::runs::run_to_end;
 use slices::Buffer;
 
 // Why there is no run.
-#[derive(Drop)]
+#[derive(Clone, Copy)]
 pub enum Refusal {
     Routine(routine::Refusal),
     // so many input words were given
@@ -25,14 +27,14 @@ pub enum Refusal {
 }
 
 // Whether there is a run.
-#[derive(Drop)]
+#[derive(Clone, Copy)]
 pub enum AdmittedRun {
     Refused(Refusal),
     Runs(Header, Counts),
 }
 
 // What a run answers.
-#[derive(Drop)]
+#[derive(Clone, Copy)]
 pub enum Ran {
     Ended,
     Stopped {

@@ -1,4 +1,6 @@
 // Whether an input list is accepted: 9 and 10.
+#![tactic(auto)]
+
 ghost use Rattle.std.specs.Prelude.{◌≡◌, ◌^◌, ltb};
 ghost use Rattle.slices.specs.Bytes.{entry};
 ghost use Rattle.routine_header.specs.Header.{width};
@@ -16,7 +18,7 @@ use routine_header::{Header, first_command, width_of};
 use slices::{byte_at, entry_at};
 
 // What 10 says of the words of an input list.
-#[derive(Drop)]
+#[derive(Clone, Copy)]
 pub enum Words {
     Fit,
     // this word is too great for its variable
@@ -24,7 +26,7 @@ pub enum Words {
 }
 
 // What is said of an input list.
-#[derive(Drop)]
+#[derive(Clone, Copy)]
 pub enum Listed {
     Accepted,
     // not one word for each variable and each read

@@ -1,4 +1,6 @@
 // The state of a run and following it, command by command.
+#![tactic(auto)]
+
 mod moves;
 pub mod runs;
 pub mod states;
@@ -8,21 +10,21 @@ use bitvec::Whole;
 use routine_faults::Counts;
 
 // Where an index lies outside its array: below 0, or at or above the size.
-#[derive(Drop)]
+#[derive(Clone, Copy)]
 pub enum Side {
     Below,
     Above,
 }
 
 // Where an index lies.
-#[derive(Drop)]
+#[derive(Clone, Copy)]
 pub enum Lies {
     Inside,
     Outside(Side),
 }
 
 // A run is going, or an access stopped it.
-#[derive(Drop)]
+#[derive(Clone, Copy)]
 pub enum Outcome {
     Going,
     Stopped {
@@ -33,7 +35,7 @@ pub enum Outcome {
 }
 
 // The state of a run: the variables' values, the arm taken at each if (0 first, 1 else, 2 not come to), and whether it is over.
-#[derive(Drop)]
+#[derive(Clone, Copy)]
 pub struct State {
     pub values: [u32; 32],
     pub trail: [u8; 32],
@@ -42,7 +44,7 @@ pub struct State {
 
 // The variables of a command that is no if: d takes a value, a and b give theirs, and i holds the index. Variable 0 stands where a command has none; a
 // write changes no variable, so that its d takes the value of a, which is the same one.
-#[derive(Drop)]
+#[derive(Clone, Copy)]
 pub struct Operands {
     pub d: u8,
     pub a: u8,
@@ -51,14 +53,14 @@ pub struct Operands {
 }
 
 // How far a run is followed: to its end, or as far as the access of a number, before which so many ifs stand.
-#[derive(Drop)]
+#[derive(Clone, Copy)]
 pub enum Goal {
     End,
     Access { number: u8, before: u8 },
 }
 
 // What a run did as far as the goal.
-#[derive(Drop)]
+#[derive(Clone, Copy)]
 pub enum Course {
     // it took another arm than was decided, at the if of this number
     Astray(u8),
@@ -69,7 +71,7 @@ pub enum Course {
 }
 
 // What a command is to a run that is followed: the run goes on, an access stops it, or an access is the goal.
-#[derive(Drop)]
+#[derive(Clone, Copy)]
 pub enum Reached {
     Goes,
     Stops { index: Whole, side: Side },
@@ -78,7 +80,7 @@ pub enum Reached {
 
 // A run that is followed, at the end of an arm or an if: the offset and the counts there, the state, and the course so far. Where the course is settled
 // only that tells something; where the run stopped, only the state and the course.
-#[derive(Drop)]
+#[derive(Clone, Copy)]
 pub struct Way {
     pub next: usize,
     pub counts: Counts,

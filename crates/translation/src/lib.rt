@@ -1,4 +1,6 @@
 // The translation of a claim into clauses.
+#![tactic(auto)]
+
 pub mod fitting;
 
 ghost use Rattle.lead.specs.Lead.{target_of};
@@ -11,14 +13,14 @@ use slices::Buffer;
 use translation_meaning::Size;
 
 // Why there is no translation.
-#[derive(Drop)]
+#[derive(Clone, Copy)]
 pub enum Refusal {
     Lead(lead::Refusal),
     TooSmall(Buffer),
 }
 
 // What a translation answers.
-#[derive(Drop)]
+#[derive(Clone, Copy)]
 pub enum Translated {
     Clauses(Size),
     Refused(Refusal),

@@ -1,4 +1,6 @@
 // An access: its index against the size.
+#![tactic(auto)]
+
 ghost use Rattle.std.specs.Prelude.{◌*◌, ◌+◌, ◌<◌, ◌≤◌, length};
 ghost use Rattle.arithmetic.specs.Bits.{lit_at};
 ghost use Rattle.arithmetic.specs.Inner.Results.{Decides};

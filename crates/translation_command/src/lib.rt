@@ -1,4 +1,6 @@
 // What a command that is no if makes of the symbolic state.
+#![tactic(auto)]
+
 pub mod commands;
 mod operations;
 
@@ -6,7 +8,7 @@ use netlist::Net;
 use translation_state::Reach;
 
 // What a command is encoded as: what is emitted, arrival and the claim.
-#[derive(Drop)]
+#[derive(Clone, Copy)]
 pub struct Encoded {
     pub net: Net,
     pub reach: Reach,

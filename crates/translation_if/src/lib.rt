@@ -1,4 +1,6 @@
 // The beginning and the end of an if.
+#![tactic(auto)]
+
 pub mod joins;
 
 ghost use Rattle.std.specs.Prelude.{◌≡◌, length};
@@ -19,7 +21,7 @@ use translation_state::Reach;
 use translation_state::literals::place_of;
 
 // The beginning of an if: what is emitted, the literal of its condition, and the arrivals of its arms.
-#[derive(Drop)]
+#[derive(Clone, Copy)]
 pub struct IfBegun {
     pub net: Net,
     pub condition: u32,

@@ -1,4 +1,6 @@
 // The space that a translation takes, told before any is lent for it.
+#![tactic(auto)]
+
 pub mod whole;
 
 ghost use Rattle.std.specs.Prelude.{◌≡◌};
@@ -9,7 +11,7 @@ use lead::{AdmittedClaim, Target, admit};
 use translation_meaning::Size;
 
 // What is told of the space.
-#[derive(Drop)]
+#[derive(Clone, Copy)]
 pub enum Spaced {
     Told(Size),
     Refused(lead::Refusal),

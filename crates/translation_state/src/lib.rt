@@ -1,5 +1,7 @@
 // The symbolic state of a translation: the literals of the variables' bits, arrival and the claim. The literals are lent: a group of places for each
 // variable, the lowest bit first.
+#![tactic(auto)]
+
 pub mod literals;
 
 // The places of one variable.
@@ -12,14 +14,14 @@ pub const MOST_PLACES: usize = 1024;
 pub const FEW_PLACES: usize = 256;
 
 // The claim: none yet, or at the named access the literal of arrival and that of the side.
-#[derive(Drop)]
+#[derive(Clone, Copy)]
 pub enum Claim {
     Open,
     Made { arrival: u32, side: u32 },
 }
 
 // What a translation carries beside the literals: arrival, and the claim.
-#[derive(Drop)]
+#[derive(Clone, Copy)]
 pub struct Reach {
     pub arrival: u32,
     pub claim: Claim,

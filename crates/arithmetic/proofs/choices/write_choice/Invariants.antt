@@ -1,0 +1,20 @@
+use borrow.Author.Rules.{rules}
+use mathlib.Core.Path.{◌≡◌}
+use Prim.Native.Nat.{◌*◌, ◌+◌, ◌-◌, ◌≤◌}
+use native.Mathlib.Omega.{arith}
+use lib.ListN.{length}
+use Rattle.cnf.proofs.Appending.{lent-kept, lent-within, written_none, written-starts-length, written-words-length}
+use Rattle.cnf.specs.Inner.Append.{Written}
+use Rattle.netlist.specs.Node.{chain, netlist_clauses}
+use Rattle.arithmetic.specs.Bits.{lit_at}
+use Rattle.arithmetic.proofs.Choose.{chooser-written}
+use Rattle.arithmetic.specs.Choose.{chooser}
+use Rattle.arithmetic.proofs.choices.write_choice.Given as goal
+
+abbrev pub invariant-loop-j : goal.invariant-loop-j
+invariant-loop-j l =
+    (l.j ≤ length l.a) × Written l.initial.words l.initial.starts l.at l.start (netlist_clauses l.first (chooser l.c (lit_at l.a) (lit_at l.b) l.j)) l.words l.starts
+    × (l.i ≡ l.at + 16 * l.j) × (l.k ≡ l.start + 4 * l.j) × (l.g ≡ l.first + l.j)
+
+abbrev pub decreases-loop-j : goal.decreases-loop-j
+decreases-loop-j l = length l.a - l.j

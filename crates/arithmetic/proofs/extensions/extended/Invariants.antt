@@ -1,0 +1,15 @@
+use mathlib.Core.Path.{◌≡◌, refl}
+use Prim.Native.Nat.{◌≤◌, ◌-◌}
+use native.Mathlib.Omega.{arith}
+use borrow.Author.Rules.{rules}
+use lib.ListN.{length}
+use Rattle.arithmetic.proofs.Laws.{extended_none, extended_turn}
+use Rattle.arithmetic.specs.Bits.{lit_at, tabulate, places}
+use Rattle.arithmetic.specs.Extend.{extend}
+use Rattle.arithmetic.proofs.extensions.extended.Given as goal
+
+abbrev pub invariant-loop-j : goal.invariant-loop-j
+invariant-loop-j l = (l.j ≤ length l.a) × (l.r ≡ tabulate (extend (lit_at l.a) l.j l.l) places)
+
+abbrev pub decreases-loop-j : goal.decreases-loop-j
+decreases-loop-j l = length l.a - l.j

@@ -1,0 +1,17 @@
+use mathlib.Core.Path.{◌≡◌, ◌∙◌, ap, refl, sym}
+use Prim.Native.Nat.{ℕ, ◌*◌, ◌+◌, ◌-◌, ◌<◌, ◌≤◌}
+use native.Mathlib.Nat.{mul-zero}
+use native.Mathlib.Omega.{arith}
+use lib.ListN.{get_or, get_or-replicate, length, length-set}
+use Rattle.arithmetic.proofs.Laws.{filled_turn, rising_high, rising_low, rising_turn}
+use Rattle.arithmetic.proofs.Values.{tabulate_ext}
+use Rattle.arithmetic.specs.Bits.{places}
+use Rattle.arithmetic.specs.Extend.{rising_bit}
+use Rattle.arithmetic.proofs.extensions.rising.Given as goal
+
+abbrev pub invariant-loop-j : goal.invariant-loop-j
+invariant-loop-j l =
+    (l.k ≤ l.j) × (l.j ≤ places) × (l.x ≡ l.l + l.d * (l.j - l.k)) × (l.x ≤ l.l + 6 * l.j) × (length l.r ≡ places) × ((i : ℕ) → i < l.j → get_or l.r i 0 ≡ rising_bit l.l l.d l.k i)
+
+abbrev pub decreases-loop-j : goal.decreases-loop-j
+decreases-loop-j l = places - l.j

@@ -1,0 +1,24 @@
+use mathlib.Core.Bool.{cond}
+use mathlib.Core.Logic.{inl, inr}
+use mathlib.Core.Path.{◌∙◌, ◌≡◌, ap, refl}
+use Prim.Native.Nat.{◌*◌, ◌+◌, ◌-◌, ◌≤◌, ℕ}
+use native.Mathlib.Omega.{arith}
+use borrow.Author.Rules.{rules}
+use lib.ListN.{length}
+use Rattle.cnf.proofs.Appending.{worded_length, written_threes}
+use Rattle.cnf.specs.Inner.Append.{Worded}
+use Rattle.netlist.specs.Literal.{opp}
+use Rattle.netlist.specs.Node.{chain, netlist_clauses}
+use Rattle.arithmetic.specs.Bits.{lit_at}
+use Rattle.arithmetic.proofs.Adder.{adder-sized, adder_threes, adder_worded, carry_written, top_taken, top-told}
+use Rattle.arithmetic.specs.Adder.{adder, carry_at}
+use Rattle.arithmetic.specs.Inner.Turned.{top_turned, turned_bits}
+use Rattle.arithmetic.proofs.sums.write_sum.Given as goal
+
+abbrev pub invariant-loop-j : goal.invariant-loop-j
+invariant-loop-j l =
+    (l.j ≤ length l.a) × Worded l.initial.words l.at (netlist_clauses l.first (adder l.first (top_turned l.f (length l.a) (lit_at l.a)) (turned_bits l.t (top_turned l.f (length l.a) (lit_at l.b))) l.c l.j)) l.words
+    × (l.i ≡ l.at + 56 * l.j) × (l.g ≡ l.first + 3 * l.j) × (l.carry ≡ carry_at l.first l.c l.j)
+
+abbrev pub decreases-loop-j : goal.decreases-loop-j
+decreases-loop-j l = length l.a - l.j

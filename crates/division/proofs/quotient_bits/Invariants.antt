@@ -1,0 +1,18 @@
+use mathlib.Core.Path.{◌≡◌, ◌∙◌}
+use Prim.Native.Nat.{◌*◌, ◌+◌, ◌-◌, ◌≤◌, suc}
+use native.Mathlib.Omega.{arith}
+use borrow.Author.Rules.{rules}
+use Rattle.division.proofs.Division.{one_more, quotient-lit, steps-within}
+use Rattle.arithmetic.proofs.Extend.{extend-above}
+use Rattle.arithmetic.proofs.Laws.{table_length, upper, upper_all, upper_none, upper_turn}
+use Rattle.arithmetic.specs.Bits.{places, tabulate}
+use Rattle.division.specs.Division.{quotient_bit, step_start}
+use Rattle.arithmetic.specs.Extend.{extend}
+use Rattle.division.proofs.quotient_bits.Given as goal
+
+abbrev pub invariant-loop-j : goal.invariant-loop-j
+invariant-loop-j l =
+    (l.j ≤ l.w) × (l.r ≡ tabulate (upper (extend (quotient_bit l.g l.w) l.w 3) (l.w - l.j)) places) × (l.x ≡ 2 * (step_start l.g (suc l.w) l.j + 3 * l.w + 2))
+
+abbrev pub decreases-loop-j : goal.decreases-loop-j
+decreases-loop-j l = l.w - l.j

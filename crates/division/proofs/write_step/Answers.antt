@@ -1,0 +1,25 @@
+use mathlib.Core.Path.{◌≡◌, refl, sym}
+use native.Mathlib.Omega.{arith}
+use lib.ListN.{length, take}
+use Rattle.cnf.proofs.Appending.{lent-kept, lent-within}
+use Rattle.arithmetic.proofs.Adder.{last_carry}
+use Rattle.division.proofs.Division.{step-written}
+use Rattle.arithmetic.proofs.Laws.{sized-bits, sized-length}
+use Rattle.arithmetic.specs.Bits.{lit_at}
+use Rattle.division.proofs.write_step.Goals as goal
+
+pub slice_bounds-write_choice-end : goal.slice_bounds-write_choice-end
+slice_bounds-write_choice-end c = sym (sized-length _ c.sum_bits-difference.ensures (length c.args.r.now) (omega arith))
+
+pub write_choice-requires : goal.write_choice-requires
+write_choice-requires c = let w = (let v = length c.args.r.now in
+    let x : length (take v c.sum_bits-difference.result) ≡ v = sized-length _ c.sum_bits-difference.ensures v (omega arith) in
+    simp x (lent-kept c.write_sum.ensures (lent-within c.requires.lent (omega arith) (omega arith)), (omega arith, refl))) in record { lent = w.0; a_bound = w.1; b_len = w.2 }
+
+pub returns : goal.returns
+returns c =
+    let v = length c.args.r.now in
+    let x : length (take v c.sum_bits-difference.result) ≡ v = sized-length _ c.sum_bits-difference.ensures v (omega (arith, c.requires.r_bound.1.1)) in
+    step-written c.args.first (lit_at c.args.r.now) (lit_at c.args.d.now) (lit_at (take v c.sum_bits-difference.result)) _ v
+    c.write_sum.ensures c.write_choice.ensures x refl refl refl
+    (last_carry c.args.first 2 v _ (omega (arith, c.requires.r_bound.1.1)) refl) (sized-bits _ c.sum_bits-difference.ensures v (omega (arith, c.requires.r_bound.1.1)))

@@ -1,0 +1,15 @@
+use native.Mathlib.Omega.{arith}
+use Rattle.judge_line.proofs.Digits.{twenty}
+use borrow.Author.Rules.{rules}
+use Rattle.judge_line.proofs.decimal.write_decimal.Goals as goal
+
+-- A number of 64 bits has at most 20 digits.
+pub write_digits-requires : goal.write_digits-requires
+write_digits-requires c =
+    let l = twenty c.args.n c.well_formed.0.1 in
+    omega arith
+
+pub returns : goal.returns
+returns c =
+    let l = twenty c.args.n c.well_formed.0.1 in
+    record { writes = c.write_digits.ensures; upper_bound = omega (arith, c.write_digits.ensures.ends) }

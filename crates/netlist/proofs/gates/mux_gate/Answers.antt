@@ -1,0 +1,11 @@
+use mathlib.Core.Path.{refl}
+use native.Mathlib.Omega.{arith}
+use Rattle.cnf.proofs.Appending.{worded_then, written_threes}
+use Rattle.netlist.specs.Node.{netlist_clauses, node_clauses}
+use Rattle.netlist.proofs.gates.mux_gate.Goals as goal
+
+pub returns : goal.returns
+unfolding netlist_clauses node_clauses
+returns c =
+    rw (← c.opposite-na.ensures, ← c.opposite-nb.ensures, ← c.opposite-nc.ensures)
+    (written_threes 4 (worded_then (worded_then (worded_then c.words3.ensures c.words3-2.ensures (omega arith)) c.words3-3.ensures (omega arith)) c.words3-4.ensures (omega arith)) c.write_starts.ensures refl refl)

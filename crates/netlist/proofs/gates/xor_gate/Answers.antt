@@ -1,0 +1,9 @@
+use mathlib.Core.Path.{refl}
+use borrow.Author.Rules.{rules}
+use Rattle.cnf.proofs.Appending.{written_threes}
+use Rattle.netlist.specs.Node.{netlist_clauses, node_clauses}
+use Rattle.netlist.proofs.gates.xor_gate.Goals as goal
+
+pub returns : goal.returns
+unfolding netlist_clauses node_clauses
+returns c = written_threes 4 c.xor_words.ensures c.write_starts.ensures refl refl

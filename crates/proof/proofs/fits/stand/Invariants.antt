@@ -1,0 +1,15 @@
+use borrow.Author.Tests.{not-true, not-false}
+use native.Mathlib.Omega.{arith}
+use Prim.Native.Nat.{◌≤◌, ◌-◌}
+use mathlib.Core.Path.{◌≡◌, sym, ◌∙◌}
+use lib.ListN.{length}
+use Rattle.proof.specs.Fit.{standing}
+use Rattle.proof.proofs.Fitting.{clause_fits_lem, stand_start, stand_next, stand_not, stand_end}
+use Rattle.proof.proofs.fits.stand.Given as goal
+
+abbrev pub invariant-loop-i : goal.invariant-loop-i
+invariant-loop-i l =
+    (l.i ≤ l.count) × (l.at ≤ length l.words) × (standing l.words l.starts l.variables (l.count - l.i) l.i l.at ≡ standing l.words l.starts l.variables l.count 0 0)
+
+abbrev pub decreases-loop-i : goal.decreases-loop-i
+decreases-loop-i l = l.count - l.i

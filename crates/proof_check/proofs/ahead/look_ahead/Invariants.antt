@@ -1,0 +1,17 @@
+use Rattle.std.proofs.Common.{ℕ, zero, suc, ◌-◌, ◌<◌, ◌≤◌, List, [], ◌∷◌, length, get_or, set, replicate, ap, ◌∙◌, le_refl, arith, rules}
+use lib.Seq.{slice, take-set-le}
+use Rattle.slices.proofs.Zeroing.{get_d_zeros}
+use Rattle.proof_reader.proofs.Reading.{literal_within, hint_within, close_within}
+use Rattle.proof_check.proofs.ahead.look_ahead.Given as goal
+
+abbrev pub invariant-loop-count : goal.invariant-loop-count
+invariant-loop-count l = (l.count ≤ 32) × Words l.named
+
+abbrev pub decreases-loop-count : goal.decreases-loop-count
+decreases-loop-count l = length l.proof - l.at
+
+abbrev pub invariant-loop-i : goal.invariant-loop-i
+invariant-loop-i l = l.i ≤ l.count
+
+abbrev pub decreases-loop-i : goal.decreases-loop-i
+decreases-loop-i l = l.count - l.i

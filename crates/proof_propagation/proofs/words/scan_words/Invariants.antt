@@ -1,0 +1,15 @@
+use borrow.Author.Rules.{rules}
+use Prim.Native.Nat.{◌+◌, ◌-◌, ◌≤◌}
+use native.Mathlib.Omega.{arith}
+use mathlib.Core.Path.{sym, ◌∙◌}
+use mathlib.Core.Logic.{⊎_elim}
+use borrow.Author.Tests.{not-true, not-false}
+use lib.Seq.{slice}
+use Rattle.proof_propagation.proofs.Scanning.{Counted, counted_start, counted_end, fits_parts, counted_false, counted_more, slice_more, slice_none}
+use Rattle.proof_propagation.proofs.words.scan_words.Given as goal
+
+abbrev pub invariant-loop-i : goal.invariant-loop-i
+invariant-loop-i l = (l.from ≤ l.i) × (l.i ≤ l.to) × (l.left + l.from ≤ l.i) × Counted l.marks (slice l.from l.to l.words) l.left l.found (slice l.i l.to l.words)
+
+abbrev pub decreases-loop-i : goal.decreases-loop-i
+decreases-loop-i l = l.to - l.i

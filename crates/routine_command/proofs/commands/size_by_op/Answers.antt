@@ -1,0 +1,34 @@
+use mathlib.Core.Path.{ap}
+use native.Mathlib.Omega.{arith}
+use Rattle.routine_command.specs.Command.{command_by, command_size}
+use Rattle.routine_command.proofs.Bytes.{alone_high, alone_low, alone_marks, computes, converts, divides, four_bytes}
+use Rattle.routine_command.proofs.commands.size_by_op.Goals as goal
+
+pub returns-in-1 : goal.returns-in-1
+unfolding command_by
+returns-in-1 c = rw c.in-1.is
+
+pub returns-in-2 : goal.returns-in-2
+unfolding command_by
+returns-in-2 c = rw c.in-2.is
+
+pub returns-in-3-to-5 : goal.returns-in-3-to-5
+returns-in-3-to-5 c = ap command_size (computes _ 0 0 0 0 (omega (arith, c.in-3-to-5.if-op-lt1-own.false, c.in-3-to-5.in_default-own.rest)) (omega (arith, c.in-3-to-5.if-op-lt6-own.true)))
+
+pub returns-in-6-to-8 : goal.returns-in-6-to-8
+returns-in-6-to-8 c = ap command_size (converts _ 0 0 0 0 (omega (arith, c.in-6-to-8.if-op-lt6-own.false)) (omega (arith, c.in-6-to-8.if-op-lt9-own.true)))
+
+pub returns-in-9-to-11 : goal.returns-in-9-to-11
+returns-in-9-to-11 c = four_bytes _ (omega (arith, c.in-9-to-11.if-op-lt9-own.false)) (omega (arith, c.in-9-to-11.if-op-lt12-own.true))
+
+pub returns-in-14-to-15 : goal.returns-in-14-to-15
+returns-in-14-to-15 c = ap command_size (divides _ 0 0 0 0 (omega (arith, c.in-14-to-15.if-op-lt14-own.false)) (omega (arith, c.in-14-to-15.if-op-lt16-own.true)))
+
+pub returns-in_default : goal.returns-in_default
+returns-in_default c = alone_low _ (omega (arith, c.in_default.if-op-lt1-own.true)) c.in_default.in_default-own.rest.0.1 c.in_default.in_default-own.rest.1
+
+pub returns-in_default-2 : goal.returns-in_default-2
+returns-in_default-2 c = alone_marks _ (omega (arith, c.in_default.if-op-lt12-own.false)) (omega (arith, c.in_default.if-op-lt14-own.true))
+
+pub returns-in_default-3 : goal.returns-in_default-3
+returns-in_default-3 c = alone_high _ (omega (arith, c.in_default.if-op-lt16-own.false))

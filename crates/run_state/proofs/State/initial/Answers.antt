@@ -1,0 +1,30 @@
+use mathlib.Core.Path.{◌≡◌}
+use Prim.Native.Nat.{◌≤◌, ◌-◌}
+use native.Mathlib.Omega.{arith}
+use Rattle.run_state.specs.State.{over, initial}
+use Rattle.run_state.proofs.Laid.{laid_none, laid_next, laid_all}
+use Rattle.run_state.proofs.State.initial.Goals as goal
+
+pub loop-i-init : goal.loop-i-init
+loop-i-init c = (omega arith, laid_none _ _)
+
+pub offset_bounds-values-i : goal.offset_bounds-values-i
+offset_bounds-values-i c = omega arith
+
+pub bounds-values-i : goal.bounds-values-i
+bounds-values-i c = omega arith
+
+pub overflow_add-i : goal.overflow_add-i
+overflow_add-i c = omega arith
+
+pub loop-i-smaller : goal.loop-i-smaller
+loop-i-smaller c = omega arith
+
+pub loop-i-preserved : goal.loop-i-preserved
+loop-i-preserved c = (omega arith, rw c.entry_at.ensures (laid_next _ _ _ _ c.loop-i.invariant.1))
+
+pub returns : goal.returns
+unfolding initial
+returns c =
+    let e : c.loop-i.i ≡ c.args.n = omega arith in
+    rw (← laid_all _ _ _ _ _ c.loop-i.invariant.1 e)

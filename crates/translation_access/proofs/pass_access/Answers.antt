@@ -1,0 +1,30 @@
+use mathlib.Core.Path.{refl}
+use native.Mathlib.Omega.{arith}
+use lib.ListN.{length}
+use Rattle.arithmetic.specs.Bits.{lit_at}
+use Rattle.translation_access.proofs.Accessing.{access_made, access-ready}
+use Rattle.netlist.proofs.Emitting.{ready-after, ready_weaken}
+use Rattle.netlist.specs.Inner.Emit.{Ready}
+use Rattle.translation_access.proofs.pass_access.Goals as goal
+
+-- there is room for both gates
+ready : (c : tie.After-above) → Ready c.above.result.net 2
+ready c =
+    let a = c.before.before.before.before.before.before.args in
+    access-ready (lit_at a.index.now) a.size (length a.index.now) c.above.ensures c.before.before.before.before.before.before.requires.0
+
+pub overflow_mul-inside : goal.overflow_mul-inside
+overflow_mul-inside c = omega (arith, (ready c).next)
+
+pub overflow_add-lit : goal.overflow_add-lit
+overflow_add-lit c = omega (arith, (ready c).next)
+
+pub emit-n1-requires : goal.emit-n1-requires
+emit-n1-requires c = ready_weaken (omega arith) (ready c)
+
+pub emit-n2-requires : goal.emit-n2-requires
+emit-n2-requires c = ready-after 1 c.emit-n1.ensures (ready c) (omega arith)
+
+pub returns : goal.returns
+returns c =
+    access_made (lit_at c.args.index.now) c.args.size (length c.args.index.now) c.above-up.ensures c.args.arrival _ _ _ c.opposite-not_top.ensures c.opposite-not_above.ensures refl c.emit-n1.ensures c.emit-n2.ensures refl

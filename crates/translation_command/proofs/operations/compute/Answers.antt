@@ -1,0 +1,52 @@
+use mathlib.Core.Path.{refl}
+use native.Mathlib.Omega.{arith}
+use lib.ListN.{length}
+use borrow.Author.Tests.{ne_eqb}
+use Rattle.netlist.proofs.Emitting.{emitted-none, ready_weaken}
+use Rattle.arithmetic.specs.Bits.{tabulate}
+use Rattle.translation_command.specs.Operation.{computation}
+use Rattle.translation_command.proofs.Commanding.{division_few, square_few}
+use Rattle.translation_command.proofs.operations.compute.Goals as goal
+
+pub emit_product-requires : goal.emit_product-requires
+emit_product-requires c = let w = ((ready_weaken (square_few (length c.args.a.now) c.requires.b_len.1.1) c.requires.ready, (c.requires.b_len.0, (c.requires.b_len.1.0, omega (arith, c.requires.b_len.1.1))))) in record { ready = w.0; t_len = w.1; s_nonzero = w.2 }
+
+pub quotient_bits-bits-requires : goal.quotient_bits-bits-requires
+quotient_bits-bits-requires c =
+    (omega (arith, c.requires.ready.next, division_few (length c.args.a.now) c.requires.b_len.1.1), omega (arith, c.requires.b_len.1.1))
+
+pub emit_division-net-requires : goal.emit_division-net-requires
+emit_division-net-requires c = let w = ((ready_weaken (division_few (length c.args.a.now) c.requires.b_len.1.1) c.requires.ready, (c.requires.b_len.0, omega (arith, c.requires.b_len.1.1)))) in record { ready = w.0; d_len = w.1; s_len_bound = w.2 }
+
+pub remainder_bits-bits-requires : goal.remainder_bits-bits-requires
+remainder_bits-bits-requires c =
+    (omega (arith, c.requires.ready.next, division_few (length c.args.a.now) c.requires.b_len.1.1), c.requires.b_len.1.0, omega (arith, c.requires.b_len.1.1))
+
+pub emit_division-net-requires-in-15 : goal.emit_division-net-requires-in-15
+emit_division-net-requires-in-15 c = let w = ((ready_weaken (division_few (length c.args.a.now) c.requires.b_len.1.1) c.requires.ready, (c.requires.b_len.0, omega (arith, c.requires.b_len.1.1)))) in record { ready = w.0; d_len = w.1; s_len_bound = w.2 }
+
+pub returns-in-3 : goal.returns-in-3
+unfolding computation
+returns-in-3 c = rw c.in-3.is (record { emitted = c.emit_sum-net.ensures; bits = c.sum_bits-bits.ensures })
+
+pub returns-in-4 : goal.returns-in-4
+unfolding computation
+returns-in-4 c = rw c.in-4.is (record { emitted = c.emit_difference-net.ensures; bits = c.sum_bits-bits-in-4.ensures })
+
+pub returns-in-5 : goal.returns-in-5
+unfolding computation
+returns-in-5 c = rw c.in-5.is c.emit_product.ensures
+
+pub returns-in-14 : goal.returns-in-14
+unfolding computation
+returns-in-14 c = rw c.in-14.is (record { emitted = c.emit_division-net.ensures; bits = c.quotient_bits-bits.ensures })
+
+pub returns-in-15 : goal.returns-in-15
+unfolding computation
+returns-in-15 c = rw c.in-15.is (record { emitted = c.emit_division-net-in-15.ensures; bits = c.remainder_bits-bits.ensures })
+
+pub returns-in_default : goal.returns-in_default
+unfolding computation tabulate
+returns-in_default c =
+    simp (ne_eqb _ _ c.in_default.in_default-own.rest.0.0.0.0.1, ne_eqb _ _ c.in_default.in_default-own.rest.0.0.0.1, ne_eqb _ _ c.in_default.in_default-own.rest.0.0.1, ne_eqb _ _ c.in_default.in_default-own.rest.0.1, ne_eqb _ _ c.in_default.in_default-own.rest.1)
+    (record { emitted = emitted-none _ _ _; bits = refl })

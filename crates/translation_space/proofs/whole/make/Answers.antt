@@ -1,0 +1,38 @@
+use mathlib.Core.Path.{refl, sym, ◌∙◌}
+use native.Mathlib.Omega.{arith}
+use lib.Seq.{length-take-le}
+use Rattle.translation_walk.proofs.Translating.{arm_from}
+use Rattle.translation_space.proofs.Making.{fine_here, places_hold, begin-ready, whole-roomy, claim-room, some-variables, whole_made}
+use Rattle.translation_space.proofs.whole.make.Goals as goal
+
+pub slice_bounds-lits-end : goal.slice_bounds-lits-end
+slice_bounds-lits-end c = omega (arith, (fine_here _ _ c.requires).few, c.places_in-places.ensures)
+
+pub slice_bounds-own-end : goal.slice_bounds-own-end
+slice_bounds-own-end c = sym (length-take-le _ _ (slice_bounds-lits-end c))
+
+pub begin_variables-net-requires : goal.begin_variables-net-requires
+begin_variables-net-requires c = let w = (let l = slice_bounds-lits-end c in
+    ((length-take-le _ _ l ∙ c.places_in-places.ensures, places_hold _ _ _ l), ((begin-ready c.requires c.emit-n.ensures, c.emit-n.ensures.next), fine_here _ _ c.requires))) in record { lits_len = w.0; ready = w.1; fine = w.2 }
+
+pub encode_arm-r-requires : goal.encode_arm-r-requires
+encode_arm-r-requires c =
+    rw c.first_walk-p.ensures (whole-roomy c.requires c.emit-n.ensures c.begin_variables-net.ensures c.first_command.ensures, fine_here _ _ c.requires, refl)
+
+pub append_claim-all-requires : goal.append_claim-all-requires
+append_claim-all-requires c =
+    claim-room c.requires c.emit-n.ensures c.begin_variables-net.ensures c.first_command.ensures (arm_from _ _ refl c.first_walk-p.ensures c.encode_arm-r.ensures)
+
+pub overflow_sub-result : goal.overflow_sub-result
+overflow_sub-result c =
+    omega (arith, some-variables c.requires c.emit-n.ensures c.begin_variables-net.ensures c.first_command.ensures (arm_from _ _ refl c.first_walk-p.ensures c.encode_arm-r.ensures))
+
+pub returns : goal.returns
+returns c =
+    whole_made c.requires c.emit-n.ensures c.begin_variables-net.ensures c.first_command.ensures (arm_from _ _ refl c.first_walk-p.ensures c.encode_arm-r.ensures) c.append_claim-all.ensures
+
+pub shape_of-words : goal.shape_of-words
+shape_of-words c = (returns c).words_long
+
+pub shape_of-starts : goal.shape_of-starts
+shape_of-starts c = (returns c).starts_long

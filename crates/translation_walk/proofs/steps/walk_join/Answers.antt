@@ -1,0 +1,9 @@
+use mathlib.Core.Path.{refl}
+use Rattle.translation_walk.proofs.Translating.{arrives_by}
+use Rattle.translation_walk.proofs.steps.walk_join.Goals as goal
+
+pub join_arms-m-requires : goal.join_arms-m-requires
+join_arms-m-requires c = let w = ((c.requires.0, ((c.requires.1, c.requires.2), c.requires.3))) in record { ready = w.0; lits_len = w.1; fine = w.2 }
+
+pub returns : goal.returns
+returns c = arrives_by c.join_arms-m.ensures refl refl
