@@ -1,5 +1,10 @@
-// Reading a file by its name. That the bytes read are the file's is only tested, since no contract speaks of what the C library reads.
+// Reading a file by its name. That the bytes read are the file's is only tested, since no contract speaks of what the system reads.
 ghost use Rattle.judge_files.specs.Inner.Read.{Within};
+
+use std::fs;
+use std::io::{ErrorKind, Read};
+use std::rt::Files;
+use std::str::from_utf8;
 
 // What reading a file gave: so many bytes, or that it cannot be read to its end.
 #[derive(Clone, Copy)]
@@ -8,33 +13,35 @@ pub enum Reading {
     Unreadable,
 }
 
-// Reads a file into `buffer`, as far as it fits. A missing file is empty.
-pub fn read_file(name: &[u8], buffer: &mut [u8]) -> Reading
+// Reads a file into `buffer`, as far as it fits. A missing file is empty. A name is text: no file is found by another.
+pub fn read_file<R: Files>(rt: &R, name: &[u8], buffer: &mut [u8]) -> Reading
     ensures { Within result buffer.new }
 {
-    let fd = os::open_read(name);
-    if fd < 0 {
-        if os::errno() == libc::ENOENT {
-            return Reading::Bytes(0);
-        }
+    let Ok(path) = from_utf8(name) else {
         return Reading::Unreadable;
+    };
+    match fs::open(rt, path) {
+        Ok(file) => read_to_end(file, buffer),
+        Err(e) => {
+            if e.kind() == ErrorKind::NotFound {
+                Reading::Bytes(0)
+            } else {
+                Reading::Unreadable
+            }
+        }
     }
-    let reading = read_to_end(fd, buffer);
-    libc::close(fd);
-    reading
 }
 
 // Reads until `buffer` is full or the file ends.
-fn read_to_end(fd: i32, buffer: &mut [u8]) -> Reading
+fn read_to_end<F: Read + Drop>(file: F, buffer: &mut [u8]) -> Reading
     ensures { Within result buffer.new }
 {
+    let mut file = file;
     let mut n = 0;
     while n < buffer.len() {
-        let got = libc::read(fd, &mut buffer[n..]);
-        if got < 0 {
+        let Ok(more) = file.read(&mut buffer[n..]) else {
             return Reading::Unreadable;
-        }
-        let more = io::count(got, &buffer[n..]);
+        };
         if more == 0 {
             break;
         }
