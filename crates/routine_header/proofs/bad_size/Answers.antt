@@ -1,8 +1,6 @@
-use borrow.Author.Tests.{not-true, not-false}
-use mathlib.Core.Path.{◌≡◌, refl, sym, ◌∙◌}
-use Prim.Native.Nat.{◌+◌, ◌*◌, ◌≤◌}
+use mathlib.Core.Path.{refl, sym, ◌∙◌}
 use native.Mathlib.Omega.{arith}
-use Rattle.routine_header.specs.Header.{size_ok, first_bad}
+use Rattle.routine_header.specs.Header.{size_ok}
 use Rattle.routine_header.proofs.Firsts.{bad_none, bad_here, bad_next}
 use Rattle.routine_header.proofs.bad_size.Goals as goal
 
@@ -11,7 +9,7 @@ loop-left-init c = (omega arith, refl)
 
 pub returns-then-not-is_size : goal.returns-then-not-is_size
 returns-then-not-is_size c =
-    bad_here (size_ok c.args.bytes.now) 2 c.loop-left.at _ c.loop-left-test.true (sym c.is_size.ensures ∙ not-true _ c.if-not-is_size.true) ∙ c.loop-left.invariant.1
+    bad_here (size_ok c.args.bytes.now) 2 c.loop-left.at _ c.loop-left-test.true (sym c.is_size.ensures ∙ c.if-not-is_size.true) ∙ c.loop-left.invariant.1
 
 pub overflow_add-at : goal.overflow_add-at
 overflow_add-at c = omega arith
@@ -25,7 +23,7 @@ loop-left-smaller c = omega arith
 pub loop-left-preserved : goal.loop-left-preserved
 loop-left-preserved c = (
   omega arith,
-  bad_next (size_ok c.args.bytes.now) 2 c.loop-left.at _ c.loop-left-test.true (sym c.is_size.ensures ∙ not-false _ c.if-not-is_size.false) ∙ c.loop-left.invariant.1,
+  bad_next (size_ok c.args.bytes.now) 2 c.loop-left.at _ c.loop-left-test.true (sym c.is_size.ensures ∙ c.if-not-is_size.false) ∙ c.loop-left.invariant.1,
 )
 
 pub returns : goal.returns

@@ -1,8 +1,6 @@
-use borrow.Author.Tests.{not-true, not-false}
-use mathlib.Core.Path.{◌≡◌, refl, sym, ◌∙◌}
-use Prim.Native.Nat.{◌+◌, ◌*◌, ◌≤◌}
+use mathlib.Core.Path.{refl, sym, ◌∙◌}
 use native.Mathlib.Omega.{arith}
-use Rattle.routine_header.specs.Header.{width_ok, first_bad}
+use Rattle.routine_header.specs.Header.{width_ok}
 use Rattle.routine_header.proofs.Firsts.{bad_none, bad_here, bad_next}
 use Rattle.routine_header.proofs.bad_width.Goals as goal
 
@@ -11,7 +9,7 @@ loop-left-init c = (omega arith, refl)
 
 pub returns-then-not-is_within : goal.returns-then-not-is_within
 returns-then-not-is_within c =
-    bad_here (width_ok c.args.bytes.now) 1 c.loop-left.at _ c.loop-left-test.true (sym c.is_within.ensures ∙ not-true _ c.if-not-is_within.true) ∙ c.loop-left.invariant.1
+    bad_here (width_ok c.args.bytes.now) 1 c.loop-left.at _ c.loop-left-test.true (sym c.is_within.ensures ∙ c.if-not-is_within.true) ∙ c.loop-left.invariant.1
 
 pub overflow_add-at : goal.overflow_add-at
 overflow_add-at c = omega arith
@@ -25,7 +23,7 @@ loop-left-smaller c = omega arith
 pub loop-left-preserved : goal.loop-left-preserved
 loop-left-preserved c = (
   omega arith,
-  bad_next (width_ok c.args.bytes.now) 1 c.loop-left.at _ c.loop-left-test.true (sym c.is_within.ensures ∙ not-false _ c.if-not-is_within.false) ∙ c.loop-left.invariant.1,
+  bad_next (width_ok c.args.bytes.now) 1 c.loop-left.at _ c.loop-left-test.true (sym c.is_within.ensures ∙ c.if-not-is_within.false) ∙ c.loop-left.invariant.1,
 )
 
 pub returns : goal.returns

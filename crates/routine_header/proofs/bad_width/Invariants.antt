@@ -1,9 +1,6 @@
-use borrow.Author.Tests.{not-true, not-false}
-use mathlib.Core.Path.{◌≡◌, refl, sym, ◌∙◌}
+use mathlib.Core.Path.{◌≡◌}
 use Prim.Native.Nat.{◌+◌, ◌*◌, ◌≤◌}
-use native.Mathlib.Omega.{arith}
 use Rattle.routine_header.specs.Header.{width_ok, first_bad}
-use Rattle.routine_header.proofs.Firsts.{bad_none, bad_here, bad_next}
 use Rattle.routine_header.proofs.bad_width.Given as goal
 
 abbrev pub invariant-loop-left : goal.invariant-loop-left

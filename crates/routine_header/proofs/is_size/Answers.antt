@@ -1,6 +1,5 @@
 use borrow.Author.Tests.{lt-ltb, le-ltb, le-leb, lt-leb}
 use Rattle.routine_header.specs.Header.{size_ok}
-use borrow.Author.Rules.{rules}
 use Rattle.routine_header.proofs.is_size.Goals as goal
 
 pub returns-then-bytes-i : goal.returns-then-bytes-i

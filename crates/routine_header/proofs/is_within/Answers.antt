@@ -1,7 +1,6 @@
 use mathlib.Core.Path.{◌∙◌}
 use borrow.Author.Tests.{lt-ltb, le-ltb}
 use Rattle.routine_header.specs.Header.{within}
-use borrow.Author.Rules.{rules}
 use Rattle.routine_header.proofs.is_within.Goals as goal
 
 pub returns-then-i-bytes : goal.returns-then-i-bytes

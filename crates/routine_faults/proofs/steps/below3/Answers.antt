@@ -1,4 +1,3 @@
-use borrow.Author.Rules.{rules}
 use Rattle.routine_faults.proofs.steps.below3.Goals as goal
 
 pub returns-then-below2 : goal.returns-then-below2

@@ -1,5 +1,4 @@
 use Rattle.routine_faults.specs.Step.{too_many}
-use borrow.Author.Rules.{rules}
 use Rattle.routine_faults.proofs.steps.too_many.Goals as goal
 
 pub returns-then-is_access : goal.returns-then-is_access
