@@ -7,7 +7,7 @@ use Rattle.arithmetic.proofs.Choose.{chooser-sized}
 use Rattle.arithmetic.proofs.choices.choose.Goals as goal
 
 pub write_choice-requires : goal.write_choice-requires
-write_choice-requires c = let w = ((lent_of _ _ _ _ (ready-clauses (length c.args.a.now) c.requires.ready (omega arith) (omega arith)) (sym c.fits.ensures ∙ c.if-fits.true), (c.requires.ready.next, c.requires.b_len))) in record { lent = w.0; a_bound = w.1; b_len = w.2 }
+write_choice-requires c = record { lent = lent_of _ _ _ _ (ready-clauses (length c.args.a.now) c.requires.ready (omega arith) (omega arith)) (sym c.fits.ensures ∙ c.if-fits.true); a_bound = c.requires.ready.next; b_len = c.requires.b_len }
 
 pub returns-then-fits : goal.returns-then-fits
 returns-then-fits c = record {

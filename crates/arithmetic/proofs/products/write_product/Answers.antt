@@ -25,22 +25,17 @@ pub slice_bounds-acc-end : goal.slice_bounds-acc-end
 slice_bounds-acc-end c = search (rules, table_length _ c.loop-k.invariant.5)
 
 pub slice_bounds-write_added-end : goal.slice_bounds-write_added-end
-slice_bounds-write_added-end c = sym (sized-length _ c.loop-k.invariant.5 (length c.args.s.now) (omega (arith, c.requires.s_bound.1.1)))
+slice_bounds-write_added-end c = sym (sized-length _ c.loop-k.invariant.5 (length c.args.s.now) (omega (arith, c.requires.s_len_bound)))
 
 pub write_added-requires : goal.write_added-requires
-write_added-requires c = let w = (let w = length c.args.s.now in (
-  lent-kept c.loop-k.invariant.1 (lent-within c.requires.lent (omega (arith, c.loop-k.invariant.2, take_within 10 56 w c.loop-k.k c.loop-k-test.true)) (omega (arith, c.loop-k.invariant.3, take_within 3 14 w c.loop-k.k c.loop-k-test.true))),
-  (
-    omega (arith, c.loop-k.invariant.4, c.requires.s_bound.0, take_within 1 3 w c.loop-k.k c.loop-k-test.true),
-    (sized-length _ c.loop-k.invariant.5 w (omega (arith, c.requires.s_bound.1.1)), (omega arith, c.requires.s_bound.1.1)),
-  ),
-)) in record { lent = w.0; s_bound = w.1; acc_len = w.2; k_in_bounds = w.3 }
+write_added-requires c =
+    let w = length c.args.s.now in record { lent = lent-kept c.loop-k.invariant.1 (lent-within c.requires.lent (omega (arith, c.loop-k.invariant.2, take_within 10 56 w c.loop-k.k c.loop-k-test.true)) (omega (arith, c.loop-k.invariant.3, take_within 3 14 w c.loop-k.k c.loop-k-test.true))); s_bound = omega (arith, c.loop-k.invariant.4, c.requires.s_bound, take_within 1 3 w c.loop-k.k c.loop-k-test.true); acc_len = sized-length _ c.loop-k.invariant.5 w (omega (arith, c.requires.s_len_bound)); k_in_bounds = (omega arith, c.requires.s_len_bound) }
 
 pub overflow_add-g : goal.overflow_add-g
-overflow_add-g c = omega (arith, c.loop-k.invariant.4, c.requires.s_bound.0, take_within 1 3 (length c.args.s.now) c.loop-k.k c.loop-k-test.true)
+overflow_add-g c = omega (arith, c.loop-k.invariant.4, c.requires.s_bound, take_within 1 3 (length c.args.s.now) c.loop-k.k c.loop-k-test.true)
 
 pub sum_bits-acc-requires : goal.sum_bits-acc-requires
-sum_bits-acc-requires c = omega (arith, c.loop-k.invariant.4, c.requires.s_bound.0, take_within 1 3 (length c.args.s.now) c.loop-k.k c.loop-k-test.true)
+sum_bits-acc-requires c = omega (arith, c.loop-k.invariant.4, c.requires.s_bound, take_within 1 3 (length c.args.s.now) c.loop-k.k c.loop-k-test.true)
 
 pub overflow_add-i-in-loop-k : goal.overflow_add-i-in-loop-k
 overflow_add-i-in-loop-k c = omega (arith, c.loop-k.invariant.2, c.requires.lent.word_count, take_within 10 56 (length c.args.s.now) c.loop-k.k c.loop-k-test.true)
@@ -49,7 +44,7 @@ pub overflow_add-j-in-loop-k : goal.overflow_add-j-in-loop-k
 overflow_add-j-in-loop-k c = omega (arith, c.loop-k.invariant.3, c.requires.lent.count, take_within 3 14 (length c.args.s.now) c.loop-k.k c.loop-k-test.true)
 
 pub overflow_add-g-in-loop-k-2 : goal.overflow_add-g-in-loop-k-2
-overflow_add-g-in-loop-k-2 c = omega (arith, c.loop-k.invariant.4, c.requires.s_bound.0, take_within 1 3 (length c.args.s.now) c.loop-k.k c.loop-k-test.true)
+overflow_add-g-in-loop-k-2 c = omega (arith, c.loop-k.invariant.4, c.requires.s_bound, take_within 1 3 (length c.args.s.now) c.loop-k.k c.loop-k-test.true)
 
 pub loop-k-preserved : goal.loop-k-preserved
 loop-k-preserved c =
@@ -57,7 +52,7 @@ loop-k-preserved c =
     let e : c.loop-k.g + (w - c.loop-k.k) ≡ row_start c.args.first w c.loop-k.k + (w - c.loop-k.k) = omega (arith, c.loop-k.invariant.4, start_is c.args.first w c.loop-k.k) in (
       omega (arith, c.loop-k-test.true),
       rows_written c.args.first c.loop-k.g (lit_at c.args.s.now) (lit_at c.args.t.now) (lit_at (take w c.loop-k.acc)) w c.loop-k.k c.loop-k.invariant.1 c.write_added.ensures c.loop-k.invariant.2 c.loop-k.invariant.3 c.loop-k.invariant.4
-          (sized-bits _ c.loop-k.invariant.5 w (omega (arith, c.requires.s_bound.1.1))),
+          (sized-bits _ c.loop-k.invariant.5 w (omega (arith, c.requires.s_len_bound))),
       omega (arith, c.loop-k.invariant.2, take_more 10 56 w c.loop-k.k),
       omega (arith, c.loop-k.invariant.3, take_more 3 14 w c.loop-k.k),
       omega (arith, c.loop-k.invariant.4, take_more 1 3 w c.loop-k.k),

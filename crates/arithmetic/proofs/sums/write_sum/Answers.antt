@@ -29,7 +29,7 @@ overflow_add-i c = omega (arith, c.requires.lent.word_count)
 pub loop-j-preserved : goal.loop-j-preserved
 loop-j-preserved c =
     let w = length c.args.a.now in
-    let top = top-told c.args.f c.if-f.top w c.loop-j.j (omega arith) (elim c.if-f.branch [ inl p ↦ inl (p.0.taken, p.1) | inr p ↦ inr (p.0.left, p.1) ]) in (
+    let top = top-told c.args.f c.if-f.top w c.loop-j.j (omega arith) (elim c.if-f.branch [ goal.then-f p ↦ inl (p.if-f.true, p.top-is) | goal.else-f p ↦ inr (p.if-f.false, p.top-is) ]) in (
       search rules,
       adder_worded c.args.first c.loop-j.g (top_turned c.args.f w (lit_at c.args.a.now)) (turned_bits c.args.t (top_turned c.args.f w (lit_at c.args.b.now))) c.args.c _ _ c.loop-j.carry c.loop-j.j c.loop-j.invariant.1 c.place_words.ensures c.loop-j.invariant.2 c.loop-j.invariant.3
           (c.turned_by-x.ensures ∙ top_taken c.args.f w (lit_at c.args.a.now) c.loop-j.j top)
