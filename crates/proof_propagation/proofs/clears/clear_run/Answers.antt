@@ -16,9 +16,6 @@ loop-i-init c = (c.requires, refl, refl)
 pub bounds-proof-i : goal.bounds-proof-i
 bounds-proof-i c = runs_here c.args.proof.now c.loop-i.i c.loop-i.invariant.0
 
-pub overflow_add-i : goal.overflow_add-i
-overflow_add-i c = omega (arith, runs_here c.args.proof.now c.loop-i.i c.loop-i.invariant.0)
-
 pub whole_word_at-requires : goal.whole_word_at-requires
 whole_word_at-requires c =
     omega (arith, runs_here c.args.proof.now _ (runs-next c.args.proof.now c.loop-i.i c.loop-i.invariant.0 c.loop-i-test.true))
