@@ -1,11 +1,8 @@
-use Prim.Native.Nat.{◌-◌}
 use native.Mathlib.Omega.{arith}
 use mathlib.Core.Path.{sym, ◌∙◌}
-use lib.ListN.{length}
 use Rattle.proof_reader.specs.Inner.Literals.{run_at}
-use Rattle.proof_reader.specs.Inner.Runs.{Runs}
 use Rattle.proof_reader.proofs.Running.{run_none, run-read, runs_here, runs-next}
-use Rattle.proof_propagation.proofs.Scanning.{Scanned, scanned_start, scanned_end, fits_parts, scanned_false, scanned_first, scanned_again, scanned_other}
+use Rattle.proof_propagation.proofs.Scanning.{scanned_start, scanned_end, fits_parts, scanned_false, scanned_first, scanned_again, scanned_other}
 use Rattle.proof_propagation.proofs.runs.compare_run.Goals.{then-not-is_false+then-found-eq0, then-not-is_false+else-found-eq0+else-found-l, else-not-is_false}
 use Rattle.proof_propagation.proofs.runs.compare_run.Goals as goal
 

@@ -1,9 +1,7 @@
-use borrow.Author.Rules.{rules}
-use Prim.Native.Nat.{◌-◌, ◌≤◌}
 use native.Mathlib.Omega.{arith}
 use mathlib.Core.Path.{sym, ◌∙◌}
 use lib.Seq.{slice}
-use Rattle.proof_propagation.proofs.Scanning.{Scanned, scanned_start, scanned_end, fits_parts, scanned_false, scanned_first, scanned_again, scanned_other, slice_more, slice_none}
+use Rattle.proof_propagation.proofs.Scanning.{scanned_start, scanned_end, fits_parts, scanned_false, scanned_first, scanned_again, scanned_other, slice_more, slice_none}
 use Rattle.proof_propagation.proofs.words.compare_words.Goals.{then-not-is_false+then-found-eq0, then-not-is_false+else-found-eq0+else-found-l, else-not-is_false}
 use Rattle.proof_propagation.proofs.words.compare_words.Goals as goal
 

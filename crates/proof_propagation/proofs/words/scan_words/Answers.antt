@@ -1,9 +1,7 @@
-use borrow.Author.Rules.{rules}
-use Prim.Native.Nat.{◌+◌, ◌-◌, ◌≤◌}
 use native.Mathlib.Omega.{arith}
 use mathlib.Core.Path.{sym, ◌∙◌}
 use lib.Seq.{slice}
-use Rattle.proof_propagation.proofs.Scanning.{Counted, counted_start, counted_end, fits_parts, counted_false, counted_more, slice_more, slice_none}
+use Rattle.proof_propagation.proofs.Scanning.{counted_start, counted_end, fits_parts, counted_false, counted_more, slice_more, slice_none}
 use Rattle.proof_propagation.proofs.words.scan_words.Goals.{then-not-is_false, else-not-is_false}
 use Rattle.proof_propagation.proofs.words.scan_words.Goals as goal
 
