@@ -1,4 +1,4 @@
-use Rattle.std.proofs.Common.{ℕ, zero, suc, ◌-◌, ◌<◌, ◌≤◌, List, [], ◌∷◌, length, get_or, set, replicate, ap, ◌∙◌, le_refl, arith, rules}
+use Rattle.std.proofs.Common.{ℕ, zero, suc, ◌<◌, List, [], ◌∷◌, set, replicate, ap, ◌∙◌, le_refl, arith}
 use lib.Seq.{slice, take-set-le}
 use Rattle.slices.proofs.Zeroing.{get_d_zeros}
 use Rattle.proof_reader.proofs.Reading.{literal_within, hint_within, close_within}

@@ -1,7 +1,4 @@
-use Rattle.std.proofs.Common.{ℕ, zero, suc, ◌-◌, ◌<◌, ◌≤◌, List, [], ◌∷◌, length, get_or, set, replicate, ap, ◌∙◌, le_refl, arith, rules}
-use lib.Seq.{slice, take-set-le}
-use Rattle.slices.proofs.Zeroing.{get_d_zeros}
-use Rattle.proof_reader.proofs.Reading.{literal_within, hint_within, close_within}
+use Rattle.std.proofs.Common.{ℕ, ◌-◌, ◌<◌, ◌≤◌, List, length, get_or}
 use Rattle.proof_check.proofs.ahead.look_ahead.Given as goal
 
 -- after a loop nothing is known of what an array holds, so it is kept that each number has 32 bits

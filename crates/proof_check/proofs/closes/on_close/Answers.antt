@@ -1,5 +1,4 @@
-use Rattle.std.proofs.Common.{sym, ap, ◌∙◌, rules}
-use borrow.Author.Tests.{not-true, not-false}
+use Rattle.std.proofs.Common.{sym, ap, ◌∙◌}
 use Rattle.proof_check.specs.declared.Turn.{Turn}
 use Rattle.proof_check.proofs.Adding.{close_over, close_early, full_words, full_starts, did_close}
 use Rattle.proof_check.proofs.closes.on_close.Goals as goal

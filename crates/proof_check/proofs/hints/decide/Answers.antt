@@ -1,4 +1,4 @@
-use Rattle.std.proofs.Common.{refl, rules}
+use Rattle.std.proofs.Common.{refl}
 use Rattle.proof_check.proofs.hints.decide.Goals as goal
 
 pub returns : goal.returns

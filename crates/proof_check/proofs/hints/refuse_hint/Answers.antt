@@ -1,5 +1,4 @@
-use Rattle.std.proofs.Common.{sym, ◌∙◌, rules}
-use borrow.Author.Tests.{not-true, not-false}
+use Rattle.std.proofs.Common.{sym, ◌∙◌}
 use Rattle.proof_check.proofs.Hinting.{refuse_over, refuse_far, refuse_late, refuse_neither}
 use Rattle.proof_check.proofs.hints.refuse_hint.Goals as goal
 

@@ -1,5 +1,4 @@
-use Rattle.std.proofs.Common.{◌++◌, sym, refl, ap, ◌∙◌, rules}
-use borrow.Author.Tests.{not-true, not-false}
+use Rattle.std.proofs.Common.{◌++◌, sym, refl, ap, ◌∙◌}
 use Rattle.proof_propagation.specs.Hint.{hint_of}
 use Rattle.proof_propagation.specs.Inner.Standing.{stored_at}
 use Rattle.proof_propagation.proofs.Standing.{first-length, first_at}

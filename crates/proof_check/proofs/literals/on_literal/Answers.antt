@@ -1,5 +1,4 @@
-use Rattle.std.proofs.Common.{sym, ap, ◌∙◌, rules}
-use borrow.Author.Tests.{not-true, not-false}
+use Rattle.std.proofs.Common.{sym, ap, ◌∙◌}
 use Rattle.proof_check.specs.declared.Turn.{Turn}
 use Rattle.proof_check.proofs.Taking.{literal_over, literal_late, literal_none, literal_high, literal_again, literal_full, did_literal}
 use Rattle.proof_check.proofs.literals.on_literal.Goals as goal

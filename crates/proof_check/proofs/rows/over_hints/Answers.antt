@@ -1,7 +1,6 @@
-use Rattle.std.proofs.Common.{◌≡◌, ℕ, ◌-◌, ◌++◌, length, sym, refl, ◌∙◌, arith, rules}
+use Rattle.std.proofs.Common.{◌≡◌, ℕ, ◌++◌, sym, refl, ◌∙◌, arith}
 use Rattle.proof_propagation.specs.declared.Hint.{Hint}
-use Rattle.proof_check.specs.Inner.Held.{Parted}
-use Rattle.proof_check.proofs.Rowing.{Rowing, rowing_start, rowing_less, rowing_more, rowing_ends, row-takes, row-run, row_conflict, row_unit, row_fits}
+use Rattle.proof_check.proofs.Rowing.{rowing_start, rowing_less, rowing_more, rowing_ends, row-takes, row-run, row_conflict, row_unit, row_fits}
 use Rattle.proof_check.proofs.Stopping.{parted_onward}
 use Rattle.proof_check.proofs.rows.over_hints.Goals as goal
 

@@ -1,6 +1,5 @@
-use Rattle.std.proofs.Common.{◌≡◌, ◌-◌, ◌++◌, length, refl, ◌∙◌, arith, length-append, rules}
-use Rattle.proof_check.specs.Inner.Held.{Parted}
-use Rattle.proof_check.proofs.Going.{Going, going_start, going_parted, going-trail, going-row, going_less, going_more, going-stop}
+use Rattle.std.proofs.Common.{◌++◌, refl, ◌∙◌, arith, length-append}
+use Rattle.proof_check.proofs.Going.{going_start, going_parted, going-trail, going-row, going_less, going_more, going-stop}
 use Rattle.proof_check.proofs.turns.finish.Goals as goal
 
 pub loop-next-init : goal.loop-next-init

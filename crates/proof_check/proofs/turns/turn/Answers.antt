@@ -1,4 +1,4 @@
-use Rattle.std.proofs.Common.{◌++◌, sym, ◌∙◌, arith, length-append, rules}
+use Rattle.std.proofs.Common.{◌++◌, sym, ◌∙◌, arith, length-append}
 use Rattle.proof_check.proofs.Turning.{step_literal, step_close, step-refused, step_end, step-unreadable}
 use Rattle.proof_check.proofs.turns.turn.Goals as goal
 

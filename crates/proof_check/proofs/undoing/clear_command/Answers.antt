@@ -1,4 +1,4 @@
-use Rattle.std.proofs.Common.{◌++◌, sym, refl, ◌∙◌, rules}
+use Rattle.std.proofs.Common.{◌++◌, sym, refl, ◌∙◌}
 use Rattle.proof_reader.specs.Command.{command_at}
 use Rattle.proof_propagation.specs.Inner.Clear.{clear}
 use Rattle.proof_check.specs.Inner.Undo.{touches}

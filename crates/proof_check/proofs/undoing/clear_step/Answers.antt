@@ -1,6 +1,5 @@
-use Rattle.std.proofs.Common.{◌≡◌, ◌++◌, length, replicate, refl, ap, ◌∙◌, arith}
+use Rattle.std.proofs.Common.{◌++◌, replicate, refl, ap, ◌∙◌, arith}
 use Rattle.proof_propagation.specs.Inner.Standing.{stored_of}
-use Rattle.proof_check.specs.Inner.Undo.{Clean}
 use Rattle.proof_check.proofs.Cleaning.{clean-room, clean-less, clean-none}
 use Rattle.proof_check.proofs.undoing.clear_step.Goals as goal
 

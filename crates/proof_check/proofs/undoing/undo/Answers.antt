@@ -1,4 +1,4 @@
-use Rattle.std.proofs.Common.{◌-◌, ◌++◌, length, sym, ap, ◌∙◌, arith, rules}
+use Rattle.std.proofs.Common.{◌-◌, ◌++◌, length, sym, ap, ◌∙◌, arith}
 use Rattle.proof_reader.proofs.Past.{run_past}
 use Rattle.proof_propagation.specs.Inner.Clear.{clear}
 use Rattle.proof_check.proofs.Trailing.{trail_undoes}
