@@ -1,9 +1,5 @@
-use borrow.Author.Tests.{not-true, not-false}
 use native.Mathlib.Omega.{arith}
-use Prim.Native.Nat.{◌≤◌, ◌-◌}
-use mathlib.Core.Path.{◌≡◌, refl, sym, ◌∙◌}
-use lib.Seq.{slice}
-use Rattle.proof.specs.Fit.{literals_fit}
+use mathlib.Core.Path.{refl, sym, ◌∙◌}
 use Rattle.proof.proofs.Fitting.{fit_next, fit_not, fit_end}
 use Rattle.proof.proofs.fits.literals_fit.Goals as goal
 

@@ -1,9 +1,5 @@
-use borrow.Author.Tests.{not-true, not-false}
 use native.Mathlib.Omega.{arith}
-use Prim.Native.Nat.{◌≤◌, ◌-◌}
-use mathlib.Core.Path.{◌≡◌, sym, ◌∙◌}
-use lib.ListN.{length}
-use Rattle.proof.specs.Fit.{standing}
+use mathlib.Core.Path.{sym, ◌∙◌}
 use Rattle.proof.proofs.Fitting.{clause_fits_lem, stand_start, stand_next, stand_not, stand_end}
 use Rattle.proof.proofs.fits.stand.Goals as goal
 
