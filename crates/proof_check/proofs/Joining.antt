@@ -1,5 +1,5 @@
 -- A proof in two parts: going on in the second from where the check of the first stopped is checking the whole. Assumes nothing.
-use Rattle.std.proofs.Common.{◌≡◌, ℕ, zero, suc, ◌+◌, ◌-◌, ◌<◌, ◌≤◌, true, false, ltb, List, ◌++◌, length, replicate, sym, refl, ap, ◌∙◌, inl, inr, true≢false, arith, length-append, ltb-false, ltb-true}
+use Rattle.std.proofs.Common.{◌≡◌, ℕ, zero, suc, ◌-◌, ◌<◌, ◌≤◌, true, ltb, List, ◌++◌, length, replicate, sym, refl, ap, ◌∙◌, inl, inr, true≢false, arith, length-append, ltb-false, ltb-true}
 use Rattle.proof_reader.specs.Command.{command_at}
 use Rattle.proof_reader.specs.Inner.Literals.{literals_at}
 use Rattle.proof_reader.specs.Inner.Runs.{Ones}

@@ -1,9 +1,5 @@
-use borrow.Author.Tests.{not-true, not-false}
 use native.Mathlib.Omega.{arith}
-use Prim.Native.Nat.{◌≤◌, ◌-◌}
-use mathlib.Core.Path.{◌≡◌, refl, sym, ◌∙◌}
-use lib.Seq.{slice}
-use Rattle.proof.specs.Fit.{literals_fit}
+use mathlib.Core.Path.{refl, sym, ◌∙◌}
 use Rattle.proof.proofs.Fitting.{fit_next, fit_not, fit_end}
 use Rattle.proof.proofs.fits.literals_fit.Goals as goal
 
@@ -12,13 +8,13 @@ loop-i-init c = (omega arith, omega arith, refl)
 
 pub returns-then-not-of_variable : goal.returns-then-not-of_variable
 returns-then-not-of_variable c =
-    fit_not c.args.words.now c.args.variables c.loop-i.i c.args.to c.loop-i-test.true c.requires.1 (sym c.of_variable.ensures ∙ not-true c.of_variable.result c.if-not-of_variable.true) ∙ c.loop-i.invariant.2
+    fit_not c.args.words.now c.args.variables c.loop-i.i c.args.to c.loop-i-test.true c.requires.1 (sym c.of_variable.ensures ∙ c.if-not-of_variable.true) ∙ c.loop-i.invariant.2
 
 pub loop-i-preserved : goal.loop-i-preserved
 loop-i-preserved c = (
   omega arith,
   omega arith,
-  fit_next c.args.words.now c.args.variables c.loop-i.i c.args.to c.loop-i-test.true c.requires.1 (sym c.of_variable.ensures ∙ not-false c.of_variable.result c.if-not-of_variable.false) ∙ c.loop-i.invariant.2,
+  fit_next c.args.words.now c.args.variables c.loop-i.i c.args.to c.loop-i-test.true c.requires.1 (sym c.of_variable.ensures ∙ c.if-not-of_variable.false) ∙ c.loop-i.invariant.2,
 )
 
 pub returns : goal.returns

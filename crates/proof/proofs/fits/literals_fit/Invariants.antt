@@ -1,10 +1,7 @@
-use borrow.Author.Tests.{not-true, not-false}
-use native.Mathlib.Omega.{arith}
 use Prim.Native.Nat.{◌≤◌, ◌-◌}
-use mathlib.Core.Path.{◌≡◌, refl, sym, ◌∙◌}
+use mathlib.Core.Path.{◌≡◌}
 use lib.Seq.{slice}
 use Rattle.proof.specs.Fit.{literals_fit}
-use Rattle.proof.proofs.Fitting.{fit_next, fit_not, fit_end}
 use Rattle.proof.proofs.fits.literals_fit.Given as goal
 
 abbrev pub invariant-loop-i : goal.invariant-loop-i

@@ -1,6 +1,5 @@
 use mathlib.Core.Path.{refl}
 use Rattle.proof.proofs.Fitting.{variable_none, variable_some}
-use borrow.Author.Rules.{rules}
 use Rattle.proof.proofs.fits.of_variable.Goals as goal
 
 pub returns-then-literal-lt2 : goal.returns-then-literal-lt2

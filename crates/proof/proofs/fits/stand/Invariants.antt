@@ -1,10 +1,7 @@
-use borrow.Author.Tests.{not-true, not-false}
-use native.Mathlib.Omega.{arith}
 use Prim.Native.Nat.{◌≤◌, ◌-◌}
-use mathlib.Core.Path.{◌≡◌, sym, ◌∙◌}
+use mathlib.Core.Path.{◌≡◌}
 use lib.ListN.{length}
 use Rattle.proof.specs.Fit.{standing}
-use Rattle.proof.proofs.Fitting.{clause_fits_lem, stand_start, stand_next, stand_not, stand_end}
 use Rattle.proof.proofs.fits.stand.Given as goal
 
 abbrev pub invariant-loop-i : goal.invariant-loop-i

@@ -1,5 +1,4 @@
 use mathlib.Core.Path.{refl}
-use borrow.Author.Rules.{rules}
 use Rattle.proof.proofs.parts.checked_by.Goals as goal
 
 pub returns-in-Accepted : goal.returns-in-Accepted

@@ -1,4 +1,4 @@
-use Rattle.std.proofs.Common.{take, sym, ◌∙◌, arith, length-take, get_or-take, rules}
+use Rattle.std.proofs.Common.{take, sym, ◌∙◌, arith, length-take, get_or-take}
 use lib.ListN.{get_or-eq_default}
 use Rattle.proof_check.proofs.ahead.given_start.Goals as goal
 

@@ -1,12 +1,9 @@
-use Rattle.std.proofs.Common.{ℕ, zero, suc, ◌-◌, ◌<◌, ◌≤◌, List, [], ◌∷◌, length, get_or, set, replicate, ap, ◌∙◌, le_refl, arith, rules}
+use Rattle.std.proofs.Common.{ℕ, zero, suc, ◌<◌, List, [], ◌∷◌, set, replicate, ap, ◌∙◌, le_refl, arith}
 use lib.Seq.{slice, take-set-le}
 use Rattle.slices.proofs.Zeroing.{get_d_zeros}
 use Rattle.proof_reader.proofs.Reading.{literal_within, hint_within, close_within}
+use Rattle.proof_check.proofs.ahead.look_ahead.Invariants.{Words}
 use Rattle.proof_check.proofs.ahead.look_ahead.Goals as goal
-
--- after a loop nothing is known of what an array holds, so it is kept that each number has 32 bits
-abbrev Words : List ℕ → Type 0
-Words l = (i : ℕ) → get_or l i 0 < 4294967296
 
 words-zeros : (n : ℕ) → Words (replicate n 0)
 words-zeros n i = omega (arith, get_d_zeros n i)

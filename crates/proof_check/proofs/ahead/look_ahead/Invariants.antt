@@ -1,8 +1,9 @@
-use Rattle.std.proofs.Common.{ℕ, zero, suc, ◌-◌, ◌<◌, ◌≤◌, List, [], ◌∷◌, length, get_or, set, replicate, ap, ◌∙◌, le_refl, arith, rules}
-use lib.Seq.{slice, take-set-le}
-use Rattle.slices.proofs.Zeroing.{get_d_zeros}
-use Rattle.proof_reader.proofs.Reading.{literal_within, hint_within, close_within}
+use Rattle.std.proofs.Common.{ℕ, ◌-◌, ◌<◌, ◌≤◌, List, length, get_or}
 use Rattle.proof_check.proofs.ahead.look_ahead.Given as goal
+
+-- after a loop nothing is known of what an array holds, so it is kept that each number has 32 bits
+abbrev pub Words : List ℕ → Type 0
+Words l = (i : ℕ) → get_or l i 0 < 4294967296
 
 abbrev pub invariant-loop-count : goal.invariant-loop-count
 invariant-loop-count l = (l.count ≤ 32) × Words l.named

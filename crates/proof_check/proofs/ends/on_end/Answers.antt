@@ -1,4 +1,4 @@
-use Rattle.std.proofs.Common.{sym, ◌∙◌, arith, rules}
+use Rattle.std.proofs.Common.{sym, ◌∙◌, arith}
 use Rattle.proof_check.proofs.Ending.{end_early, end_trailing, end-accepted}
 use Rattle.proof_check.proofs.ends.on_end.Goals as goal
 

@@ -1,5 +1,5 @@
 use lib.Seq.{set_out}
-use Rattle.std.proofs.Common.{sym, rules}
+use Rattle.std.proofs.Common.{sym}
 use Rattle.proof_check.proofs.hints.note.Goals as goal
 
 pub returns-else-decided-trail : goal.returns-else-decided-trail

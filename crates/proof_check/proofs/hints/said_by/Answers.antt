@@ -1,5 +1,4 @@
-use Rattle.std.proofs.Common.{◌++◌, sym, refl, ap, ◌∙◌, rules}
-use borrow.Author.Tests.{not-true, not-false}
+use Rattle.std.proofs.Common.{◌++◌, sym, refl, ap, ◌∙◌}
 use Rattle.proof_propagation.specs.Hint.{hint_of}
 use Rattle.proof_propagation.specs.Inner.Standing.{stored_at}
 use Rattle.proof_propagation.proofs.Standing.{first-length, first_at}
@@ -11,17 +10,17 @@ use Rattle.proof_check.proofs.hints.said_by.Goals as goal
 pub returns-then-not-is_going : goal.returns-then-not-is_going
 returns-then-not-is_going c =
     let s = state_of c.args.words.now c.args.starts.now c.args.marks.now (c.args.closed.now ++ c.args.proof.now) c.args.p in
-    said_over s c.in-Hint.h (sym c.is_going.ensures ∙ not-true c.is_going.result c.if-not-is_going.true) ∙ ap (said_by s) (sym c.in-Hint.is)
+    said_over s c.in-Hint.h (sym c.is_going.ensures ∙ c.if-not-is_going.true) ∙ ap (said_by s) (sym c.in-Hint.is)
 
 pub returns-then-is_conflicted : goal.returns-then-is_conflicted
 returns-then-is_conflicted c =
     let s = state_of c.args.words.now c.args.starts.now c.args.marks.now (c.args.closed.now ++ c.args.proof.now) c.args.p in
-    said_late s c.in-Hint.h (sym c.is_going.ensures ∙ not-false c.is_going.result c.if-not-is_going.false) (sym c.is_conflicted.ensures ∙ c.if-is_conflicted.true) ∙ ap (said_by s) (sym c.in-Hint.is)
+    said_late s c.in-Hint.h (sym c.is_going.ensures ∙ c.if-not-is_going.false) (sym c.is_conflicted.ensures ∙ c.if-is_conflicted.true) ∙ ap (said_by s) (sym c.in-Hint.is)
 
 pub returns-then-p-i : goal.returns-then-p-i
 returns-then-p-i c =
     let s = state_of c.args.words.now c.args.starts.now c.args.marks.now (c.args.closed.now ++ c.args.proof.now) c.args.p in
-    said_far s c.in-Hint.h (sym c.is_going.ensures ∙ not-false c.is_going.result c.if-not-is_going.false) (sym c.is_conflicted.ensures ∙ c.if-is_conflicted.false) (rw first-length c.if-p-i.true) ∙ ap (said_by s) (sym c.in-Hint.is)
+    said_far s c.in-Hint.h (sym c.is_going.ensures ∙ c.if-not-is_going.false) (sym c.is_conflicted.ensures ∙ c.if-is_conflicted.false) (rw first-length c.if-p-i.true) ∙ ap (said_by s) (sym c.in-Hint.is)
 
 pub scan_stored-requires : goal.scan_stored-requires
 scan_stored-requires c =
@@ -32,7 +31,7 @@ returns-else-p-i c =
     let s = state_of c.args.words.now c.args.starts.now c.args.marks.now (c.args.closed.now ++ c.args.proof.now) c.args.p in
     c.scan_stored.ensures
     ∙ ap (hint_of c.args.marks.now) (sym (first_at (stored_at c.args.words.now c.args.starts.now (c.args.closed.now ++ c.args.proof.now) c.args.p.given) c.args.p.count c.in-Hint.h c.if-p-i.false))
-    ∙ said_there s c.in-Hint.h (sym c.is_going.ensures ∙ not-false c.is_going.result c.if-not-is_going.false) (sym c.is_conflicted.ensures ∙ c.if-is_conflicted.false) (rw first-length c.if-p-i.false)
+    ∙ said_there s c.in-Hint.h (sym c.is_going.ensures ∙ c.if-not-is_going.false) (sym c.is_conflicted.ensures ∙ c.if-is_conflicted.false) (rw first-length c.if-p-i.false)
     ∙ ap (said_by s) (sym c.in-Hint.is)
 
 pub returns-in-Literal : goal.returns-in-Literal

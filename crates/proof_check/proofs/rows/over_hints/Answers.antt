@@ -1,7 +1,6 @@
-use Rattle.std.proofs.Common.{◌≡◌, ℕ, ◌-◌, ◌++◌, length, sym, refl, ◌∙◌, arith, rules}
+use Rattle.std.proofs.Common.{◌≡◌, ℕ, ◌++◌, sym, refl, ◌∙◌, arith}
 use Rattle.proof_propagation.specs.declared.Hint.{Hint}
-use Rattle.proof_check.specs.Inner.Held.{Parted}
-use Rattle.proof_check.proofs.Rowing.{Rowing, rowing_start, rowing_less, rowing_more, rowing_ends, row-takes, row-run, row_conflict, row_unit, row_fits}
+use Rattle.proof_check.proofs.Rowing.{rowing_start, rowing_less, rowing_more, rowing_ends, row-takes, row-run, row_conflict, row_unit, row_fits}
 use Rattle.proof_check.proofs.Stopping.{parted_onward}
 use Rattle.proof_check.proofs.rows.over_hints.Goals as goal
 
@@ -22,7 +21,7 @@ pub said_by-requires : goal.said_by-requires
 said_by-requires c = record { store = c.loop-marks.invariant.0.ready.store; parted = c.loop-marks.invariant.1 }
 
 pub undo-requires : goal.undo-requires
-undo-requires c = let w = ((c.loop-marks.invariant.0.ready, (c.loop-marks.invariant.1, row-run c.args.words.now c.args.starts.now c.loop-marks.marks c.loop-marks.trail (c.args.closed.now ++ c.args.proof.now) c.loop-marks.q c.loop-marks.invariant.0.ready c.next_command-command.result c.next_command-command.ensures Hint.Conflict (row-takes c.args.words.now c.args.starts.now c.loop-marks.marks c.loop-marks.trail (c.args.closed.now ++ c.args.proof.now) c.loop-marks.q c.loop-marks.invariant.0.ready c.next_command-command.result c.next_command-command.ensures Hint.Conflict (λ e. differ e) (sym c.in-Conflict.is ∙ c.said_by.ensures))))) in record { ready = w.0; parted = w.1; runs_for = w.2 }
+undo-requires c = record { ready = c.loop-marks.invariant.0.ready; parted = c.loop-marks.invariant.1; runs_for = row-run c.args.words.now c.args.starts.now c.loop-marks.marks c.loop-marks.trail (c.args.closed.now ++ c.args.proof.now) c.loop-marks.q c.loop-marks.invariant.0.ready c.next_command-command.result c.next_command-command.ensures Hint.Conflict (row-takes c.args.words.now c.args.starts.now c.loop-marks.marks c.loop-marks.trail (c.args.closed.now ++ c.args.proof.now) c.loop-marks.q c.loop-marks.invariant.0.ready c.next_command-command.result c.next_command-command.ensures Hint.Conflict (λ e. differ e) (sym c.in-Conflict.is ∙ c.said_by.ensures)) }
 
 pub with_hint-q-requires : goal.with_hint-q-requires
 with_hint-q-requires c = (omega (arith, c.loop-marks.invariant.0.ready.within, c.loop-marks.invariant.0.ready.limit), c.loop-marks.invariant.0.ready.hinted)
@@ -42,11 +41,11 @@ decide-q-requires c =
 
 pub loop-marks-smaller : goal.loop-marks-smaller
 loop-marks-smaller c =
-    rowing_less (c.args.closed.now ++ c.args.proof.now) c.args.words.now c.args.starts.now c.args.marks.now c.args.p c.loop-marks.marks c.loop-marks.trail c.loop-marks.q c.loop-marks.invariant.0 c.decide-q.new.marks c.decide-q.new.trail c.decide-q.result (row_unit c.args.words.now c.args.starts.now c.loop-marks.marks c.loop-marks.trail (c.args.closed.now ++ c.args.proof.now) c.loop-marks.q c.loop-marks.invariant.0.ready c.next_command-command.result c.next_command-command.ensures (Hint.Unit c.in-Unit.l) (row-takes c.args.words.now c.args.starts.now c.loop-marks.marks c.loop-marks.trail (c.args.closed.now ++ c.args.proof.now) c.loop-marks.q c.loop-marks.invariant.0.ready c.next_command-command.result c.next_command-command.ensures (Hint.Unit c.in-Unit.l) (λ e. differ-unit _ e) (sym c.in-Unit.is ∙ c.said_by.ensures)) c.decide-q.new.marks c.decide-q.new.trail c.decide-q.result c.in-Unit.l refl c.decide-q.ensures.marks_after c.decide-q.ensures.trail_after.0 c.decide-q.ensures.trail_after.1)
+    rowing_less (c.args.closed.now ++ c.args.proof.now) c.args.words.now c.args.starts.now c.args.marks.now c.args.p c.loop-marks.marks c.loop-marks.trail c.loop-marks.q c.loop-marks.invariant.0 c.decide-q.new.marks c.decide-q.new.trail c.decide-q.result (row_unit c.args.words.now c.args.starts.now c.loop-marks.marks c.loop-marks.trail (c.args.closed.now ++ c.args.proof.now) c.loop-marks.q c.loop-marks.invariant.0.ready c.next_command-command.result c.next_command-command.ensures (Hint.Unit c.in-Unit.l) (row-takes c.args.words.now c.args.starts.now c.loop-marks.marks c.loop-marks.trail (c.args.closed.now ++ c.args.proof.now) c.loop-marks.q c.loop-marks.invariant.0.ready c.next_command-command.result c.next_command-command.ensures (Hint.Unit c.in-Unit.l) (λ e. differ-unit _ e) (sym c.in-Unit.is ∙ c.said_by.ensures)) c.decide-q.new.marks c.decide-q.new.trail c.decide-q.result c.in-Unit.l refl c.decide-q.ensures.marks_after c.decide-q.ensures.trail_after c.decide-q.ensures.value)
 
 pub loop-marks-preserved : goal.loop-marks-preserved
 loop-marks-preserved c =
-    let n = rowing_more (c.args.closed.now ++ c.args.proof.now) c.args.words.now c.args.starts.now c.args.marks.now c.args.p c.loop-marks.marks c.loop-marks.trail c.loop-marks.q c.loop-marks.invariant.0 c.decide-q.new.marks c.decide-q.new.trail c.decide-q.result (row_unit c.args.words.now c.args.starts.now c.loop-marks.marks c.loop-marks.trail (c.args.closed.now ++ c.args.proof.now) c.loop-marks.q c.loop-marks.invariant.0.ready c.next_command-command.result c.next_command-command.ensures (Hint.Unit c.in-Unit.l) (row-takes c.args.words.now c.args.starts.now c.loop-marks.marks c.loop-marks.trail (c.args.closed.now ++ c.args.proof.now) c.loop-marks.q c.loop-marks.invariant.0.ready c.next_command-command.result c.next_command-command.ensures (Hint.Unit c.in-Unit.l) (λ e. differ-unit _ e) (sym c.in-Unit.is ∙ c.said_by.ensures)) c.decide-q.new.marks c.decide-q.new.trail c.decide-q.result c.in-Unit.l refl c.decide-q.ensures.marks_after c.decide-q.ensures.trail_after.0 c.decide-q.ensures.trail_after.1) c.decide-q.auto.marks in
+    let n = rowing_more (c.args.closed.now ++ c.args.proof.now) c.args.words.now c.args.starts.now c.args.marks.now c.args.p c.loop-marks.marks c.loop-marks.trail c.loop-marks.q c.loop-marks.invariant.0 c.decide-q.new.marks c.decide-q.new.trail c.decide-q.result (row_unit c.args.words.now c.args.starts.now c.loop-marks.marks c.loop-marks.trail (c.args.closed.now ++ c.args.proof.now) c.loop-marks.q c.loop-marks.invariant.0.ready c.next_command-command.result c.next_command-command.ensures (Hint.Unit c.in-Unit.l) (row-takes c.args.words.now c.args.starts.now c.loop-marks.marks c.loop-marks.trail (c.args.closed.now ++ c.args.proof.now) c.loop-marks.q c.loop-marks.invariant.0.ready c.next_command-command.result c.next_command-command.ensures (Hint.Unit c.in-Unit.l) (λ e. differ-unit _ e) (sym c.in-Unit.is ∙ c.said_by.ensures)) c.decide-q.new.marks c.decide-q.new.trail c.decide-q.result c.in-Unit.l refl c.decide-q.ensures.marks_after c.decide-q.ensures.trail_after c.decide-q.ensures.value) c.decide-q.auto.marks in
     (n, parted_onward c.args.closed.now c.args.starts.now c.args.starts.now c.args.p _ c.requires.parted n.onward, c.decide-q.auto.marks ∙ c.loop-marks.invariant.2, c.decide-q.auto.trail ∙ c.loop-marks.invariant.3)
 
 pub shape_of-marks-in-Neither : goal.shape_of-marks-in-Neither

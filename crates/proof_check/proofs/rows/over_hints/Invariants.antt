@@ -1,8 +1,6 @@
-use Rattle.std.proofs.Common.{◌≡◌, ℕ, ◌-◌, ◌++◌, length, sym, refl, ◌∙◌, arith, rules}
-use Rattle.proof_propagation.specs.declared.Hint.{Hint}
+use Rattle.std.proofs.Common.{◌≡◌, ◌-◌, ◌++◌, length}
 use Rattle.proof_check.specs.Inner.Held.{Parted}
-use Rattle.proof_check.proofs.Rowing.{Rowing, rowing_start, rowing_less, rowing_more, rowing_ends, row-takes, row-run, row_conflict, row_unit, row_fits}
-use Rattle.proof_check.proofs.Stopping.{parted_onward}
+use Rattle.proof_check.proofs.Rowing.{Rowing}
 use Rattle.proof_check.proofs.rows.over_hints.Given as goal
 
 abbrev pub invariant-loop-marks : goal.invariant-loop-marks

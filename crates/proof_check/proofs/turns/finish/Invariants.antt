@@ -1,6 +1,6 @@
-use Rattle.std.proofs.Common.{◌≡◌, ◌-◌, ◌++◌, length, refl, ◌∙◌, arith, length-append, rules}
+use Rattle.std.proofs.Common.{◌≡◌, ◌-◌, ◌++◌, length}
 use Rattle.proof_check.specs.Inner.Held.{Parted}
-use Rattle.proof_check.proofs.Going.{Going, going_start, going_parted, going-trail, going-row, going_less, going_more, going-stop}
+use Rattle.proof_check.proofs.Going.{Going}
 use Rattle.proof_check.proofs.turns.finish.Given as goal
 
 abbrev pub invariant-loop-next : goal.invariant-loop-next

@@ -1,24 +1,24 @@
-use Rattle.std.proofs.Common.{◌++◌, sym, ◌∙◌, arith, length-append, rules}
+use Rattle.std.proofs.Common.{◌++◌, sym, ◌∙◌, arith, length-append}
 use Rattle.proof_check.proofs.Turning.{step_literal, step_close, step-refused, step_end, step-unreadable}
 use Rattle.proof_check.proofs.turns.turn.Goals as goal
 
 pub on_literal-requires : goal.on_literal-requires
-on_literal-requires c = (c.requires.ready_but.1.store.room, c.requires.ready_but.1.short, omega (arith, c.requires.ready_but.1.within, c.requires.ready_but.1.limit), c.requires.ready_but.1.few, c.requires.base_bound.0)
+on_literal-requires c = (c.requires.ready_but.1.store.room, c.requires.ready_but.1.short, omega (arith, c.requires.ready_but.1.within, c.requires.ready_but.1.limit), c.requires.ready_but.1.few, c.requires.base_bound)
 
 pub refuse_hint-requires : goal.refuse_hint-requires
-refuse_hint-requires c = (omega (arith, c.requires.ready_but.1.within, c.requires.ready_but.1.limit), c.requires.base_bound.0)
+refuse_hint-requires c = (omega (arith, c.requires.ready_but.1.within, c.requires.ready_but.1.limit), c.requires.base_bound)
 
 pub on_close-requires : goal.on_close-requires
-on_close-requires c = (c.requires.ready_but.1.store.room, c.requires.ready_but.1.short, omega (arith, c.requires.ready_but.1.within, c.requires.ready_but.1.limit), c.requires.ready_but.1.begun, c.requires.ready_but.1.few, c.requires.ready_but.1.stepped, c.requires.base_bound.0)
+on_close-requires c = (c.requires.ready_but.1.store.room, c.requires.ready_but.1.short, omega (arith, c.requires.ready_but.1.within, c.requires.ready_but.1.limit), c.requires.ready_but.1.begun, c.requires.ready_but.1.few, c.requires.ready_but.1.stepped, c.requires.base_bound)
 
 pub overflow_add-closed : goal.overflow_add-closed
-overflow_add-closed c = omega (arith, c.requires.base_bound.1)
+overflow_add-closed c = omega (arith, c.requires.proof_len_bound)
 
 pub on_end-requires : goal.on_end-requires
-on_end-requires c = (omega (arith, c.requires.ready_but.1.within, c.requires.ready_but.1.limit), c.requires.base_bound.0)
+on_end-requires c = (omega (arith, c.requires.ready_but.1.within, c.requires.ready_but.1.limit), c.requires.base_bound)
 
 pub overflow_add-base : goal.overflow_add-base
-overflow_add-base c = omega (arith, c.requires.ready_but.1.within, c.requires.ready_but.1.limit, c.requires.base_bound.0)
+overflow_add-base c = omega (arith, c.requires.ready_but.1.within, c.requires.ready_but.1.limit, c.requires.base_bound)
 
 pub returns-in-Literal : goal.returns-in-Literal
 returns-in-Literal c =

@@ -1,4 +1,4 @@
-use Rattle.std.proofs.Common.{◌++◌, sym, refl, ◌∙◌, rules}
+use Rattle.std.proofs.Common.{◌++◌, sym, refl, ◌∙◌}
 use Rattle.proof_reader.specs.Command.{command_at}
 use Rattle.proof_propagation.specs.Inner.Clear.{clear}
 use Rattle.proof_check.specs.Inner.Undo.{touches}
@@ -7,7 +7,7 @@ use Rattle.proof_check.proofs.undoing.clear_command.Goals as goal
 
 pub clear_stored-requires : goal.clear_stored-requires
 clear_stored-requires c =
-    record { stands = c.requires.store.each c.in-Hint.h c.if-i-p.true; in_part = c.requires.parted.0.each c.in-Hint.h c.if-i-p.true }
+    record { stands = c.requires.store.each c.in-Hint.h c.if-i-p.true; in_part = c.requires.parted.each c.in-Hint.h c.if-i-p.true }
 
 pub returns-in-Literal : goal.returns-in-Literal
 returns-in-Literal c = undo_literal c.args.words.now c.args.starts.now (c.args.closed.now ++ c.args.proof.now) c.args.marks.now c.clear_literal.new.marks c.args.p.given c.args.p.count (command_at (c.args.closed.now ++ c.args.proof.now) c.args.at) c.in-Literal.l (sym c.next_command-command.ensures ∙ c.in-Literal.is) c.clear_literal.ensures

@@ -1,7 +1,6 @@
-use Rattle.std.proofs.Common.{◌≡◌, ◌++◌, length, replicate, refl, ap, ◌∙◌, arith}
+use Rattle.std.proofs.Common.{◌≡◌, ◌++◌, length}
 use Rattle.proof_propagation.specs.Inner.Standing.{stored_of}
 use Rattle.proof_check.specs.Inner.Undo.{Clean}
-use Rattle.proof_check.proofs.Cleaning.{clean-room, clean-less, clean-none}
 use Rattle.proof_check.proofs.undoing.clear_step.Given as goal
 
 abbrev pub invariant-loop-to : goal.invariant-loop-to

@@ -1,6 +1,5 @@
 use lib.Seq.{set_out}
 use mathlib.Core.Path.{sym}
-use borrow.Author.Rules.{rules}
 use Rattle.proof_propagation.proofs.clears.clear_literal.Goals as goal
 
 pub returns-else-v-marks : goal.returns-else-v-marks

@@ -1,12 +1,6 @@
-use borrow.Author.Rules.{rules}
-use Prim.Native.Nat.{◌-◌}
 use native.Mathlib.Omega.{arith}
-use mathlib.Core.Path.{◌≡◌, refl, sym, ◌∙◌}
-use lib.ListN.{length}
-use Rattle.proof_reader.specs.Inner.Literals.{run_at}
-use Rattle.proof_reader.specs.Inner.Runs.{Runs}
+use mathlib.Core.Path.{refl, sym, ◌∙◌}
 use Rattle.proof_reader.proofs.Running.{run_none, run-read, runs_here, runs-next}
-use Rattle.proof_propagation.specs.Inner.Clear.{clear}
 use Rattle.proof_propagation.proofs.Clearing.{clear-turn, clear-end}
 use Rattle.proof_propagation.proofs.clears.clear_run.Goals as goal
 
@@ -15,9 +9,6 @@ loop-i-init c = (c.requires, refl, refl)
 
 pub bounds-proof-i : goal.bounds-proof-i
 bounds-proof-i c = runs_here c.args.proof.now c.loop-i.i c.loop-i.invariant.0
-
-pub overflow_add-i : goal.overflow_add-i
-overflow_add-i c = omega (arith, runs_here c.args.proof.now c.loop-i.i c.loop-i.invariant.0)
 
 pub whole_word_at-requires : goal.whole_word_at-requires
 whole_word_at-requires c =

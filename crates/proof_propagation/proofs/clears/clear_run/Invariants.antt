@@ -1,13 +1,9 @@
-use borrow.Author.Rules.{rules}
 use Prim.Native.Nat.{◌-◌}
-use native.Mathlib.Omega.{arith}
-use mathlib.Core.Path.{◌≡◌, refl, sym, ◌∙◌}
+use mathlib.Core.Path.{◌≡◌}
 use lib.ListN.{length}
 use Rattle.proof_reader.specs.Inner.Literals.{run_at}
 use Rattle.proof_reader.specs.Inner.Runs.{Runs}
-use Rattle.proof_reader.proofs.Running.{run_none, run-read, runs_here, runs-next}
 use Rattle.proof_propagation.specs.Inner.Clear.{clear}
-use Rattle.proof_propagation.proofs.Clearing.{clear-turn, clear-end}
 use Rattle.proof_propagation.proofs.clears.clear_run.Given as goal
 
 abbrev pub invariant-loop-i : goal.invariant-loop-i

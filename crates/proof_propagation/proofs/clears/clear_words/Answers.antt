@@ -1,10 +1,5 @@
-use borrow.Author.Rules.{rules}
 use native.Mathlib.Omega.{arith}
-use Prim.Native.Nat.{◌≤◌, ◌-◌}
-use mathlib.Core.Path.{◌≡◌, refl, sym, ◌∙◌}
-use lib.ListN.{length}
-use lib.Seq.{slice}
-use Rattle.proof_propagation.specs.Inner.Clear.{clear}
+use mathlib.Core.Path.{refl, sym, ◌∙◌}
 use Rattle.proof_propagation.proofs.Clearing.{clear-turn, clear-end}
 use Rattle.proof_propagation.proofs.Scanning.{slice_more, slice_none}
 use Rattle.proof_propagation.proofs.clears.clear_words.Goals as goal

@@ -1,13 +1,8 @@
 use Prim.Native.Nat.{◌-◌, ◌≤◌}
-use native.Mathlib.Omega.{arith}
-use mathlib.Core.Path.{sym, ◌∙◌}
-use mathlib.Core.Logic.{⊎_elim}
-use borrow.Author.Tests.{not-true, not-false}
 use lib.ListN.{length}
 use Rattle.proof_reader.specs.Inner.Literals.{run_at}
 use Rattle.proof_reader.specs.Inner.Runs.{Runs}
-use Rattle.proof_reader.proofs.Running.{run_none, run-read, runs_here, runs-next}
-use Rattle.proof_propagation.proofs.Scanning.{Counted, counted_start, counted_end, fits_parts, counted_false, counted_more}
+use Rattle.proof_propagation.proofs.Scanning.{Counted}
 use Rattle.proof_propagation.proofs.runs.scan_run.Given as goal
 
 abbrev pub invariant-loop-i : goal.invariant-loop-i

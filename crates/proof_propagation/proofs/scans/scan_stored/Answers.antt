@@ -27,7 +27,7 @@ overflow_add-from-then-number-given c = omega (arith, c.requires.stands.inside c
 
 pub scan_words-requires : goal.scan_words-requires
 unfolding clause_at
-scan_words-requires c = let w = ((omega arith, (c.requires.stands.inside c.if-number-given.true, rw (stored_given c.args.words.now c.args.starts.now _ c.args.given c.args.number c.if-number-given.true) at c.requires.stands.fits))) in record { from_le_to = w.0; to_in_bounds = w.1; has_marks = w.2 }
+scan_words-requires c = record { from_le_to = omega arith; to_in_bounds = c.requires.stands.inside c.if-number-given.true; has_marks = rw (stored_given c.args.words.now c.args.starts.now _ c.args.given c.args.number c.if-number-given.true) at c.requires.stands.fits }
 
 pub returns-then-number-given : goal.returns-then-number-given
 unfolding clause_at

@@ -1,11 +1,6 @@
-use borrow.Author.Rules.{rules}
 use Prim.Native.Nat.{◌+◌, ◌-◌, ◌≤◌}
-use native.Mathlib.Omega.{arith}
-use mathlib.Core.Path.{sym, ◌∙◌}
-use mathlib.Core.Logic.{⊎_elim}
-use borrow.Author.Tests.{not-true, not-false}
 use lib.Seq.{slice}
-use Rattle.proof_propagation.proofs.Scanning.{Counted, counted_start, counted_end, fits_parts, counted_false, counted_more, slice_more, slice_none}
+use Rattle.proof_propagation.proofs.Scanning.{Counted}
 use Rattle.proof_propagation.proofs.words.scan_words.Given as goal
 
 abbrev pub invariant-loop-i : goal.invariant-loop-i

@@ -1,4 +1,3 @@
-use borrow.Author.Rules.{rules}
 use native.Mathlib.Omega.{arith}
 use Rattle.proof_reader.proofs.Reading.{read_missing, read-end, read_close, read-cut, read_unknown, read_literal, read_hint}
 use Rattle.proof_reader.proofs.commands.command_at.Goals as goal

@@ -3,7 +3,6 @@ use mathlib.Core.Path.{sym, ◌∙◌}
 use native.Mathlib.Omega.{arith}
 use lib.ListN.{length}
 use Rattle.proof_reader.proofs.Past.{command_past}
-use borrow.Author.Rules.{rules}
 use Rattle.proof_reader.proofs.joined.next_command.Goals as goal
 
 pub returns : goal.returns
