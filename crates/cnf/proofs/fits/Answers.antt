@@ -1,6 +1,5 @@
 use mathlib.Core.Path.{sym}
 use borrow.Author.Tests.{le-leb, lt-leb}
-use borrow.Author.Rules.{rules}
 use Rattle.cnf.proofs.fits.Goals as goal
 
 pub returns-then-s-count : goal.returns-then-s-count

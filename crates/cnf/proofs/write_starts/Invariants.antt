@@ -1,11 +1,7 @@
-use mathlib.Core.Path.{◌∙◌, ◌≡◌, refl}
+use mathlib.Core.Path.{◌≡◌}
 use Prim.Native.Nat.{◌*◌, ◌+◌, ◌-◌, ◌≤◌}
-use native.Mathlib.Nat.{add-zero, sub-zero}
-use native.Mathlib.Omega.{arith}
-use lib.ListN.{length, length-set}
+use lib.ListN.{length}
 use lib.Seq.{sets}
-use borrow.Author.Rules.{rules}
-use Rattle.cnf.proofs.Appending.{spaced-turn}
 use Rattle.cnf.specs.Inner.Append.{spaced}
 use Rattle.cnf.proofs.write_starts.Given as goal
 

@@ -1,8 +1,6 @@
-use native.Mathlib.Omega.{arith}
 use Prim.Native.Nat.{◌-◌}
-use mathlib.Core.Path.{refl}
-use lib.ListN.{length, length-set}
-use Rattle.slices.proofs.Zeroing.{FilledTo, fill_next, fill_end}
+use lib.ListN.{length}
+use Rattle.slices.proofs.Zeroing.{FilledTo}
 use Rattle.slices.proofs.fill_words.Given as goal
 
 abbrev pub invariant-loop-i : goal.invariant-loop-i

@@ -1,8 +1,7 @@
 use native.Mathlib.Omega.{arith}
-use Prim.Native.Nat.{◌-◌}
 use mathlib.Core.Path.{refl}
-use lib.ListN.{length, length-set}
-use Rattle.slices.proofs.Zeroing.{FilledTo, fill_next, fill_end}
+use lib.ListN.{length-set}
+use Rattle.slices.proofs.Zeroing.{fill_next, fill_end}
 use Rattle.slices.proofs.zero_bytes.Goals as goal
 
 pub loop-at-init : goal.loop-at-init

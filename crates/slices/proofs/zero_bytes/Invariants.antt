@@ -1,8 +1,6 @@
-use native.Mathlib.Omega.{arith}
 use Prim.Native.Nat.{◌-◌}
-use mathlib.Core.Path.{refl}
-use lib.ListN.{length, length-set}
-use Rattle.slices.proofs.Zeroing.{FilledTo, fill_next, fill_end}
+use lib.ListN.{length}
+use Rattle.slices.proofs.Zeroing.{FilledTo}
 use Rattle.slices.proofs.zero_bytes.Given as goal
 
 abbrev pub invariant-loop-at : goal.invariant-loop-at

@@ -1,4 +1,4 @@
-use Rattle.std.proofs.Common.{◌∙◌, rules}
+use Rattle.std.proofs.Common.{◌∙◌}
 use Rattle.bitvec.proofs.relation.less_signed.Goals as goal
 
 -- `less_signed` compares the two signed readings.

@@ -1,4 +1,4 @@
-use Rattle.std.proofs.Common.{rules, ne_eqb}
+use Rattle.std.proofs.Common.{ne_eqb}
 use Rattle.bitvec.specs.Relation.{relates}
 use Rattle.bitvec.proofs.relation.relates.Goals as goal
 

@@ -1,4 +1,4 @@
-use Rattle.std.proofs.Common.{◌≡◌, ℕ, ◌-◌, ◌^◌, ◌≤◌, ℤ, pos, ◌-ℤ◌, ap, ◌∙◌, ap₂, arith, rules}
+use Rattle.std.proofs.Common.{◌≡◌, ℕ, ◌-◌, ◌^◌, ◌≤◌, ℤ, pos, ◌-ℤ◌, ap, ◌∙◌, ap₂, arith}
 use Rattle.bitvec.specs.Word.{add}
 use Rattle.bitvec.specs.ByArithmetic.{by_arithmetic}
 use Rattle.bitvec.proofs.Powers.{one_shifted}

@@ -1,4 +1,4 @@
-use Rattle.std.proofs.Common.{◌≡◌, ℕ, ℤ, pos, ◌-ℤ◌, sym, ◌∙◌, subst, ap₂, arith, w32, w64, Fits, SFits, to_z, rules}
+use Rattle.std.proofs.Common.{◌≡◌, ℕ, ℤ, pos, ◌-ℤ◌, sym, ◌∙◌, subst, ap₂, arith, w32, w64, Fits, SFits, to_z}
 use mir.ValLaws.{to_z_pos, to_z-of_z}
 use Rattle.bitvec.proofs.Integers.{minus_fits}
 use Rattle.bitvec.proofs.signed.minus.Goals as goal

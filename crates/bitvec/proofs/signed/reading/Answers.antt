@@ -1,4 +1,4 @@
-use Rattle.std.proofs.Common.{◌≡◌, ℕ, ◌^◌, ◌<◌, ◌≤◌, ℤ, nat_abs, sym, ap, ◌∙◌, subst, rules}
+use Rattle.std.proofs.Common.{◌≡◌, ℕ, ◌^◌, ◌<◌, ◌≤◌, ℤ, nat_abs, sym, ap, ◌∙◌, subst}
 use Rattle.bitvec.specs.Signed.{signed}
 use Rattle.bitvec.specs.ByArithmetic.{by_arithmetic, whole_of, TwosComplement}
 use Rattle.bitvec.specs.declared.Whole.{Whole}

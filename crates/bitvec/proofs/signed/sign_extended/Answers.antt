@@ -1,4 +1,4 @@
-use Rattle.std.proofs.Common.{◌∙◌, rules}
+use Rattle.std.proofs.Common.{◌∙◌}
 use Rattle.bitvec.specs.Signed.{sign_extend}
 use Rattle.bitvec.proofs.signed.sign_extended.Goals as goal
 

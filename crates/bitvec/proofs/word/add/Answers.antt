@@ -1,4 +1,4 @@
-use Rattle.std.proofs.Common.{◌∙◌, rules}
+use Rattle.std.proofs.Common.{◌∙◌}
 use Rattle.bitvec.specs.Word.{add}
 use Rattle.bitvec.proofs.Powers.{twice_reduced}
 use Rattle.bitvec.proofs.word.add.Goals as goal

@@ -1,4 +1,4 @@
-use Rattle.std.proofs.Common.{◌∙◌, rules, eq-eqb, ne_eqb}
+use Rattle.std.proofs.Common.{◌∙◌, eq-eqb, ne_eqb}
 use Rattle.bitvec.specs.Word.{quotient}
 use Rattle.bitvec.proofs.Division.{ones_reduced}
 use Rattle.bitvec.proofs.word.quotient.Goals as goal

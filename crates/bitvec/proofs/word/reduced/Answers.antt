@@ -1,4 +1,4 @@
-use Rattle.std.proofs.Common.{sym, mod-eq_of_lt, arith, pow_pos, rules}
+use Rattle.std.proofs.Common.{sym, mod-eq_of_lt, arith, pow_pos}
 use Rattle.bitvec.proofs.Powers.{one_shifted}
 use Rattle.bitvec.proofs.word.reduced.Goals as goal
 

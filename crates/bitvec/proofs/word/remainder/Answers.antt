@@ -1,4 +1,4 @@
-use Rattle.std.proofs.Common.{rules, eq-eqb, ne_eqb}
+use Rattle.std.proofs.Common.{eq-eqb, ne_eqb}
 use Rattle.bitvec.specs.Word.{remainder}
 use Rattle.bitvec.proofs.word.remainder.Goals as goal
 

@@ -1,4 +1,4 @@
-use Rattle.std.proofs.Common.{◌∙◌, rules}
+use Rattle.std.proofs.Common.{◌∙◌}
 use Rattle.bitvec.specs.Word.{subtract}
 use Rattle.bitvec.proofs.Powers.{wrapped_difference}
 use Rattle.bitvec.proofs.word.subtract.Goals as goal

@@ -1,5 +1,4 @@
 use mathlib.Core.Path.{refl}
-use borrow.Author.Rules.{rules}
 use Rattle.cnf.proofs.Appending.{written_threes}
 use Rattle.netlist.specs.Node.{netlist_clauses, node_clauses}
 use Rattle.netlist.proofs.gates.maj_gate.Goals as goal
