@@ -1,8 +1,6 @@
 use mathlib.Core.Path.{sym, ◌∙◌}
-use Prim.Native.Nat.{◌≤◌, ◌-◌}
 use native.Mathlib.Omega.{arith}
-use borrow.Author.Tests.{not-true, not-false}
-use Rattle.run_inputs.proofs.Lists.{Left, given_start, given-next, given_great, given-over}
+use Rattle.run_inputs.proofs.Lists.{given_start, given-next, given_great, given-over}
 use Rattle.run_inputs.proofs.check_given.Goals as goal
 
 pub loop-v-init : goal.loop-v-init

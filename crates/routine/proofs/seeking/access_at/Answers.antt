@@ -1,9 +1,7 @@
-use Prim.Native.Nat.{◌+◌, ◌-◌, ◌≤◌, ◌<◌}
 use mathlib.Core.Path.{ap}
 use native.Mathlib.Omega.{arith}
-use lib.ListN.{length}
 use Rattle.routine_command.specs.Command.{command_size}
-use Rattle.routine.proofs.Flat.{Seeking, seek_start, room, few_if, few-simple, past_close, past_if, past-simple, found, never_missing, none_left, seeks}
+use Rattle.routine.proofs.Flat.{seek_start, room, few_if, few-simple, past_close, past_if, past-simple, found, never_missing, none_left, seeks}
 use Rattle.routine.proofs.seeking.access_at.Goals as goal
 
 pub loop-at-init : goal.loop-at-init

@@ -1,6 +1,5 @@
 -- The two walks meet their contracts.
-use Rattle.std.proofs.Common.{◌≡◌, ◌+◌, ◌<◌, ◌≤◌, length, ◌-◌, ◌*◌, refl, sym, ◌∙◌, arith}
-use Rattle.routine.specs.Inner.Walk.{walk_arm, walk_if}
+use Rattle.std.proofs.Common.{refl, sym, ◌∙◌, arith}
 use Rattle.routine_faults.specs.Step.{faulty, closing, simple_then, if_then}
 use Rattle.routine.specs.declared.Walked.{Walked}
 use Rattle.routine_command.proofs.Sizes.{simple-size}

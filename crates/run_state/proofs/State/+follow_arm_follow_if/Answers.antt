@@ -1,11 +1,11 @@
 -- Following an arm and following an if meet their contracts.
-use Rattle.std.proofs.Common.{◌≡◌, false, ◌<◌, ◌≤◌, ◌+◌, ◌-◌, ◌*◌, length, refl, sym, ◌∙◌, arith}
+use Rattle.std.proofs.Common.{refl, sym, ◌∙◌, arith}
 use Rattle.routine_command.proofs.Sizes.{simple-size}
 use Rattle.routine.proofs.Standing.{not_missing, close_room, simple_known, some_if, else-room, second_falls, first-arm, passed_to, second-passed}
-use Rattle.run_state.proofs.InRange.{operands_below, condition_operands}
+use Rattle.run_state.proofs.InRange.{operands_below}
 use Rattle.run_state.specs.Inner.Walker.{is_over, way_at}
 use Rattle.run_state.specs.declared.Course.{Course}
-use Rattle.run_state.proofs.Following.{Going, begun, onwards, going, here, closed, forked, fork_done, if_room}
+use Rattle.run_state.proofs.Following.{begun, onwards, going, here, closed, forked, fork_done, if_room}
 use Rattle.run_state.proofs.Reaching.{goes_on, stops, arrives}
 use Rattle.run_state.proofs.Parting.{first_falls, arm_is, second-after, astray, first_done, first-passed, second_followed}
 use Rattle.run_state.proofs.State.+follow_arm_follow_if.Goals as goal
@@ -50,8 +50,7 @@ pub follow_arm-loop-self-preserved-in-If : goal.follow_arm-loop-self-preserved-i
 follow_arm-loop-self-preserved-in-If t c =
     let w = here _ _ _ _ _ _ _ _ _ c.loop-self.invariant.1 c.requires.0 in
     let e = sym c.is_done.ensures ∙ c.if-is_done.false in
-    let l = if_room _ _ _ _ (way_at _ _ _ Course.Passing) w _ c.command_at.ensures _ _ _ _ c.in-If.is _ c.follow_if-r.ensures e in
-    (
+    let l = if_room _ _ _ _ (way_at _ _ _ Course.Passing) w _ c.command_at.ensures _ _ _ _ c.in-If.is _ c.follow_if-r.ensures e in (
       omega arith,
       onwards _ _ _ _ _ _ _ _ _ (forked _ _ _ _ _ _ _ _ _ c.loop-self.invariant.1 _ c.command_at.ensures _ c.in-If.is _ c.follow_if-r.ensures e),
       (going c.follow_if-r.result.course (is_over c.follow_if-r.result.state.outcome) e).1,
@@ -141,8 +140,7 @@ follow_if-overflow_add-at t c = omega (arith, else-room _ _ _ _ _ c.requires.0)
 pub follow_if-follow_arm-r-requires : goal.follow_if-follow_arm-r-requires
 follow_if-follow_arm-r-requires t c =
     let i = c.requires.0 in
-    let l = else-room _ _ _ _ _ i in
-    (
+    let l = else-room _ _ _ _ _ i in (
       first_falls _ _ _ _ _ c.decreases l.0 l.1 refl,
       (first-arm _ _ _ _ _ i _ c.counts_after_if-inside.ensures, c.requires.3, rw c.with_arm-first.ensures c.requires.4),
     )
@@ -166,8 +164,7 @@ follow_if-follow_arm-requires t c =
     let i = c.requires.0 in
     let k = c.counts_after_if-inside.ensures in
     let l = else-room _ _ _ _ _ i in
-    let p = c.pass_arm-past-else-arm-eq0.ensures in
-    (
+    let p = c.pass_arm-past-else-arm-eq0.ensures in (
       second_falls _ _ _ _ _ c.decreases l.0 l.1 (passed_to _ _ _ _ _ i _ k _ p).0,
       (second-passed _ _ _ _ _ i _ k _ p, c.requires.3, rw c.with_arm-second.ensures c.requires.4),
     )
