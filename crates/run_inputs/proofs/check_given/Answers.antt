@@ -1,8 +1,6 @@
 use mathlib.Core.Path.{sym, ◌∙◌}
-use Prim.Native.Nat.{◌≤◌, ◌-◌}
 use native.Mathlib.Omega.{arith}
-use borrow.Author.Tests.{not-true, not-false}
-use Rattle.run_inputs.proofs.Lists.{Left, given_start, given-next, given_great, given-over}
+use Rattle.run_inputs.proofs.Lists.{given_start, given-next, given_great, given-over}
 use Rattle.run_inputs.proofs.check_given.Goals as goal
 
 pub loop-v-init : goal.loop-v-init
@@ -12,7 +10,7 @@ pub overflow_cast-n : goal.overflow_cast-n
 overflow_cast-n c = omega arith
 
 pub returns-then-not-fits : goal.returns-then-not-fits
-returns-then-not-fits c = given_great _ _ _ _ c.loop-v.invariant.1 (omega arith) (sym c.fits.ensures ∙ not-true _ c.if-not-fits.true)
+returns-then-not-fits c = given_great _ _ _ _ c.loop-v.invariant.1 (omega arith) (sym c.fits.ensures ∙ c.if-not-fits.true)
 
 pub overflow_add-v : goal.overflow_add-v
 overflow_add-v c = omega arith
@@ -21,7 +19,7 @@ pub loop-v-smaller : goal.loop-v-smaller
 loop-v-smaller c = omega arith
 
 pub loop-v-preserved : goal.loop-v-preserved
-loop-v-preserved c = (omega arith, given-next _ _ _ _ c.loop-v.invariant.1 (omega arith) (sym c.fits.ensures ∙ not-false _ c.if-not-fits.false))
+loop-v-preserved c = (omega arith, given-next _ _ _ _ c.loop-v.invariant.1 (omega arith) (sym c.fits.ensures ∙ c.if-not-fits.false))
 
 pub returns : goal.returns
 returns c = given-over _ _ _ _ c.loop-v.invariant.1 (omega arith)

@@ -1,8 +1,5 @@
-use mathlib.Core.Path.{sym, ◌∙◌}
 use Prim.Native.Nat.{◌≤◌, ◌-◌}
-use native.Mathlib.Omega.{arith}
-use borrow.Author.Tests.{not-true, not-false}
-use Rattle.run_inputs.proofs.Lists.{Left, given_start, given-next, given_great, given-over}
+use Rattle.run_inputs.proofs.Lists.{Left}
 use Rattle.run_inputs.proofs.check_given.Given as goal
 
 abbrev pub invariant-loop-v : goal.invariant-loop-v

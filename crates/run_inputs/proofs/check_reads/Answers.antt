@@ -1,23 +1,13 @@
 use mathlib.Core.Path.{sym, ◌∙◌}
-use Prim.Native.Nat.{◌-◌}
 use native.Mathlib.Omega.{arith}
-use lib.ListN.{length}
-use borrow.Author.Tests.{not-true, not-false}
-use Rattle.routine.specs.Routine.{text_of}
-use Rattle.routine.specs.Decode.{commands_in}
-use Rattle.run_inputs.proofs.Scan.{LeftOf, scan_start, scan_over, scan_room, read-room, scan_past, scan_fits, scan_great}
+use Rattle.run_inputs.proofs.Scan.{scan_start, scan_over, scan_room, read-room, scan_past, scan_fits, scan_great}
 use Rattle.run_inputs.proofs.check_reads.Goals as goal
 
 pub loop-n-init : goal.loop-n-init
 loop-n-init c = scan_start _ _ _ _ c.requires _ _ _ c.input_count-end.ensures c.first_command-at.ensures c.given_of-n.ensures
 
-pub overflow_add-at : goal.overflow_add-at
-overflow_add-at c =
-    let l = read-room _ _ _ _ _ _ _ c.loop-n.invariant (omega arith) _ c.byte_at-op.ensures c.if-op-eq9.true in
-    omega arith
-
 pub returns-then-not-fits : goal.returns-then-not-fits
-returns-then-not-fits c = rw (← c.given_of-n.ensures) (scan_great _ _ _ _ _ _ _ c.loop-n.invariant (omega arith) _ c.byte_at-op.ensures c.if-op-eq9.true _ c.byte_at.ensures (sym c.fits.ensures ∙ not-true _ c.if-not-fits.true))
+returns-then-not-fits c = rw (← c.given_of-n.ensures) (scan_great _ _ _ _ _ _ _ c.loop-n.invariant (omega arith) _ c.byte_at-op.ensures c.if-op-eq9.true _ c.byte_at.ensures (sym c.fits.ensures ∙ c.if-not-fits.true))
 
 pub overflow_add-at : goal.overflow_add-at
 overflow_add-at c =
@@ -33,7 +23,7 @@ loop-n-smaller-then-op-eq9 c =
     omega arith
 
 pub loop-n-preserved-then-op-eq9 : goal.loop-n-preserved-then-op-eq9
-loop-n-preserved-then-op-eq9 c = scan_fits _ _ _ _ _ _ _ c.loop-n.invariant (omega arith) _ c.byte_at-op.ensures c.if-op-eq9.true _ c.byte_at.ensures (sym c.fits.ensures ∙ not-false _ c.if-not-fits.false)
+loop-n-preserved-then-op-eq9 c = scan_fits _ _ _ _ _ _ _ c.loop-n.invariant (omega arith) _ c.byte_at-op.ensures c.if-op-eq9.true _ c.byte_at.ensures (sym c.fits.ensures ∙ c.if-not-fits.false)
 
 pub overflow_add-at-else-op-eq9 : goal.overflow_add-at-else-op-eq9
 overflow_add-at-else-op-eq9 c =

@@ -1,11 +1,8 @@
-use mathlib.Core.Path.{sym, ◌∙◌}
 use Prim.Native.Nat.{◌-◌}
-use native.Mathlib.Omega.{arith}
 use lib.ListN.{length}
-use borrow.Author.Tests.{not-true, not-false}
 use Rattle.routine.specs.Routine.{text_of}
 use Rattle.routine.specs.Decode.{commands_in}
-use Rattle.run_inputs.proofs.Scan.{LeftOf, scan_start, scan_over, scan_room, read-room, scan_past, scan_fits, scan_great}
+use Rattle.run_inputs.proofs.Scan.{LeftOf}
 use Rattle.run_inputs.proofs.check_reads.Given as goal
 
 abbrev pub invariant-loop-n : goal.invariant-loop-n

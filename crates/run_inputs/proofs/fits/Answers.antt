@@ -1,5 +1,4 @@
 use mathlib.Core.Path.{◌∙◌}
-use borrow.Author.Rules.{rules}
 use Rattle.run_inputs.proofs.fits.Goals as goal
 
 pub returns : goal.returns

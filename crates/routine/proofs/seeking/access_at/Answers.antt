@@ -1,18 +1,8 @@
-use Prim.Native.Nat.{◌+◌, ◌-◌, ◌≤◌, ◌<◌}
 use mathlib.Core.Path.{ap}
 use native.Mathlib.Omega.{arith}
-use lib.ListN.{length}
 use Rattle.routine_command.specs.Command.{command_size}
-use Rattle.routine.proofs.Flat.{Seeking, seek_start, room, few_if, few-simple, past_close, past_if, past-simple, found, never_missing, none_left, seeks}
+use Rattle.routine.proofs.Flat.{seek_start, room, few_if, few-simple, past_close, past_if, past-simple, found, never_missing, none_left, seeks}
 use Rattle.routine.proofs.seeking.access_at.Goals as goal
-
--- the command at hand is whole
-whole : (m : tie.After-command-at invariant-loop decreases-loop)
-    → (m.before.before.loop.at + command_size m.command-at.result ≤ length m.before.before.before.before.before.before.args.bytes.now) × (0 < command_size m.command-at.result)
-whole m =
-    let l = m.before.before in
-    let b = l.before.before in
-    room _ _ _ _ _ _ l.loop.invariant _ m.command-at.ensures (omega arith) _ b.before.before.requires b.first-command.ensures l.before.no-counts.ensures
 
 pub loop-at-init : goal.loop-at-init
 loop-at-init c = seek_start _ _ _ _
@@ -23,23 +13,23 @@ returns-in-Missing c =
     (never_missing _ _ _ _ _ _ c.loop-at.invariant _ c.command_at.ensures (omega arith) c.in-Missing.is)
 
 pub overflow_add-at : goal.overflow_add-at
-overflow_add-at c = omega (arith, whole c, ap command_size c.in-Close.is)
+overflow_add-at c = omega (arith, room _ _ _ _ _ _ c.loop-at.invariant _ c.command_at.ensures (omega arith) _ c.requires c.first_command-at.ensures c.no_counts-k.ensures, ap command_size c.in-Close.is)
 
 pub loop-at-smaller-in-Close : goal.loop-at-smaller-in-Close
-loop-at-smaller-in-Close c = omega (arith, whole c, ap command_size c.in-Close.is)
+loop-at-smaller-in-Close c = omega (arith, room _ _ _ _ _ _ c.loop-at.invariant _ c.command_at.ensures (omega arith) _ c.requires c.first_command-at.ensures c.no_counts-k.ensures, ap command_size c.in-Close.is)
 
 pub loop-at-preserved-in-Close : goal.loop-at-preserved-in-Close
 loop-at-preserved-in-Close c = past_close _ _ _ _ _ _ c.loop-at.invariant _ c.command_at.ensures (omega arith) _ c.in-Close.is
 
 pub overflow_add-at-in-If : goal.overflow_add-at-in-If
-overflow_add-at-in-If c = omega (arith, whole c, ap command_size c.in-If.is)
+overflow_add-at-in-If c = omega (arith, room _ _ _ _ _ _ c.loop-at.invariant _ c.command_at.ensures (omega arith) _ c.requires c.first_command-at.ensures c.no_counts-k.ensures, ap command_size c.in-If.is)
 
 pub counts_after_if-k-requires : goal.counts_after_if-k-requires
 counts_after_if-k-requires c =
     few_if _ _ _ _ _ _ c.loop-at.invariant _ c.command_at.ensures (omega arith) _ c.requires c.first_command-at.ensures c.no_counts-k.ensures _ c.in-If.is
 
 pub loop-at-smaller-in-If : goal.loop-at-smaller-in-If
-loop-at-smaller-in-If c = omega (arith, whole c, ap command_size c.in-If.is)
+loop-at-smaller-in-If c = omega (arith, room _ _ _ _ _ _ c.loop-at.invariant _ c.command_at.ensures (omega arith) _ c.requires c.first_command-at.ensures c.no_counts-k.ensures, ap command_size c.in-If.is)
 
 pub loop-at-preserved-in-If : goal.loop-at-preserved-in-If
 loop-at-preserved-in-If c = rw c.counts_after_if-k.ensures (past_if _ _ _ _ _ _ c.loop-at.invariant _ c.command_at.ensures (omega arith) _ c.in-If.is)
@@ -51,14 +41,14 @@ returns-in-Here c =
     c.in-Simple.is _ c.access_here.ensures _ _ _ c.in-Here.is)
 
 pub overflow_add-at-in-Nowhere : goal.overflow_add-at-in-Nowhere
-overflow_add-at-in-Nowhere c = omega (arith, whole c, ap command_size c.in-Simple.is)
+overflow_add-at-in-Nowhere c = omega (arith, room _ _ _ _ _ _ c.loop-at.invariant _ c.command_at.ensures (omega arith) _ c.requires c.first_command-at.ensures c.no_counts-k.ensures, ap command_size c.in-Simple.is)
 
 pub counts_after-k-requires : goal.counts_after-k-requires
 counts_after-k-requires c =
     few-simple _ _ _ _ _ _ c.loop-at.invariant _ c.command_at.ensures (omega arith) _ c.requires c.first_command-at.ensures c.no_counts-k.ensures _ c.in-Simple.is
 
 pub loop-at-smaller : goal.loop-at-smaller
-loop-at-smaller c = omega (arith, whole c, ap command_size c.in-Simple.is)
+loop-at-smaller c = omega (arith, room _ _ _ _ _ _ c.loop-at.invariant _ c.command_at.ensures (omega arith) _ c.requires c.first_command-at.ensures c.no_counts-k.ensures, ap command_size c.in-Simple.is)
 
 pub loop-at-preserved : goal.loop-at-preserved
 loop-at-preserved c =

@@ -1,4 +1,3 @@
-use borrow.Author.Rules.{rules}
 use Rattle.routine.proofs.Flat.{ifs-found}
 use Rattle.routine.proofs.seeking.ifs_before.Goals as goal
 

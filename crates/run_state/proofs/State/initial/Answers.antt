@@ -1,7 +1,6 @@
 use mathlib.Core.Path.{◌≡◌}
-use Prim.Native.Nat.{◌≤◌, ◌-◌}
 use native.Mathlib.Omega.{arith}
-use Rattle.run_state.specs.State.{over, initial}
+use Rattle.run_state.specs.State.{initial}
 use Rattle.run_state.proofs.Laid.{laid_none, laid_next, laid_all}
 use Rattle.run_state.proofs.State.initial.Goals as goal
 

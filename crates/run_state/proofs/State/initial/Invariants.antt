@@ -1,8 +1,6 @@
 use mathlib.Core.Path.{◌≡◌}
 use Prim.Native.Nat.{◌≤◌, ◌-◌}
-use native.Mathlib.Omega.{arith}
-use Rattle.run_state.specs.State.{over, initial}
-use Rattle.run_state.proofs.Laid.{laid_none, laid_next, laid_all}
+use Rattle.run_state.specs.State.{over}
 use Rattle.run_state.proofs.State.initial.Given as goal
 
 abbrev pub invariant-loop-i : goal.invariant-loop-i

@@ -1,4 +1,3 @@
-use borrow.Author.Rules.{rules}
 use Rattle.run_state.proofs.runs.run_to_access.Goals as goal
 
 pub returns : goal.returns

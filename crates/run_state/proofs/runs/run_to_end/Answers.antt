@@ -1,5 +1,4 @@
 use mathlib.Core.Path.{ap, ◌∙◌}
-use borrow.Author.Rules.{rules}
 use Rattle.run_state.specs.Inner.Walker.{settled}
 use Rattle.run_state.proofs.Laws.{course-end}
 use Rattle.run_state.proofs.runs.run_to_end.Goals as goal

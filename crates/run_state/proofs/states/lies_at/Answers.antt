@@ -1,5 +1,4 @@
 use borrow.Author.Tests.{le-leb, lt-leb}
-use borrow.Author.Rules.{rules}
 use Rattle.run_state.specs.State.{lies}
 use Rattle.run_state.proofs.states.lies_at.Goals as goal
 
