@@ -19,11 +19,11 @@ returns-in-2 c = rw c.in-2.is c.less.ensures
 
 pub returns-in-3 : goal.returns-in-3
 unfolding relation
-returns-in-3 c = rw c.in-3.is (decides_opposite (rw c.requires.b_len.0 at c.less-in-3.ensures) c.turned-in-3.ensures)
+returns-in-3 c = rw c.in-3.is (decides_opposite (rw c.requires.b_len at c.less-in-3.ensures) c.turned-in-3.ensures)
 
 pub returns-in-4 : goal.returns-in-4
 unfolding relation
-returns-in-4 c = rw c.in-4.is (rw c.requires.b_len.0 at c.less-in-4.ensures)
+returns-in-4 c = rw c.in-4.is (rw c.requires.b_len at c.less-in-4.ensures)
 
 pub returns-in-5 : goal.returns-in-5
 unfolding relation
@@ -35,11 +35,11 @@ returns-in-6 c = rw c.in-6.is c.less_signed.ensures
 
 pub returns-in-7 : goal.returns-in-7
 unfolding relation
-returns-in-7 c = rw c.in-7.is (decides_opposite (rw c.requires.b_len.0 at c.less_signed-in-7.ensures) c.turned-in-7.ensures)
+returns-in-7 c = rw c.in-7.is (decides_opposite (rw c.requires.b_len at c.less_signed-in-7.ensures) c.turned-in-7.ensures)
 
 pub returns-in-8 : goal.returns-in-8
 unfolding relation
-returns-in-8 c = rw c.in-8.is (rw c.requires.b_len.0 at c.less_signed-in-8.ensures)
+returns-in-8 c = rw c.in-8.is (rw c.requires.b_len at c.less_signed-in-8.ensures)
 
 pub returns-in-9 : goal.returns-in-9
 unfolding relation

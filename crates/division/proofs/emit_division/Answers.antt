@@ -8,9 +8,14 @@ use Rattle.division.proofs.Division.{all_sized, formula}
 use Rattle.division.proofs.emit_division.Goals as goal
 
 pub write_division-requires : goal.write_division-requires
-write_division-requires c = let w = (let w = length c.args.s.now in
-    rw (← formula 18 w, ← formula 72 w)
-    (lent_of _ _ _ _ (ready-clauses (4 * suc w * w) c.requires.ready (omega (arith, formula 18 w)) (omega (arith, formula 72 w))) (sym c.fits.ensures ∙ c.if-fits.true), (c.requires.ready.next, c.requires.d_len))) in record { lent = w.0; s_bound = w.1; d_len = w.2; s_len_bound = w.3 }
+write_division-requires c =
+    let w = length c.args.s.now in
+    rw (← formula 18 w, ← formula 72 w) (record {
+      lent = lent_of _ _ _ _ (ready-clauses (4 * suc w * w) c.requires.ready (omega (arith, formula 18 w)) (omega (arith, formula 72 w))) (sym c.fits.ensures ∙ c.if-fits.true);
+      s_bound = c.requires.ready.next;
+      d_len = c.requires.d_len;
+      s_len_bound = c.requires.s_len_bound;
+    })
 
 pub returns-then-fits : goal.returns-then-fits
 returns-then-fits c = emitted-written c.write_division.ensures c.counted-next.ensures (all_sized _ _ _ _)

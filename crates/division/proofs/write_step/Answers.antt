@@ -12,14 +12,15 @@ pub slice_bounds-write_choice-end : goal.slice_bounds-write_choice-end
 slice_bounds-write_choice-end c = sym (sized-length _ c.sum_bits-difference.ensures (length c.args.r.now) (omega arith))
 
 pub write_choice-requires : goal.write_choice-requires
-write_choice-requires c = let w = (let v = length c.args.r.now in
+write_choice-requires c =
+    let v = length c.args.r.now in
     let x : length (take v c.sum_bits-difference.result) ≡ v = sized-length _ c.sum_bits-difference.ensures v (omega arith) in
-    simp x (lent-kept c.write_sum.ensures (lent-within c.requires.lent (omega arith) (omega arith)), (omega arith, refl))) in record { lent = w.0; a_bound = w.1; b_len = w.2 }
+    simp x (record { lent = lent-kept c.write_sum.ensures (lent-within c.requires.lent (omega arith) (omega arith)); a_bound = omega arith; b_len = refl })
 
 pub returns : goal.returns
 returns c =
     let v = length c.args.r.now in
-    let x : length (take v c.sum_bits-difference.result) ≡ v = sized-length _ c.sum_bits-difference.ensures v (omega (arith, c.requires.r_bound.1.1)) in
+    let x : length (take v c.sum_bits-difference.result) ≡ v = sized-length _ c.sum_bits-difference.ensures v (omega (arith, c.requires.r_nonzero)) in
     step-written c.args.first (lit_at c.args.r.now) (lit_at c.args.d.now) (lit_at (take v c.sum_bits-difference.result)) _ v
     c.write_sum.ensures c.write_choice.ensures x refl refl refl
-    (last_carry c.args.first 2 v _ (omega (arith, c.requires.r_bound.1.1)) refl) (sized-bits _ c.sum_bits-difference.ensures v (omega (arith, c.requires.r_bound.1.1)))
+    (last_carry c.args.first 2 v _ (omega (arith, c.requires.r_nonzero)) refl) (sized-bits _ c.sum_bits-difference.ensures v (omega (arith, c.requires.r_nonzero)))

@@ -7,23 +7,17 @@ use Rattle.netlist.proofs.Emitting.{ready-after, ready_weaken}
 use Rattle.netlist.specs.Inner.Emit.{Ready}
 use Rattle.translation_access.proofs.pass_access.Goals as goal
 
--- there is room for both gates
-ready : (c : tie.After-above) → Ready c.above.result.net 2
-ready c =
-    let a = c.before.before.before.before.before.before.args in
-    access-ready (lit_at a.index.now) a.size (length a.index.now) c.above.ensures c.before.before.before.before.before.before.requires.0
-
 pub overflow_mul-inside : goal.overflow_mul-inside
-overflow_mul-inside c = omega (arith, (ready c).next)
+overflow_mul-inside c = omega (arith, (access-ready (lit_at c.args.index.now) c.args.size (length c.args.index.now) c.above-up.ensures c.requires.ready).next)
 
 pub overflow_add-lit : goal.overflow_add-lit
-overflow_add-lit c = omega (arith, (ready c).next)
+overflow_add-lit c = omega (arith, (access-ready (lit_at c.args.index.now) c.args.size (length c.args.index.now) c.above-up.ensures c.requires.ready).next)
 
 pub emit-n1-requires : goal.emit-n1-requires
-emit-n1-requires c = ready_weaken (omega arith) (ready c)
+emit-n1-requires c = ready_weaken (omega arith) (access-ready (lit_at c.args.index.now) c.args.size (length c.args.index.now) c.above-up.ensures c.requires.ready)
 
 pub emit-n2-requires : goal.emit-n2-requires
-emit-n2-requires c = ready-after 1 c.emit-n1.ensures (ready c) (omega arith)
+emit-n2-requires c = ready-after 1 c.emit-n1.ensures (access-ready (lit_at c.args.index.now) c.args.size (length c.args.index.now) c.above-up.ensures c.requires.ready) (omega arith)
 
 pub returns : goal.returns
 returns c =

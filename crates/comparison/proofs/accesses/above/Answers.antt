@@ -17,7 +17,7 @@ pub slice_bounds-at_least_signed-end : goal.slice_bounds-at_least_signed-end
 slice_bounds-at_least_signed-end c = sym (sized-length _ c.const_bits-bits.ensures _ (omega (arith, c.requires.index_nonzero)))
 
 pub at_least_signed-requires : goal.at_least_signed-requires
-at_least_signed-requires c = let w = ((c.requires.ready, (sized-length _ c.const_bits-bits.ensures _ (omega (arith, c.requires.index_nonzero)), (c.requires.index_nonzero.0, omega (arith, c.requires.index_nonzero))))) in record { ready = w.0; b_len = w.1; a_nonzero = w.2 }
+at_least_signed-requires c = record { ready = c.requires.ready; b_len = sized-length _ c.const_bits-bits.ensures _ (omega (arith, c.requires.index_nonzero)); a_nonzero = (c.requires.index_nonzero.0, omega (arith, c.requires.index_nonzero)) }
 
 pub returns : goal.returns
 returns c =

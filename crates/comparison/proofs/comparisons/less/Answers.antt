@@ -3,7 +3,7 @@ use Rattle.comparison.proofs.comparisons.less.Goals as goal
 
 pub no_carry-requires : goal.no_carry-requires
 no_carry-requires c =
-    carry_room _ _ 2 _ c.emit_difference.ensures c.requires.b_len.1.0 c.requires.ready
+    carry_room _ _ 2 _ c.emit_difference.ensures c.requires.a_nonzero.0 c.requires.ready
 
 pub returns : goal.returns
-returns c = decides_carry _ _ 2 _ c.emit_difference.ensures c.requires.b_len.1.0 c.no_carry.ensures
+returns c = decides_carry _ _ 2 _ c.emit_difference.ensures c.requires.a_nonzero.0 c.no_carry.ensures

@@ -10,41 +10,42 @@ use Rattle.translation_command.proofs.commands.encode_compute.Goals as goal
 
 pub slice_bounds-compute-end : goal.slice_bounds-compute-end
 slice_bounds-compute-end c =
-    let f = compute_fine c.args.bytes.now c.args.h c.args.op c.args.d c.args.a c.args.b c.requires.lits_len.1.0 in
-    part_end c.args.bytes.now c.args.h c.args.a _ _ c.requires.lits_len.1.1 f.1 c.place_of-x.ensures (c.width_of-w.ensures ∙ f.3) c.args.lits.now c.requires.lits_len.0
+    let f = compute_fine c.args.bytes.now c.args.h c.args.op c.args.d c.args.a c.args.b c.requires.sound.0 in
+    part_end c.args.bytes.now c.args.h c.args.a _ _ c.requires.sound.1 f.1 c.place_of-x.ensures (c.width_of-w.ensures ∙ f.3) c.args.lits.now c.requires.lits_len
 
 pub slice_bounds-compute-end-2 : goal.slice_bounds-compute-end-2
 slice_bounds-compute-end-2 c =
-    let f = compute_fine c.args.bytes.now c.args.h c.args.op c.args.d c.args.a c.args.b c.requires.lits_len.1.0 in
-    part_end c.args.bytes.now c.args.h c.args.b _ _ c.requires.lits_len.1.1 f.2 c.place_of-y.ensures (c.width_of-w.ensures ∙ f.4) c.args.lits.now c.requires.lits_len.0
+    let f = compute_fine c.args.bytes.now c.args.h c.args.op c.args.d c.args.a c.args.b c.requires.sound.0 in
+    part_end c.args.bytes.now c.args.h c.args.b _ _ c.requires.sound.1 f.2 c.place_of-y.ensures (c.width_of-w.ensures ∙ f.4) c.args.lits.now c.requires.lits_len
 
 pub compute-r-requires : goal.compute-r-requires
-compute-r-requires c = let w = (let f = compute_fine c.args.bytes.now c.args.h c.args.op c.args.d c.args.a c.args.b c.requires.lits_len.1.0 in
-    let x = part_length c.args.bytes.now c.args.h c.args.a _ _ c.requires.lits_len.1.1 f.1 c.place_of-x.ensures (c.width_of-w.ensures ∙ f.3) c.args.lits.now c.requires.lits_len.0 in
-    let y = part_length c.args.bytes.now c.args.h c.args.b _ _ c.requires.lits_len.1.1 f.2 c.place_of-y.ensures (c.width_of-w.ensures ∙ f.4) c.args.lits.now c.requires.lits_len.0 in
-    let r = ranged_as c.args.bytes.now c.args.h c.args.a _ _ c.requires.lits_len.1.1 f.1 c.place_of-x.ensures (c.width_of-w.ensures ∙ f.3) in
-    (ready_weaken (omega arith) c.requires.ready, (y ∙ sym x, (omega (arith, x, r.0), omega (arith, x, r.1))))) in record { ready = w.0; b_len = w.1; a_nonzero = w.2 }
+compute-r-requires c =
+    let f = compute_fine c.args.bytes.now c.args.h c.args.op c.args.d c.args.a c.args.b c.requires.sound.0 in
+    let x = part_length c.args.bytes.now c.args.h c.args.a _ _ c.requires.sound.1 f.1 c.place_of-x.ensures (c.width_of-w.ensures ∙ f.3) c.args.lits.now c.requires.lits_len in
+    let y = part_length c.args.bytes.now c.args.h c.args.b _ _ c.requires.sound.1 f.2 c.place_of-y.ensures (c.width_of-w.ensures ∙ f.4) c.args.lits.now c.requires.lits_len in
+    let r = ranged_as c.args.bytes.now c.args.h c.args.a _ _ c.requires.sound.1 f.1 c.place_of-x.ensures (c.width_of-w.ensures ∙ f.3) in
+    record { ready = ready_weaken (omega arith) c.requires.ready; b_len = y ∙ sym x; a_nonzero = (omega (arith, x, r.0), omega (arith, x, r.1)) }
 
 pub slice_bounds-bits-end : goal.slice_bounds-bits-end
 slice_bounds-bits-end c =
-    let f = compute_fine c.args.bytes.now c.args.h c.args.op c.args.d c.args.a c.args.b c.requires.lits_len.1.0 in
-    omega (arith, table_length _ c.compute-r.ensures.bits, ranged_as c.args.bytes.now c.args.h c.args.d _ _ c.requires.lits_len.1.1 f.0 c.place_of.ensures c.width_of-w.ensures)
+    let f = compute_fine c.args.bytes.now c.args.h c.args.op c.args.d c.args.a c.args.b c.requires.sound.0 in
+    omega (arith, table_length _ c.compute-r.ensures.bits, ranged_as c.args.bytes.now c.args.h c.args.d _ _ c.requires.sound.1 f.0 c.place_of.ensures c.width_of-w.ensures)
 
 pub slice_bounds-store_bits-end : goal.slice_bounds-store_bits-end
 slice_bounds-store_bits-end c =
-    let f = compute_fine c.args.bytes.now c.args.h c.args.op c.args.d c.args.a c.args.b c.requires.lits_len.1.0 in
-    sym (sized-length _ c.compute-r.ensures.bits _ (omega (arith, ranged_as c.args.bytes.now c.args.h c.args.d _ _ c.requires.lits_len.1.1 f.0 c.place_of.ensures c.width_of-w.ensures)))
+    let f = compute_fine c.args.bytes.now c.args.h c.args.op c.args.d c.args.a c.args.b c.requires.sound.0 in
+    sym (sized-length _ c.compute-r.ensures.bits _ (omega (arith, ranged_as c.args.bytes.now c.args.h c.args.d _ _ c.requires.sound.1 f.0 c.place_of.ensures c.width_of-w.ensures)))
 
 pub store_bits-requires : goal.store_bits-requires
 store_bits-requires c =
-    let f = compute_fine c.args.bytes.now c.args.h c.args.op c.args.d c.args.a c.args.b c.requires.lits_len.1.0 in
-    storable c.args.bytes.now c.args.h c.args.d _ _ c.requires.lits_len.1.1 f.0 c.place_of.ensures c.width_of-w.ensures c.args.lits.now c.requires.lits_len.0 _ c.compute-r.ensures.bits
+    let f = compute_fine c.args.bytes.now c.args.h c.args.op c.args.d c.args.a c.args.b c.requires.sound.0 in
+    storable c.args.bytes.now c.args.h c.args.d _ _ c.requires.sound.1 f.0 c.place_of.ensures c.width_of-w.ensures c.args.lits.now c.requires.lits_len _ c.compute-r.ensures.bits
 
 pub returns : goal.returns
 returns c =
-    let f = compute_fine c.args.bytes.now c.args.h c.args.op c.args.d c.args.a c.args.b c.requires.lits_len.1.0 in
-    let x = part-bits c.args.bytes.now c.args.h c.args.a _ _ c.requires.lits_len.1.1 f.1 c.place_of-x.ensures (c.width_of-w.ensures ∙ f.3) c.args.lits.now c.requires.lits_len.0 in
-    let y = part-bits c.args.bytes.now c.args.h c.args.b _ _ c.requires.lits_len.1.1 f.2 c.place_of-y.ensures (c.width_of-w.ensures ∙ f.4) c.args.lits.now c.requires.lits_len.0 in
-    let n = part_length c.args.bytes.now c.args.h c.args.a _ _ c.requires.lits_len.1.1 f.1 c.place_of-x.ensures (c.width_of-w.ensures ∙ f.3) c.args.lits.now c.requires.lits_len.0 ∙ c.width_of-w.ensures in
+    let f = compute_fine c.args.bytes.now c.args.h c.args.op c.args.d c.args.a c.args.b c.requires.sound.0 in
+    let x = part-bits c.args.bytes.now c.args.h c.args.a _ _ c.requires.sound.1 f.1 c.place_of-x.ensures (c.width_of-w.ensures ∙ f.3) c.args.lits.now c.requires.lits_len in
+    let y = part-bits c.args.bytes.now c.args.h c.args.b _ _ c.requires.sound.1 f.2 c.place_of-y.ensures (c.width_of-w.ensures ∙ f.4) c.args.lits.now c.requires.lits_len in
+    let n = part_length c.args.bytes.now c.args.h c.args.a _ _ c.requires.sound.1 f.1 c.place_of-x.ensures (c.width_of-w.ensures ∙ f.3) c.args.lits.now c.requires.lits_len ∙ c.width_of-w.ensures in
     let m = makes_number (λ i. computation c.args.op c.args.n.next (x i) (y i) (n i)) c.compute-r.ensures in
-    record { emitted = m.emitted; lits_after = stored c.args.bytes.now c.args.h c.args.d _ _ c.requires.lits_len.1.1 f.0 c.place_of.ensures c.width_of-w.ensures c.args.lits.now c.requires.lits_len.0 _ m.bits _ c.store_bits.ensures }
+    record { emitted = m.emitted; lits_after = stored c.args.bytes.now c.args.h c.args.d _ _ c.requires.sound.1 f.0 c.place_of.ensures c.width_of-w.ensures c.args.lits.now c.requires.lits_len _ m.bits _ c.store_bits.ensures }

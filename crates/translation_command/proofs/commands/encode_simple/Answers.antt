@@ -10,20 +10,20 @@ use Rattle.translation_command.proofs.commands.encode_simple.Goals as goal
 
 pub encode_set-requires : goal.encode_set-requires
 encode_set-requires c =
-    record { lits_len = c.requires.lits_len.0; sound = (rw c.in-Set.is at c.requires.lits_len.1.0, c.requires.lits_len.1.1) }
+    record { lits_len = c.requires.lits_len; sound = (rw c.in-Set.is at c.requires.sound.0, c.requires.sound.1) }
 
 pub encode_convert-requires : goal.encode_convert-requires
 encode_convert-requires c =
-    record { lits_len = c.requires.lits_len.0; sound = (rw c.in-Convert.is at c.requires.lits_len.1.0, c.requires.lits_len.1.1) }
+    record { lits_len = c.requires.lits_len; sound = (rw c.in-Convert.is at c.requires.sound.0, c.requires.sound.1) }
 
 pub encode_compute-net-requires : goal.encode_compute-net-requires
-encode_compute-net-requires c = let w = ((c.requires.ready, (c.requires.lits_len.0, (rw c.in-Compute.is at c.requires.lits_len.1.0, c.requires.lits_len.1.1)))) in record { ready = w.0; lits_len = w.1; sound = w.2 }
+encode_compute-net-requires c = record { ready = c.requires.ready; lits_len = c.requires.lits_len; sound = (rw c.in-Compute.is at c.requires.sound.0, c.requires.sound.1) }
 
 pub encode_read-requires : goal.encode_read-requires
-encode_read-requires c = let w = ((c.requires.ready, (c.requires.lits_len.0, rw c.in-Read.is at c.requires.lits_len.1))) in record { ready = w.0; lits_len = w.1; sound = w.2 }
+encode_read-requires c = record { ready = c.requires.ready; lits_len = c.requires.lits_len; sound = rw c.in-Read.is at c.requires.sound }
 
 pub encode_access-requires : goal.encode_access-requires
-encode_access-requires c = let w = ((c.requires.ready, (c.requires.lits_len.0, ((write_fine c.args.bytes.now c.args.h _ _ _ (rw c.in-Write.is at c.requires.lits_len.1.0)).1, c.requires.lits_len.1.1)))) in record { ready = w.0; lits_len = w.1; i_lt_variables = w.2 }
+encode_access-requires c = record { ready = c.requires.ready; lits_len = c.requires.lits_len; i_lt_variables = ((write_fine c.args.bytes.now c.args.h _ _ _ (rw c.in-Write.is at c.requires.sound.0)).1, c.requires.sound.1) }
 
 pub returns-in-Set : goal.returns-in-Set
 unfolding simple

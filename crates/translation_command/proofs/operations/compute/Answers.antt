@@ -9,21 +9,21 @@ use Rattle.translation_command.proofs.Commanding.{division_few, square_few}
 use Rattle.translation_command.proofs.operations.compute.Goals as goal
 
 pub emit_product-requires : goal.emit_product-requires
-emit_product-requires c = let w = ((ready_weaken (square_few (length c.args.a.now) c.requires.b_len.1.1) c.requires.ready, (c.requires.b_len.0, (c.requires.b_len.1.0, omega (arith, c.requires.b_len.1.1))))) in record { ready = w.0; t_len = w.1; s_nonzero = w.2 }
+emit_product-requires c = record { ready = ready_weaken (square_few (length c.args.a.now) c.requires.a_nonzero.1) c.requires.ready; t_len = c.requires.b_len; s_nonzero = (c.requires.a_nonzero.0, omega (arith, c.requires.a_nonzero.1)) }
 
 pub quotient_bits-bits-requires : goal.quotient_bits-bits-requires
 quotient_bits-bits-requires c =
-    (omega (arith, c.requires.ready.next, division_few (length c.args.a.now) c.requires.b_len.1.1), omega (arith, c.requires.b_len.1.1))
+    (omega (arith, c.requires.ready.next, division_few (length c.args.a.now) c.requires.a_nonzero.1), omega (arith, c.requires.a_nonzero.1))
 
 pub emit_division-net-requires : goal.emit_division-net-requires
-emit_division-net-requires c = let w = ((ready_weaken (division_few (length c.args.a.now) c.requires.b_len.1.1) c.requires.ready, (c.requires.b_len.0, omega (arith, c.requires.b_len.1.1)))) in record { ready = w.0; d_len = w.1; s_len_bound = w.2 }
+emit_division-net-requires c = record { ready = ready_weaken (division_few (length c.args.a.now) c.requires.a_nonzero.1) c.requires.ready; d_len = c.requires.b_len; s_len_bound = omega (arith, c.requires.a_nonzero.1) }
 
 pub remainder_bits-bits-requires : goal.remainder_bits-bits-requires
 remainder_bits-bits-requires c =
-    (omega (arith, c.requires.ready.next, division_few (length c.args.a.now) c.requires.b_len.1.1), c.requires.b_len.1.0, omega (arith, c.requires.b_len.1.1))
+    (omega (arith, c.requires.ready.next, division_few (length c.args.a.now) c.requires.a_nonzero.1), c.requires.a_nonzero.0, omega (arith, c.requires.a_nonzero.1))
 
 pub emit_division-net-requires-in-15 : goal.emit_division-net-requires-in-15
-emit_division-net-requires-in-15 c = let w = ((ready_weaken (division_few (length c.args.a.now) c.requires.b_len.1.1) c.requires.ready, (c.requires.b_len.0, omega (arith, c.requires.b_len.1.1)))) in record { ready = w.0; d_len = w.1; s_len_bound = w.2 }
+emit_division-net-requires-in-15 c = record { ready = ready_weaken (division_few (length c.args.a.now) c.requires.a_nonzero.1) c.requires.ready; d_len = c.requires.b_len; s_len_bound = omega (arith, c.requires.a_nonzero.1) }
 
 pub returns-in-3 : goal.returns-in-3
 unfolding computation

@@ -5,21 +5,23 @@ use Rattle.translation_state.specs.Inner.Reach.{wires_of}
 use Rattle.translation_if.proofs.Branching.{arms_joined, join-few}
 use Rattle.translation_if.proofs.joins.join_arms.Goals as goal
 
--- there is room for the gate of arrival
-ready : (c : tie.After-join-groups) → Ready c.join-groups.result 2
-ready c =
-    let a = c.before.before.before.before.before.before.before.before.before.args in
-    let p = c.before.before.before.before.before.before.before.before.before.requires in
-    ready-after 2 c.join-groups.ensures.0 p.0 (omega (arith, join-few a.bytes.now a.h p.1.1 a.n.next a.c a.lits.now a.other.now a.h.variables (omega arith), p.1.1.few))
-
 pub overflow_mul-arrival : goal.overflow_mul-arrival
-overflow_mul-arrival c = omega (arith, (ready c).next)
+overflow_mul-arrival c =
+    let room : Ready c.join_groups-n1.result 2 =
+      ready-after 2 c.join_groups-n1.ensures.emitted c.requires.ready (omega (arith, join-few c.args.bytes.now c.args.h c.requires.fine c.args.n.next c.args.c c.args.lits.now c.args.other.now c.args.h.variables (omega arith), c.requires.fine.few))
+    in omega (arith, room.next)
 
 pub overflow_add-arrival : goal.overflow_add-arrival
-overflow_add-arrival c = omega (arith, (ready c).next)
+overflow_add-arrival c =
+    let room : Ready c.join_groups-n1.result 2 =
+      ready-after 2 c.join_groups-n1.ensures.emitted c.requires.ready (omega (arith, join-few c.args.bytes.now c.args.h c.requires.fine c.args.n.next c.args.c c.args.lits.now c.args.other.now c.args.h.variables (omega arith), c.requires.fine.few))
+    in omega (arith, room.next)
 
 pub emit-net-requires : goal.emit-net-requires
-emit-net-requires c = ready_weaken (omega arith) (ready c)
+emit-net-requires c =
+    let room : Ready c.join_groups-n1.result 2 =
+      ready-after 2 c.join_groups-n1.ensures.emitted c.requires.ready (omega (arith, join-few c.args.bytes.now c.args.h c.requires.fine c.args.n.next c.args.c c.args.lits.now c.args.other.now c.args.h.variables (omega arith), c.requires.fine.few))
+    in ready_weaken (omega arith) room
 
 pub returns : goal.returns
 returns c =

@@ -5,6 +5,7 @@ use lib.ListN.{length, take, get_or, set, length-set}
 use lib.Seq.{sets, take-length}
 use Rattle.arithmetic.proofs.Laws.{sets_turn}
 use native.Mathlib.Omega.{arith}
+use borrow.Author.Rules.{rules}
 use Rattle.translation_state.proofs.literals.store_bits.Goals as goal
 
 pub loop-j-preserved : goal.loop-j-preserved
