@@ -8,7 +8,7 @@ use std::env;
 use std::path::{Path, PathBuf};
 
 const DIRECTORY_VARIABLE: &str = "PELLET_LIB_DIR";
-const DEFAULT_DIRECTORY: &str = "../target/staticlib";
+const DEFAULT_DIRECTORY: &str = "../crates/capi/out";
 
 fn main() {
     let directory = library_directory();
@@ -18,7 +18,7 @@ fn main() {
     println!("cargo:rerun-if-changed=build.rs");
     assert!(
         library.is_file(),
-        "{} is missing: build it with `rt staticlib capi` at the repository root, \
+        "{} is missing: build it with `rt lib` in crates/capi, \
          or name its directory in {DIRECTORY_VARIABLE}",
         library.display()
     );

@@ -21,7 +21,7 @@ slice_bounds-answer_bytes-end c =
 
 pub slice_bounds-answer_bytes-end-2 : goal.slice_bounds-answer_bytes-end-2
 slice_bounds-answer_bytes-end-2 c =
-    (within _ _ _ c.in-Bytes-report.is c.requires.within_2.0).1
+    (within _ _ _ c.in-Bytes-report.is c.requires.within_2).1
 
 pub returns : goal.returns
 returns c =
