@@ -1,10 +1,10 @@
 -- What a lead has that was read from a report. Assumes nothing.
 use mathlib.Core.Path.{◌≡◌, refl, ap, ◌∙◌}
-use mathlib.Core.List.{List, map}
+use mathlib.Core.List.{List}
 use mathlib.Core.Bool.{Bool, true, false, cond}
 use Prim.Native.Nat.{ℕ, ◌+◌, ◌-◌, ◌≤◌, ◌<◌}
 use native.Mathlib.Omega.{arith}
-use lib.ListN.{length, take, drop, replicate, length-drop, length-append, length-replicate, length-map}
+use lib.ListN.{length, take, drop, replicate, length-drop, length-append, length-replicate}
 use lib.Seq.{take_at, length-take-le}
 use lib.Dec.{leb}
 use borrow.Author.Tests.{le-leb, lt-leb, leb-true}
@@ -39,11 +39,11 @@ module _ (bs : List ℕ) (h : Header) (k : Counts) (i : IsRoutineWith bs h k) wh
 
   -- the arrays of a lead, as the code holds them, are not shorter
   module _ (l : Lead) where
-    pub decisions_held : length (map (λ (v : ℕ). v) l.decisions) ≡ 32 → k.ifs ≤ length l.decisions
-    decisions_held e = omega (arith, fits.decisions, e, length-map l.decisions (λ (v : ℕ). v))
+    pub decisions_held : length l.decisions ≡ 32 → k.ifs ≤ length l.decisions
+    decisions_held e = omega (arith, fits.decisions, e)
 
-    pub inputs_held : length (map (λ (v : ℕ). v) l.inputs) ≡ 96 → input_count h k ≤ length l.inputs
-    inputs_held e = omega (arith, fits.inputs, e, length-map l.inputs (λ (v : ℕ). v))
+    pub inputs_held : length l.inputs ≡ 96 → input_count h k ≤ length l.inputs
+    inputs_held e = omega (arith, fits.inputs, e)
 
   pub counted_routine : IsRoutine bs h
   counted_routine = record { commands = i.commands; counts = k; decodes = i.decodes }

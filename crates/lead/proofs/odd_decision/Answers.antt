@@ -1,11 +1,9 @@
-use mathlib.Core.Path.{◌≡◌, refl, ◌∙◌}
-use Prim.Native.Nat.{◌+◌}
+use mathlib.Core.Path.{refl, ◌∙◌}
 use native.Mathlib.Omega.{arith}
-use lib.ListN.{length}
 use borrow.Author.Tests.{le-leb, lt-leb}
 use Rattle.routine_header.proofs.Firsts.{bad_none, bad_here, bad_next}
 use Rattle.lead.specs.Lead.{first_odd}
-use Rattle.lead.proofs.Leads.{is_decision, odd_from}
+use Rattle.lead.proofs.Leads.{is_decision}
 use Rattle.lead.proofs.odd_decision.Goals as goal
 
 pub loop-left-init : goal.loop-left-init

@@ -1,11 +1,7 @@
-use mathlib.Core.Path.{◌≡◌, refl, ◌∙◌}
+use mathlib.Core.Path.{◌≡◌}
 use Prim.Native.Nat.{◌+◌}
-use native.Mathlib.Omega.{arith}
 use lib.ListN.{length}
-use borrow.Author.Tests.{le-leb, lt-leb}
-use Rattle.routine_header.proofs.Firsts.{bad_none, bad_here, bad_next}
-use Rattle.lead.specs.Lead.{first_odd}
-use Rattle.lead.proofs.Leads.{is_decision, odd_from}
+use Rattle.lead.proofs.Leads.{odd_from}
 use Rattle.lead.proofs.odd_decision.Given as goal
 
 abbrev pub invariant-loop-left : goal.invariant-loop-left

@@ -1,8 +1,5 @@
 use mathlib.Core.Path.{◌≡◌, refl}
-use Prim.Native.Nat.{◌≤◌, ◌-◌}
 use native.Mathlib.Omega.{arith}
-use lib.ListN.{take, drop}
-use Rattle.report_witness.specs.Lead.{padded}
 use Rattle.report_witness.proofs.Padding.{bytes_next}
 use Rattle.report_witness.proofs.arrays.bytes_from.Goals as goal
 

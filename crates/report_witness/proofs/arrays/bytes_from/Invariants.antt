@@ -1,9 +1,7 @@
-use mathlib.Core.Path.{◌≡◌, refl}
+use mathlib.Core.Path.{◌≡◌}
 use Prim.Native.Nat.{◌≤◌, ◌-◌}
-use native.Mathlib.Omega.{arith}
 use lib.ListN.{take, drop}
 use Rattle.report_witness.specs.Lead.{padded}
-use Rattle.report_witness.proofs.Padding.{bytes_next}
 use Rattle.report_witness.proofs.arrays.bytes_from.Given as goal
 
 abbrev pub invariant-loop-i : goal.invariant-loop-i

@@ -1,8 +1,7 @@
 use mathlib.Core.Path.{◌≡◌, refl, ap, ◌∙◌}
-use Prim.Native.Nat.{◌≤◌, ◌-◌, ◌+◌, ◌*◌}
 use native.Mathlib.Omega.{arith}
 use Rattle.slices.specs.Bytes.{word}
-use Rattle.report_witness.specs.Lead.{words_from, padded}
+use Rattle.report_witness.specs.Lead.{words_from}
 use Rattle.report_witness.proofs.Padding.{words-next}
 use Rattle.report_witness.proofs.arrays.words_from.Goals as goal
 

@@ -1,9 +1,6 @@
-use mathlib.Core.Path.{◌≡◌, refl, ap, ◌∙◌}
+use mathlib.Core.Path.{◌≡◌}
 use Prim.Native.Nat.{◌≤◌, ◌-◌, ◌+◌, ◌*◌}
-use native.Mathlib.Omega.{arith}
-use Rattle.slices.specs.Bytes.{word}
 use Rattle.report_witness.specs.Lead.{words_from, padded}
-use Rattle.report_witness.proofs.Padding.{words-next}
 use Rattle.report_witness.proofs.arrays.words_from.Given as goal
 
 abbrev pub invariant-loop-i : goal.invariant-loop-i

@@ -1,36 +1,26 @@
 use mathlib.Core.Path.{sym}
-use Prim.Native.Nat.{◌≤◌}
-use lib.ListN.{length}
 use lib.Seq.{length-take-le}
-use Rattle.routine_faults.specs.Inputs.{input_count}
 use Rattle.report_witness.proofs.Reading.{decisions_held, inputs_held, counted_routine}
 use Rattle.report_witness.proofs.Running.{run-refused, run_settled}
 use Rattle.report_witness.proofs.runs.run_witness.Goals as goal
 
--- the lead's arrays have room
-room : (c : tie.Start) → (c.args.k.ifs ≤ length c.args.lead.decisions) × (input_count c.args.h c.args.k ≤ length c.args.lead.inputs)
-room c =
-    let g = c.well-formed.1.0.1.1.1 in
-    (decisions_held _ _ _ c.requires c.args.lead g.0.1.0.1, inputs_held _ _ _ c.requires c.args.lead g.1.0.1.0.1)
-
 pub slice_bounds-inputs-end : goal.slice_bounds-inputs-end
-slice_bounds-inputs-end c = rw c.input_count-n.ensures (room c).1
+slice_bounds-inputs-end c = rw c.input_count-n.ensures (inputs_held _ _ _ c.requires c.args.lead c.well_formed.1.0.1.1.1.1.0.1.0.1)
 
 pub slice_bounds-check_words-end : goal.slice_bounds-check_words-end
-slice_bounds-check_words-end c = sym (length-take-le _ _ (rw c.input_count-n.ensures (room c).1))
+slice_bounds-check_words-end c = sym (length-take-le _ _ (rw c.input_count-n.ensures (inputs_held _ _ _ c.requires c.args.lead c.well_formed.1.0.1.1.1.1.0.1.0.1)))
 
 pub slice_bounds-inputs-end-in-Fit : goal.slice_bounds-inputs-end-in-Fit
-slice_bounds-inputs-end-in-Fit c = rw c.input_count-n.ensures (room c).1
+slice_bounds-inputs-end-in-Fit c = rw c.input_count-n.ensures (inputs_held _ _ _ c.requires c.args.lead c.well_formed.1.0.1.1.1.1.0.1.0.1)
 
 pub slice_bounds-run_to_access-end : goal.slice_bounds-run_to_access-end
-slice_bounds-run_to_access-end c =
-    sym (length-take-le _ _ (rw c.input_count-n.ensures (room c).1))
+slice_bounds-run_to_access-end c = sym (length-take-le _ _ (rw c.input_count-n.ensures (inputs_held _ _ _ c.requires c.args.lead c.well_formed.1.0.1.1.1.1.0.1.0.1)))
 
 pub slice_bounds-decisions-end : goal.slice_bounds-decisions-end
-slice_bounds-decisions-end c = (room c).0
+slice_bounds-decisions-end c = decisions_held _ _ _ c.requires c.args.lead c.well_formed.1.0.1.1.1.0.1.0.1
 
 pub slice_bounds-run_to_access-end-in-Fit : goal.slice_bounds-run_to_access-end-in-Fit
-slice_bounds-run_to_access-end-in-Fit c = sym (length-take-le _ _ (room c).0)
+slice_bounds-run_to_access-end-in-Fit c = sym (length-take-le _ _ (decisions_held _ _ _ c.requires c.args.lead c.well_formed.1.0.1.1.1.0.1.0.1))
 
 pub run_to_access-course-requires : goal.run_to_access-course-requires
 run_to_access-course-requires c = counted_routine _ _ _ c.requires

@@ -1,5 +1,4 @@
 use borrow.Author.Tests.{le-leb, lt-leb}
-use borrow.Author.Rules.{rules}
 use Rattle.run.specs.Inner.Admitted.{admitted_room}
 use Rattle.run.proofs.admission.admit_room.Goals as goal
 

@@ -1,4 +1,3 @@
-use borrow.Author.Rules.{rules}
 use Rattle.run.proofs.answers.answer_of.Goals as goal
 
 pub returns-in-Stopped : goal.returns-in-Stopped

@@ -1,8 +1,6 @@
 use mathlib.Core.Path.{◌≡◌}
 use Prim.Native.Nat.{◌≤◌, ◌-◌}
-use native.Mathlib.Omega.{arith}
 use Rattle.run_state.specs.State.{over}
-use Rattle.run_state.proofs.Laid.{laid_none, laid_next, laid-length, laid_all}
 use Rattle.run.proofs.buffers.hand_out_trail.Given as goal
 
 abbrev pub invariant-loop-i : goal.invariant-loop-i

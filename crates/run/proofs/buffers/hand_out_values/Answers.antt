@@ -1,7 +1,5 @@
 use mathlib.Core.Path.{◌≡◌}
-use Prim.Native.Nat.{◌≤◌, ◌-◌}
 use native.Mathlib.Omega.{arith}
-use Rattle.run_state.specs.State.{over}
 use Rattle.run_state.proofs.Laid.{laid_none, laid_next, laid-length, laid_all}
 use Rattle.run.proofs.buffers.hand_out_values.Goals as goal
 
