@@ -7,11 +7,11 @@ use Rattle.report_shorter.proofs.shorter.Goals as goal
 
 pub returns-then-not-same : goal.returns-then-not-same
 returns-then-not-same c =
-    record { hands_back = not_alike _ _ _ _ (record { place = refl; bytes = refl }) (sym c.alike-compared.ensures.value ∙ c.in-Alike.is ∙ ap Compared.Alike (not-true _ c.if-not-same.true)); place_after = c.row_of_pair-told.ensures ∙ ap pair_row c.alike-compared.ensures.value }
+    record { hands_back = not_alike _ _ _ _ (record { place = refl; bytes = refl }) (sym c.alike-compared.ensures.value ∙ c.in-Alike.is ∙ ap Compared.Alike (c.if-not-same.true)); place_after = c.row_of_pair-told.ensures ∙ ap pair_row c.alike-compared.ensures.value }
 
 pub returns-then-second-first : goal.returns-then-second-first
 returns-then-second-first c =
-    record { hands_back = keeps-second _ _ _ (sym c.alike-compared.ensures.value ∙ c.in-Alike.is ∙ ap Compared.Alike (not-false _ c.if-not-same.false)) c.if-second-first.true; place_after = c.row_of_pair-told.ensures ∙ ap pair_row c.alike-compared.ensures.value }
+    record { hands_back = keeps-second _ _ _ (sym c.alike-compared.ensures.value ∙ c.in-Alike.is ∙ ap Compared.Alike (c.if-not-same.false)) c.if-second-first.true; place_after = c.row_of_pair-told.ensures ∙ ap pair_row c.alike-compared.ensures.value }
 
 pub returns-in-Refused : goal.returns-in-Refused
 returns-in-Refused c =
@@ -19,4 +19,4 @@ returns-in-Refused c =
 
 pub returns-else-second-first : goal.returns-else-second-first
 returns-else-second-first c =
-    record { hands_back = keeps-first _ _ _ (sym c.alike-compared.ensures.value ∙ c.in-Alike.is ∙ ap Compared.Alike (not-false _ c.if-not-same.false)) c.if-second-first.false; place_after = c.row_of_pair-told.ensures ∙ ap pair_row c.alike-compared.ensures.value }
+    record { hands_back = keeps-first _ _ _ (sym c.alike-compared.ensures.value ∙ c.in-Alike.is ∙ ap Compared.Alike (c.if-not-same.false)) c.if-second-first.false; place_after = c.row_of_pair-told.ensures ∙ ap pair_row c.alike-compared.ensures.value }

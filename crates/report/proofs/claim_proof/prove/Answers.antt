@@ -6,15 +6,11 @@ use Rattle.report_witness.proofs.Reading.{decisions_held, counted_routine}
 use Rattle.report.proofs.Fitting.{prove_refused, prove_marks, prove_values, prove_trail, prove_begins, proved}
 use Rattle.report.proofs.claim_proof.prove.Goals as goal
 
--- the lead's array has room for the decisions
-room : (c : tie.Start) → c.args.k.ifs ≤ length c.args.lead.decisions
-room c = decisions_held _ _ _ c.requires.0 c.args.lead c.well-formed.1.1.1.1.1.1.0.1.1.1.0.1.0.1
-
 pub slice_bounds-decisions-end : goal.slice_bounds-decisions-end
-slice_bounds-decisions-end c = room c
+slice_bounds-decisions-end c = decisions_held _ _ _ c.requires.0 c.args.lead c.well_formed.1.1.1.1.1.1.0.1.1.1.0.1.0.1
 
 pub slice_bounds-fit-end : goal.slice_bounds-fit-end
-slice_bounds-fit-end c = sym (length-take-le _ _ (room c))
+slice_bounds-fit-end c = sym (length-take-le _ _ (decisions_held _ _ _ c.requires.0 c.args.lead c.well_formed.1.1.1.1.1.1.0.1.1.1.0.1.0.1))
 
 pub fit-requires : goal.fit-requires
 fit-requires c = counted_routine _ _ _ c.requires.0

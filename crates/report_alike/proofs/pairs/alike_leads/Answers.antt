@@ -8,30 +8,24 @@ use Rattle.report_witness.proofs.Reading.{decisions_held, counted_routine}
 use Rattle.report_alike.proofs.Paired.{other_target, same-named}
 use Rattle.report_alike.proofs.pairs.alike_leads.Goals as goal
 
--- the arrays of both leads have room
-room : (c : tie.Start) → (c.args.k.ifs ≤ length c.args.l.decisions) × (c.args.k.ifs ≤ length c.args.m.decisions)
-room c =
-    let g = c.well-formed.1.1.1 in
-    (decisions_held _ _ _ c.requires c.args.l g.0.1.1.1.0.1.0.1, decisions_held _ _ _ c.requires c.args.m g.1.0.1.1.1.0.1.0.1)
-
 pub returns-then-not-same_target : goal.returns-then-not-same_target
-returns-then-not-same_target c = other_target _ _ _ _ _ c.same_target.ensures (not-true _ c.if-not-same_target.true)
+returns-then-not-same_target c = other_target _ _ _ _ _ c.same_target.ensures (c.if-not-same_target.true)
 
 pub ifs_before-before-requires : goal.ifs_before-before-requires
 ifs_before-before-requires c = counted_routine _ _ _ c.requires
 
 pub slice_bounds-ds-end : goal.slice_bounds-ds-end
-slice_bounds-ds-end c = (room c).0
+slice_bounds-ds-end c = decisions_held _ _ _ c.requires c.args.l c.well_formed.1.1.1.0.1.1.1.0.1.0.1
 
 pub slice_bounds-same_decisions-end : goal.slice_bounds-same_decisions-end
-slice_bounds-same_decisions-end c = sym (length-take-le _ _ (room c).0)
+slice_bounds-same_decisions-end c = sym (length-take-le _ _ (decisions_held _ _ _ c.requires c.args.l c.well_formed.1.1.1.0.1.1.1.0.1.0.1))
 
 pub slice_bounds-es-end : goal.slice_bounds-es-end
-slice_bounds-es-end c = (room c).1
+slice_bounds-es-end c = decisions_held _ _ _ c.requires c.args.m c.well_formed.1.1.1.1.0.1.1.1.0.1.0.1
 
 pub slice_bounds-same_decisions-end-2 : goal.slice_bounds-same_decisions-end-2
-slice_bounds-same_decisions-end-2 c = sym (length-take-le _ _ (room c).1)
+slice_bounds-same_decisions-end-2 c = sym (length-take-le _ _ (decisions_held _ _ _ c.requires c.args.m c.well_formed.1.1.1.1.0.1.1.1.0.1.0.1))
 
 pub returns : goal.returns
 returns c =
-    same-named _ _ _ _ _ c.same_target.ensures (not-false _ c.if-not-same_target.false) _ (c.same_decisions.ensures ∙ ap (same_decisions _ _) c.ifs_before-before.ensures)
+    same-named _ _ _ _ _ c.same_target.ensures (c.if-not-same_target.false) _ (c.same_decisions.ensures ∙ ap (same_decisions _ _) c.ifs_before-before.ensures)

@@ -1,4 +1,5 @@
 use mathlib.Core.Path.{refl, sym, ◌∙◌}
+use Prim.Native.Nat.{◌≤◌}
 use native.Mathlib.Omega.{arith}
 use lib.Seq.{length-take-le}
 use Rattle.translation_walk.proofs.Translating.{arm_from}
@@ -9,11 +10,12 @@ pub slice_bounds-lits-end : goal.slice_bounds-lits-end
 slice_bounds-lits-end c = omega (arith, (fine_here _ _ c.requires).few, c.places_in-places.ensures)
 
 pub slice_bounds-own-end : goal.slice_bounds-own-end
-slice_bounds-own-end c = sym (length-take-le _ _ (slice_bounds-lits-end c))
+slice_bounds-own-end c = sym (length-take-le _ _ (omega (arith, (fine_here _ _ c.requires).few, c.places_in-places.ensures)))
 
 pub begin_variables-net-requires : goal.begin_variables-net-requires
-begin_variables-net-requires c = let w = (let l = slice_bounds-lits-end c in
-    ((length-take-le _ _ l ∙ c.places_in-places.ensures, places_hold _ _ _ l), ((begin-ready c.requires c.emit-n.ensures, c.emit-n.ensures.next), fine_here _ _ c.requires))) in record { lits_len = w.0; ready = w.1; fine = w.2 }
+begin_variables-net-requires c =
+    let l : c.places_in-places.result ≤ 1024 = omega (arith, (fine_here _ _ c.requires).few, c.places_in-places.ensures) in
+    record { lits_len = (length-take-le _ _ l ∙ c.places_in-places.ensures, places_hold _ _ _ l); ready = (begin-ready c.requires c.emit-n.ensures, c.emit-n.ensures.next); fine = fine_here _ _ c.requires }
 
 pub encode_arm-r-requires : goal.encode_arm-r-requires
 encode_arm-r-requires c =

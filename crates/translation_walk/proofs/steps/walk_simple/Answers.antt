@@ -5,13 +5,13 @@ use native.Mathlib.Omega.{arith}
 use Rattle.translation_walk.proofs.steps.walk_simple.Goals as goal
 
 pub overflow_add-next : goal.overflow_add-next
-overflow_add-next c = omega (arith, c.requires.sound.0.2, c.simple_size.ensures, c.well_formed.1.1.1.0)
+overflow_add-next c = omega (arith, c.requires.sound.2, c.simple_size.ensures, c.well_formed.1.1.1.0)
 
 pub counts_after-counts-requires : goal.counts_after-counts-requires
-counts_after-counts-requires c = c.requires.sound.0.1
+counts_after-counts-requires c = c.requires.sound.1
 
 pub encode_simple-m-requires : goal.encode_simple-m-requires
-encode_simple-m-requires c = let w = ((c.requires.ready.0, (c.requires.ready.1, (c.requires.sound.0.0, c.requires.sound.1.0, c.requires.sound.1.1)))) in record { ready = w.0; lits_len = w.1; sound = w.2 }
+encode_simple-m-requires c = record { ready = c.requires.ready.0; lits_len = c.requires.ready.1; sound = (c.requires.sound.0, c.requires.fine.0, c.requires.fine.1) }
 
 pub returns : goal.returns
 returns c =
