@@ -8,9 +8,11 @@ pub fit-requires : goal.fit-requires
 fit-requires c = is_routine_by _ _ _ _ c.admit.ensures _ c.in-Translates.is
 
 pub returns-in-Refused : goal.returns-in-Refused
-returns-in-Refused c = let w = (let x = refuses _ _ _ _ _ _ c.admit.ensures _ c.in-Refused.is in
-    (x, (foretold _ _ _ _ _ x, demand _ _ _))) in record { translation_answers = w.0; foretold = w.1; demand2 = w.2 }
+returns-in-Refused c =
+    let x = refuses _ _ _ _ _ _ c.admit.ensures _ c.in-Refused.is in
+    record { translation_answers = x; foretold = foretold _ _ _ _ _ x; demand2 = demand _ _ _ }
 
 pub returns-in-Translates : goal.returns-in-Translates
-returns-in-Translates c = let w = (let x = fits _ _ _ _ _ _ c.admit.ensures _ c.in-Translates.is _ _ _ c.fit.ensures in
-    (x, (foretold _ _ _ _ _ x, demand _ _ _))) in record { translation_answers = w.0; foretold = w.1; demand2 = w.2 }
+returns-in-Translates c =
+    let x = fits _ _ _ _ _ _ c.admit.ensures _ c.in-Translates.is _ _ _ c.fit.ensures in
+    record { translation_answers = x; foretold = foretold _ _ _ _ _ x; demand2 = demand _ _ _ }

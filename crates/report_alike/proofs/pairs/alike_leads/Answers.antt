@@ -1,8 +1,5 @@
 use mathlib.Core.Path.{sym, ap, ◌∙◌}
-use Prim.Native.Nat.{◌≤◌}
-use lib.ListN.{length}
 use lib.Seq.{length-take-le}
-use borrow.Author.Tests.{not-true, not-false}
 use Rattle.report_alike.specs.Alike.{same_decisions}
 use Rattle.report_witness.proofs.Reading.{decisions_held, counted_routine}
 use Rattle.report_alike.proofs.Paired.{other_target, same-named}

@@ -1,9 +1,5 @@
-use mathlib.Core.Path.{◌≡◌, refl, sym, ◌∙◌}
-use mathlib.Core.Bool.{true}
-use Prim.Native.Nat.{◌+◌, ◌-◌, ◌≤◌}
+use mathlib.Core.Path.{◌≡◌, sym, ◌∙◌}
 use native.Mathlib.Omega.{arith}
-use borrow.Author.Rules.{rules}
-use Rattle.report_alike.specs.Alike.{same_decisions}
 use Rattle.report_alike.proofs.Deciding.{none_yet, same_next, differ}
 use Rattle.report_alike.proofs.pairs.same_decisions.Goals as goal
 

@@ -1,10 +1,7 @@
-use mathlib.Core.Path.{◌≡◌, refl, sym, ◌∙◌}
+use mathlib.Core.Path.{◌≡◌}
 use mathlib.Core.Bool.{true}
-use Prim.Native.Nat.{◌+◌, ◌-◌, ◌≤◌}
-use native.Mathlib.Omega.{arith}
-use borrow.Author.Rules.{rules}
+use Prim.Native.Nat.{◌-◌, ◌≤◌}
 use Rattle.report_alike.specs.Alike.{same_decisions}
-use Rattle.report_alike.proofs.Deciding.{none_yet, same_next, differ}
 use Rattle.report_alike.proofs.pairs.same_decisions.Given as goal
 
 abbrev pub invariant-loop-number : goal.invariant-loop-number
