@@ -14,7 +14,11 @@ pub fn judge_arguments<R: Env + Files>(rt: &R, out: &mut [u8]) -> usize
     ensures says { Says out.old out.new result }
     ensures prefix_len { IsPrefixLen result out.new }
 {
-    if has_argument(rt, 2) && !has_argument(rt, 3) {
+    // Whether there is an argument shows by asking for it: one that is longer than the buffer is there too.
+    let mut byte = [0u8; 1];
+    let is_two = !matches!(rt.arg(2, &mut byte), Err(FillError::NotPresent));
+    let is_three = !matches!(rt.arg(3, &mut byte), Err(FillError::NotPresent));
+    if is_two && !is_three {
         judge_named(rt, out)
     } else {
         judge_files(rt, b"routine.bin", b"report.bin", out)
@@ -31,12 +35,6 @@ fn judge_named<R: Env + Files>(rt: &R, out: &mut [u8]) -> usize
     let mut report = [0u8; 4096];
     let m = read_argument(rt, 2, &mut report);
     judge_files(rt, &routine[..n], &report[..m], out)
-}
-
-// Whether the program was given an argument of this number.
-fn has_argument<R: Env>(rt: &R, i: usize) -> bool {
-    let mut name = [0u8; 1];
-    !matches!(rt.arg(i, &mut name), Err(FillError::NotPresent))
 }
 
 // Puts an argument at the beginning of `name`, and returns its length. Of one that does not fit all of `name` is handed on: its 4,096 bytes are more than any
