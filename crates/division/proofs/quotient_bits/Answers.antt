@@ -1,12 +1,12 @@
 use mathlib.Core.Path.{◌≡◌, ◌∙◌}
-use Prim.Native.Nat.{◌*◌, ◌+◌, ◌-◌, ◌≤◌, suc}
+use Prim.Native.Nat.{◌*◌, ◌+◌, ◌-◌, suc}
 use native.Mathlib.Omega.{arith}
 use borrow.Author.Rules.{rules}
 use Rattle.division.proofs.Division.{one_more, quotient-lit, steps-within}
 use Rattle.arithmetic.proofs.Extend.{extend-above}
-use Rattle.arithmetic.proofs.Laws.{table_length, upper, upper_all, upper_none, upper_turn}
-use Rattle.arithmetic.specs.Bits.{places, tabulate}
-use Rattle.division.specs.Division.{quotient_bit, step_start}
+use Rattle.arithmetic.proofs.Laws.{table_length, upper_all, upper_none, upper_turn}
+use Rattle.arithmetic.specs.Bits.{places}
+use Rattle.division.specs.Division.{quotient_bit}
 use Rattle.arithmetic.specs.Extend.{extend}
 use Rattle.division.proofs.quotient_bits.Goals as goal
 

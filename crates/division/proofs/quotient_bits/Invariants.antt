@@ -1,10 +1,6 @@
-use mathlib.Core.Path.{◌≡◌, ◌∙◌}
+use mathlib.Core.Path.{◌≡◌}
 use Prim.Native.Nat.{◌*◌, ◌+◌, ◌-◌, ◌≤◌, suc}
-use native.Mathlib.Omega.{arith}
-use borrow.Author.Rules.{rules}
-use Rattle.division.proofs.Division.{one_more, quotient-lit, steps-within}
-use Rattle.arithmetic.proofs.Extend.{extend-above}
-use Rattle.arithmetic.proofs.Laws.{table_length, upper, upper_all, upper_none, upper_turn}
+use Rattle.arithmetic.proofs.Laws.{upper}
 use Rattle.arithmetic.specs.Bits.{places, tabulate}
 use Rattle.division.specs.Division.{quotient_bit, step_start}
 use Rattle.arithmetic.specs.Extend.{extend}

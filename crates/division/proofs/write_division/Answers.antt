@@ -1,16 +1,15 @@
 use mathlib.Core.Path.{◌≡◌, ◌∙◌, ap, refl, sym}
-use Prim.Native.Nat.{◌*◌, ◌+◌, ◌-◌, ◌<◌, ◌≤◌, suc, ℕ}
+use Prim.Native.Nat.{◌*◌, ◌+◌, ◌-◌, suc, ℕ}
 use native.Mathlib.Numerals.{add-one}
 use native.Mathlib.Omega.{arith}
 use borrow.Author.Rules.{rules}
 use lib.ListN.{get_or, get_or-replicate, length, length-set, take}
 use Rattle.cnf.proofs.Appending.{lent-kept, lent-within, written_none, written-starts-length, written-words-length}
-use Rattle.cnf.specs.Inner.Append.{Written}
 use Rattle.netlist.specs.Node.{chain, netlist_clauses}
 use Rattle.division.proofs.Division.{chosen_up, lifted_bits, lifted_length, one_more, steps-within, steps-written}
 use Rattle.arithmetic.proofs.Laws.{sized-bits, sized-length, table_length, table_place}
 use Rattle.arithmetic.specs.Bits.{lit_at, places}
-use Rattle.division.specs.Division.{remainder_bit, shifted, step_start, division_steps}
+use Rattle.division.specs.Division.{remainder_bit, shifted, division_steps}
 use Rattle.arithmetic.specs.Extend.{rising_bit}
 use Rattle.division.proofs.write_division.Goals as goal
 

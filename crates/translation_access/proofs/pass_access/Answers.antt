@@ -4,7 +4,6 @@ use lib.ListN.{length}
 use Rattle.arithmetic.specs.Bits.{lit_at}
 use Rattle.translation_access.proofs.Accessing.{access_made, access-ready}
 use Rattle.netlist.proofs.Emitting.{ready-after, ready_weaken}
-use Rattle.netlist.specs.Inner.Emit.{Ready}
 use Rattle.translation_access.proofs.pass_access.Goals as goal
 
 pub overflow_mul-inside : goal.overflow_mul-inside

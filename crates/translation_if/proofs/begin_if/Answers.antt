@@ -32,15 +32,15 @@ relation-test-requires c =
 pub arm_arrival-x-requires : goal.arm_arrival-x-requires
 arm_arrival-x-requires c =
     let room : Ready c.relation-test.result.net 2 =
-      let f = condition_fine c.args.bytes.now c.args.h c.args.c c.requires.sound_if.0 in
-      condition-ready _ _ _ _ c.relation-test.ensures (omega (arith, part_length c.args.bytes.now c.args.h c.args.c.s _ _ c.requires.sound_if.1 f.1 c.place_of-a.ensures c.width_of-w.ensures c.args.lits.now c.requires.lits_len, ranged_as c.args.bytes.now c.args.h c.args.c.s _ _ c.requires.sound_if.1 f.1 c.place_of-a.ensures c.width_of-w.ensures)) c.requires.ready
+    let f = condition_fine c.args.bytes.now c.args.h c.args.c c.requires.sound_if.0 in
+    condition-ready _ _ _ _ c.relation-test.ensures (omega (arith, part_length c.args.bytes.now c.args.h c.args.c.s _ _ c.requires.sound_if.1 f.1 c.place_of-a.ensures c.width_of-w.ensures c.args.lits.now c.requires.lits_len, ranged_as c.args.bytes.now c.args.h c.args.c.s _ _ c.requires.sound_if.1 f.1 c.place_of-a.ensures c.width_of-w.ensures)) c.requires.ready
     in ready_weaken (omega arith) room
 
 pub arm_arrival-y-requires : goal.arm_arrival-y-requires
 arm_arrival-y-requires c =
     let room : Ready c.relation-test.result.net 2 =
-      let f = condition_fine c.args.bytes.now c.args.h c.args.c c.requires.sound_if.0 in
-      condition-ready _ _ _ _ c.relation-test.ensures (omega (arith, part_length c.args.bytes.now c.args.h c.args.c.s _ _ c.requires.sound_if.1 f.1 c.place_of-a.ensures c.width_of-w.ensures c.args.lits.now c.requires.lits_len, ranged_as c.args.bytes.now c.args.h c.args.c.s _ _ c.requires.sound_if.1 f.1 c.place_of-a.ensures c.width_of-w.ensures)) c.requires.ready
+    let f = condition_fine c.args.bytes.now c.args.h c.args.c c.requires.sound_if.0 in
+    condition-ready _ _ _ _ c.relation-test.ensures (omega (arith, part_length c.args.bytes.now c.args.h c.args.c.s _ _ c.requires.sound_if.1 f.1 c.place_of-a.ensures c.width_of-w.ensures c.args.lits.now c.requires.lits_len, ranged_as c.args.bytes.now c.args.h c.args.c.s _ _ c.requires.sound_if.1 f.1 c.place_of-a.ensures c.width_of-w.ensures)) c.requires.ready
     in ready-after 1 c.arm_arrival-x.ensures.emitted room (arm-few (eqb c.args.d 1) c.relation-test.result.net.next c.args.s.arrival c.relation-test.result.lit)
 
 pub returns : goal.returns

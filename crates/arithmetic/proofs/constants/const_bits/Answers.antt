@@ -1,10 +1,10 @@
 use Rattle.arithmetic.specs.Bits.{places}
-use mathlib.Core.Path.{◌≡◌, refl, sym, ap}
-use Prim.Native.Nat.{ℕ, ◌≤◌, ◌<◌, ◌-◌, ◌/◌, ◌%◌, ◌^◌}
+use mathlib.Core.Path.{refl, sym, ap}
+use Prim.Native.Nat.{ℕ, ◌-◌, ◌%◌}
 use native.Mathlib.Nat.{div-one}
 use native.Mathlib.Omega.{arith}
 use borrow.Author.Rules.{rules}
-use lib.ListN.{length, get_or, length-set}
+use lib.ListN.{length-set}
 use Rattle.arithmetic.proofs.Laws.{filled_turn, halved}
 use Rattle.arithmetic.proofs.Values.{tabulate_ext}
 use Rattle.arithmetic.specs.Extend.{const_bit}

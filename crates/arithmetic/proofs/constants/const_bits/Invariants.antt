@@ -1,12 +1,7 @@
 use Rattle.arithmetic.specs.Bits.{places}
-use mathlib.Core.Path.{◌≡◌, refl, sym, ap}
-use Prim.Native.Nat.{ℕ, ◌≤◌, ◌<◌, ◌-◌, ◌/◌, ◌%◌, ◌^◌}
-use native.Mathlib.Nat.{div-one}
-use native.Mathlib.Omega.{arith}
-use borrow.Author.Rules.{rules}
-use lib.ListN.{length, get_or, length-set}
-use Rattle.arithmetic.proofs.Laws.{filled_turn, halved}
-use Rattle.arithmetic.proofs.Values.{tabulate_ext}
+use mathlib.Core.Path.{◌≡◌}
+use Prim.Native.Nat.{ℕ, ◌≤◌, ◌<◌, ◌-◌, ◌/◌, ◌^◌}
+use lib.ListN.{length, get_or}
 use Rattle.arithmetic.specs.Extend.{const_bit}
 use Rattle.arithmetic.proofs.constants.const_bits.Given as goal
 

@@ -1,11 +1,9 @@
 use mathlib.Core.Path.{◌≡◌, refl}
-use Prim.Native.Nat.{◌≤◌, ◌-◌}
 use native.Mathlib.Omega.{arith}
 use borrow.Author.Rules.{rules}
 use lib.ListN.{length}
 use Rattle.arithmetic.proofs.Laws.{extended_none, extended_turn}
-use Rattle.arithmetic.specs.Bits.{lit_at, tabulate, places}
-use Rattle.arithmetic.specs.Extend.{extend}
+use Rattle.arithmetic.specs.Bits.{places}
 use Rattle.arithmetic.proofs.extensions.extended.Goals as goal
 
 pub loop-j-init : goal.loop-j-init

@@ -1,9 +1,9 @@
 use mathlib.Core.Path.{◌≡◌, ◌∙◌, ap, refl, sym}
-use Prim.Native.Nat.{ℕ, ◌*◌, ◌+◌, ◌-◌, ◌<◌, ◌≤◌}
+use Prim.Native.Nat.{ℕ, ◌+◌, ◌-◌}
 use native.Mathlib.Nat.{mul-zero}
 use native.Mathlib.Omega.{arith}
 use borrow.Author.Rules.{rules}
-use lib.ListN.{get_or, get_or-replicate, length, length-set}
+use lib.ListN.{get_or-replicate, length-set}
 use Rattle.arithmetic.proofs.Laws.{filled_turn, rising_high, rising_low, rising_turn}
 use Rattle.arithmetic.proofs.Values.{tabulate_ext}
 use Rattle.arithmetic.specs.Bits.{places}

@@ -1,10 +1,6 @@
-use mathlib.Core.Path.{◌≡◌, ◌∙◌, ap, refl, sym}
+use mathlib.Core.Path.{◌≡◌}
 use Prim.Native.Nat.{ℕ, ◌*◌, ◌+◌, ◌-◌, ◌<◌, ◌≤◌}
-use native.Mathlib.Nat.{mul-zero}
-use native.Mathlib.Omega.{arith}
-use lib.ListN.{get_or, get_or-replicate, length, length-set}
-use Rattle.arithmetic.proofs.Laws.{filled_turn, rising_high, rising_low, rising_turn}
-use Rattle.arithmetic.proofs.Values.{tabulate_ext}
+use lib.ListN.{get_or, length}
 use Rattle.arithmetic.specs.Bits.{places}
 use Rattle.arithmetic.specs.Extend.{rising_bit}
 use Rattle.arithmetic.proofs.extensions.rising.Given as goal

@@ -3,7 +3,6 @@ use Prim.Native.Nat.{◌*◌}
 use native.Mathlib.Omega.{arith}
 use Rattle.arithmetic.proofs.Laws.{rising_high, tabulate_cong}
 use Rattle.arithmetic.specs.Bits.{places}
-use borrow.Author.Rules.{rules}
 use Rattle.arithmetic.proofs.input_words.input_bits.Goals as goal
 
 pub returns : goal.returns

@@ -1,6 +1,5 @@
 use mathlib.Core.Path.{refl}
 use Rattle.arithmetic.proofs.Input.{inputs_taken}
-use borrow.Author.Rules.{rules}
 use Rattle.arithmetic.proofs.input_words.take_inputs.Goals as goal
 
 pub returns : goal.returns

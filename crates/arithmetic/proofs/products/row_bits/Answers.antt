@@ -5,7 +5,6 @@ use native.Mathlib.Omega.{arith}
 use lib.Dec.{ltb}
 use Rattle.arithmetic.proofs.Laws.{tabulate_cong}
 use Rattle.arithmetic.specs.Bits.{places}
-use borrow.Author.Rules.{rules}
 use Rattle.arithmetic.proofs.products.row_bits.Goals as goal
 
 pub returns : goal.returns

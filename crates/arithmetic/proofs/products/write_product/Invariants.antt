@@ -1,19 +1,11 @@
-use mathlib.Core.Path.{◌≡◌, ◌∙◌, ap, refl, sym}
-use Prim.Native.Nat.{ℕ, ◌+◌, ◌-◌, ◌≤◌}
-use native.Mathlib.Numerals.{add-one}
-use native.Mathlib.Omega.{arith}
-use borrow.Author.Rules.{rules}
-use lib.ListN.{get_or-replicate, length, take}
-use Rattle.cnf.proofs.Appending.{lent-kept, lent-within, written_none, written-starts-length, written-words-length}
+use mathlib.Core.Path.{◌≡◌}
+use Prim.Native.Nat.{◌+◌, ◌-◌, ◌≤◌}
+use lib.ListN.{length}
 use Rattle.cnf.specs.Inner.Append.{Written}
 use Rattle.netlist.specs.Node.{netlist_clauses}
-use Rattle.arithmetic.proofs.Laws.{sized-bits, sized-length, table_length}
-use Rattle.arithmetic.proofs.Product.{rows_written, start_is, take_more, take_within}
-use Rattle.arithmetic.proofs.Values.{tabulate_ext}
-use Rattle.arithmetic.specs.Adder.{sum_bit}
 use Rattle.arithmetic.specs.Bits.{lit_at, places, tabulate}
 use Rattle.arithmetic.specs.Inner.Rows.{rows_take}
-use Rattle.arithmetic.specs.Product.{acc_bit, row_start, rows}
+use Rattle.arithmetic.specs.Product.{acc_bit, rows}
 use Rattle.arithmetic.proofs.products.write_product.Given as goal
 
 abbrev pub invariant-loop-k : goal.invariant-loop-k

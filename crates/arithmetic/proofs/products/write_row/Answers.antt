@@ -1,9 +1,7 @@
 use borrow.Author.Rules.{rules}
 use mathlib.Core.Path.{◌≡◌}
-use Prim.Native.Nat.{◌*◌, ◌+◌, ◌-◌, ◌≤◌}
 use native.Mathlib.Omega.{arith}
 use Rattle.cnf.proofs.Appending.{lent-kept, lent-within, written_none, written-starts-length, written-words-length}
-use Rattle.cnf.specs.Inner.Append.{Written}
 use Rattle.netlist.specs.Node.{chain, netlist_clauses}
 use Rattle.arithmetic.specs.Bits.{lit_at}
 use Rattle.arithmetic.proofs.Product.{row_written}

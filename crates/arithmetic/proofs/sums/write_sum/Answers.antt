@@ -1,17 +1,16 @@
 use mathlib.Core.Bool.{cond}
 use mathlib.Core.Logic.{inl, inr}
 use mathlib.Core.Path.{◌∙◌, ◌≡◌, ap, refl}
-use Prim.Native.Nat.{◌*◌, ◌+◌, ◌-◌, ◌≤◌, ℕ}
+use Prim.Native.Nat.{◌*◌, ℕ}
 use native.Mathlib.Omega.{arith}
 use borrow.Author.Rules.{rules}
 use lib.ListN.{length}
 use Rattle.cnf.proofs.Appending.{worded_length, written_threes}
-use Rattle.cnf.specs.Inner.Append.{Worded}
 use Rattle.netlist.specs.Literal.{opp}
 use Rattle.netlist.specs.Node.{chain, netlist_clauses}
 use Rattle.arithmetic.specs.Bits.{lit_at}
 use Rattle.arithmetic.proofs.Adder.{adder-sized, adder_threes, adder_worded, carry_written, top_taken, top-told}
-use Rattle.arithmetic.specs.Adder.{adder, carry_at}
+use Rattle.arithmetic.specs.Adder.{adder}
 use Rattle.arithmetic.specs.Inner.Turned.{top_turned, turned_bits}
 use Rattle.arithmetic.proofs.sums.write_sum.Goals as goal
 

@@ -23,17 +23,17 @@ returns-then-is_made c =
 pub input_bits-bits-requires : goal.input_bits-bits-requires
 input_bits-bits-requires c =
     let room : Ready c.encode_access-m.result.net 32 =
-      let f = read_fine c.args.bytes.now c.args.h c.args.d c.args.array c.args.i c.requires.sound.0 in
-      let x = ranged c.args.bytes.now c.args.h c.args.i c.requires.sound.1 f.2 in
-      ready-after 32 c.encode_access-m.ensures.emitted c.requires.ready (omega (arith, access-few c.args.bytes.now c.args.h c.args.t c.args.n.next c.args.array c.args.i c.args.k (wires_of c.args.lits.now c.args.s) x.few))
+    let f = read_fine c.args.bytes.now c.args.h c.args.d c.args.array c.args.i c.requires.sound.0 in
+    let x = ranged c.args.bytes.now c.args.h c.args.i c.requires.sound.1 f.2 in
+    ready-after 32 c.encode_access-m.ensures.emitted c.requires.ready (omega (arith, access-few c.args.bytes.now c.args.h c.args.t c.args.n.next c.args.array c.args.i c.args.k (wires_of c.args.lits.now c.args.s) x.few))
     in omega (arith, room.next)
 
 pub take_inputs-net-requires : goal.take_inputs-net-requires
 take_inputs-net-requires c =
     let room : Ready c.encode_access-m.result.net 32 =
-      let f = read_fine c.args.bytes.now c.args.h c.args.d c.args.array c.args.i c.requires.sound.0 in
-      let x = ranged c.args.bytes.now c.args.h c.args.i c.requires.sound.1 f.2 in
-      ready-after 32 c.encode_access-m.ensures.emitted c.requires.ready (omega (arith, access-few c.args.bytes.now c.args.h c.args.t c.args.n.next c.args.array c.args.i c.args.k (wires_of c.args.lits.now c.args.s) x.few))
+    let f = read_fine c.args.bytes.now c.args.h c.args.d c.args.array c.args.i c.requires.sound.0 in
+    let x = ranged c.args.bytes.now c.args.h c.args.i c.requires.sound.1 f.2 in
+    ready-after 32 c.encode_access-m.ensures.emitted c.requires.ready (omega (arith, access-few c.args.bytes.now c.args.h c.args.t c.args.n.next c.args.array c.args.i c.args.k (wires_of c.args.lits.now c.args.s) x.few))
     in let f = read_fine c.args.bytes.now c.args.h c.args.d c.args.array c.args.i c.requires.sound.0 in
     let y = ranged c.args.bytes.now c.args.h c.args.d c.requires.sound.1 f.0 in ready_weaken (omega (arith, y.few, c.width_of-w.ensures)) room
 

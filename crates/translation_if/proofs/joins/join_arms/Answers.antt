@@ -8,19 +8,19 @@ use Rattle.translation_if.proofs.joins.join_arms.Goals as goal
 pub overflow_mul-arrival : goal.overflow_mul-arrival
 overflow_mul-arrival c =
     let room : Ready c.join_groups-n1.result 2 =
-      ready-after 2 c.join_groups-n1.ensures.emitted c.requires.ready (omega (arith, join-few c.args.bytes.now c.args.h c.requires.fine c.args.n.next c.args.c c.args.lits.now c.args.other.now c.args.h.variables (omega arith), c.requires.fine.few))
+    ready-after 2 c.join_groups-n1.ensures.emitted c.requires.ready (omega (arith, join-few c.args.bytes.now c.args.h c.requires.fine c.args.n.next c.args.c c.args.lits.now c.args.other.now c.args.h.variables (omega arith), c.requires.fine.few))
     in omega (arith, room.next)
 
 pub overflow_add-arrival : goal.overflow_add-arrival
 overflow_add-arrival c =
     let room : Ready c.join_groups-n1.result 2 =
-      ready-after 2 c.join_groups-n1.ensures.emitted c.requires.ready (omega (arith, join-few c.args.bytes.now c.args.h c.requires.fine c.args.n.next c.args.c c.args.lits.now c.args.other.now c.args.h.variables (omega arith), c.requires.fine.few))
+    ready-after 2 c.join_groups-n1.ensures.emitted c.requires.ready (omega (arith, join-few c.args.bytes.now c.args.h c.requires.fine c.args.n.next c.args.c c.args.lits.now c.args.other.now c.args.h.variables (omega arith), c.requires.fine.few))
     in omega (arith, room.next)
 
 pub emit-net-requires : goal.emit-net-requires
 emit-net-requires c =
     let room : Ready c.join_groups-n1.result 2 =
-      ready-after 2 c.join_groups-n1.ensures.emitted c.requires.ready (omega (arith, join-few c.args.bytes.now c.args.h c.requires.fine c.args.n.next c.args.c c.args.lits.now c.args.other.now c.args.h.variables (omega arith), c.requires.fine.few))
+    ready-after 2 c.join_groups-n1.ensures.emitted c.requires.ready (omega (arith, join-few c.args.bytes.now c.args.h c.requires.fine c.args.n.next c.args.c c.args.lits.now c.args.other.now c.args.h.variables (omega arith), c.requires.fine.few))
     in ready_weaken (omega arith) room
 
 pub returns : goal.returns

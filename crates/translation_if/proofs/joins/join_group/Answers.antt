@@ -1,14 +1,10 @@
 use mathlib.Core.Path.{◌≡◌, refl}
-use Prim.Native.Nat.{◌-◌, ◌≤◌}
-use lib.ListN.{length}
-use lib.Seq.{sets}
 use native.Mathlib.Omega.{arith}
 use borrow.Author.Rules.{rules}
-use Rattle.netlist.specs.Inner.Emit.{Emitted}
 use Rattle.netlist.specs.Node.{chain}
 use Rattle.netlist.proofs.Emitting.{emitted-none, emitted-starts-length, emitted-words-length}
-use Rattle.arithmetic.specs.Bits.{bits_at, tabulate}
-use Rattle.arithmetic.specs.Join.{join_bit, joiner}
+use Rattle.arithmetic.specs.Bits.{tabulate}
+use Rattle.arithmetic.specs.Join.{joiner}
 use Rattle.translation_if.proofs.Branching.{group_ready, other_group, same_group}
 use Rattle.translation_if.proofs.joins.join_group.Goals as goal
 

@@ -1,14 +1,9 @@
-use mathlib.Core.Path.{◌≡◌, refl, sym, ◌∙◌}
+use mathlib.Core.Path.{◌≡◌}
 use Prim.Native.Nat.{◌-◌, ◌≤◌}
 use lib.ListN.{length}
-use native.Mathlib.Omega.{arith}
-use borrow.Author.Rules.{rules}
 use Rattle.netlist.specs.Inner.Emit.{Emitted}
-use Rattle.netlist.proofs.Emitting.{emitted-none, emitted-starts-length, emitted-words-length, ready-after}
 use Rattle.translation_state.specs.Wires.{all_places}
-use Rattle.translation_state.proofs.Ranges.{part_end, ranged}
 use Rattle.translation_if.specs.If.{join_groups}
-use Rattle.translation_if.proofs.Branching.{group_joined, group_literals, join-few}
 use Rattle.translation_if.proofs.joins.join_groups.Given as goal
 
 abbrev pub invariant-loop-v : goal.invariant-loop-v

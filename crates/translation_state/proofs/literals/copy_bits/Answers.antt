@@ -1,5 +1,4 @@
 use mathlib.Core.Path.{sym, ◌∙◌}
-use borrow.Author.Rules.{rules}
 use Rattle.translation_state.proofs.Overlay.{sets_whole}
 use Rattle.translation_state.proofs.literals.copy_bits.Goals as goal
 

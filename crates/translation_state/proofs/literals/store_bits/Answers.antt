@@ -1,8 +1,8 @@
-use mathlib.Core.Path.{◌≡◌, refl, ap, ◌∙◌}
+use mathlib.Core.Path.{◌≡◌, ap, ◌∙◌}
 use mathlib.Core.List.{List}
-use Prim.Native.Nat.{ℕ, ◌+◌, ◌-◌, ◌≤◌}
-use lib.ListN.{length, take, get_or, set, length-set}
-use lib.Seq.{sets, take-length}
+use Prim.Native.Nat.{ℕ, ◌+◌}
+use lib.ListN.{length, get_or, set, length-set}
+use lib.Seq.{take-length}
 use Rattle.arithmetic.proofs.Laws.{sets_turn}
 use native.Mathlib.Omega.{arith}
 use borrow.Author.Rules.{rules}
