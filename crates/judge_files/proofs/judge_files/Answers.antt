@@ -5,7 +5,7 @@ use Rattle.judge_files.proofs.judge_files.Goals as goal
 
 -- The files are what reading them gave. Assumes nothing.
 pub returns : goal.returns
-returns c =
+returns g c =
     record {
       says = record {
         routine = file_of c.read_file-routine.result c.read_file-routine.new.buffer;

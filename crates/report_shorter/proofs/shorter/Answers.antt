@@ -1,5 +1,4 @@
 use mathlib.Core.Path.{refl, sym, ap, ◌∙◌}
-use borrow.Author.Tests.{not-true, not-false}
 use Rattle.refusals.specs.Table.{pair_row}
 use Rattle.report_alike.specs.declared.Compared.{Compared}
 use Rattle.report_shorter.proofs.Kept.{keeps-second, keeps-first, not_alike, refused}

@@ -1,5 +1,5 @@
 -- A number below 10 is its one digit; the digits of any other are those of its tenth, then its last.
-use Rattle.std.proofs.Common.{ℕ, ◌+◌, ◌/◌, ◌%◌, [], ◌∷◌, ◌++◌, sym, ap, ◌∙◌, arith}
+use Rattle.std.proofs.Common.{ℕ, ◌/◌, [], ◌∷◌, ◌++◌, sym, ap, ◌∙◌, arith}
 use Rattle.judge_line.specs.Text.{decimal}
 use Rattle.judge_line.proofs.Laid.{onward, said}
 use Rattle.judge_line.proofs.Digits.{single, several, single_length, longer}

@@ -1,6 +1,5 @@
 use native.Mathlib.Omega.{arith}
 use Rattle.judge_line.proofs.Digits.{twenty}
-use borrow.Author.Rules.{rules}
 use Rattle.judge_line.proofs.decimal.write_decimal.Goals as goal
 
 -- A number of 64 bits has at most 20 digits.

@@ -1,6 +1,5 @@
 use native.Mathlib.Omega.{arith}
 use Rattle.judge_line.proofs.Laid.{onward}
-use borrow.Author.Rules.{rules}
 use Rattle.judge_line.proofs.decimal.write_named.Goals as goal
 
 pub returns : goal.returns

@@ -1,9 +1,6 @@
-use Prim.Native.Nat.{◌≤◌, ◌+◌, ◌-◌}
 use native.Mathlib.Nat.{add-zero}
 use native.Mathlib.Omega.{arith}
-use mathlib.Core.Path.{◌≡◌, refl, sym, ◌∙◌}
-use lib.ListN.{length, take}
-use Rattle.judge_line.specs.Writes.{Writes}
+use mathlib.Core.Path.{refl, sym, ◌∙◌}
 use Rattle.judge_line.proofs.Laid.{nothing, one_more, all_of}
 use Rattle.judge_line.proofs.text.write_text.Goals as goal
 

@@ -1,10 +1,7 @@
 use Prim.Native.Nat.{◌≤◌, ◌+◌, ◌-◌}
-use native.Mathlib.Nat.{add-zero}
-use native.Mathlib.Omega.{arith}
-use mathlib.Core.Path.{◌≡◌, refl, sym, ◌∙◌}
+use mathlib.Core.Path.{◌≡◌}
 use lib.ListN.{length, take}
 use Rattle.judge_line.specs.Writes.{Writes}
-use Rattle.judge_line.proofs.Laid.{nothing, one_more, all_of}
 use Rattle.judge_line.proofs.text.write_text.Given as goal
 
 -- What is put after i turns is the text's first i bytes.

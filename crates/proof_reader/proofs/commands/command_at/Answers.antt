@@ -27,4 +27,4 @@ returns-in-2 c =
 
 pub returns-in_default : goal.returns-in_default
 returns-in_default c =
-    read_unknown c.args.report.now c.args.at c.if-report-at.false c.byte_at-kind.result c.byte_at-kind.ensures c.if-kind-eq0.false c.if-kind-eq3.false (omega arith) c.in_default.in_default-own.rest.0.1 c.in_default.in_default-own.rest.1
+    read_unknown c.args.report.now c.args.at c.if-report-at.false c.byte_at-kind.result c.byte_at-kind.ensures c.if-kind-eq0.false c.if-kind-eq3.false (omega arith) (λ e. omega arith) (λ e. omega arith)

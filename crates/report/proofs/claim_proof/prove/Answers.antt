@@ -1,6 +1,5 @@
 use mathlib.Core.Path.{sym}
-use Prim.Native.Nat.{◌+◌, ◌≤◌}
-use lib.ListN.{length}
+use Prim.Native.Nat.{◌+◌}
 use lib.Seq.{length-take-le}
 use Rattle.report_witness.proofs.Reading.{decisions_held, counted_routine}
 use Rattle.report.proofs.Fitting.{prove_refused, prove_marks, prove_values, prove_trail, prove_begins, proved}

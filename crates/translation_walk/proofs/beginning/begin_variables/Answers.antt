@@ -1,12 +1,10 @@
 use mathlib.Core.Path.{◌≡◌, sym, ap, ◌∙◌}
-use mathlib.Core.List.{List, []}
-use Prim.Native.Nat.{ℕ, ◌-◌, ◌≤◌}
+use mathlib.Core.List.{[]}
 use native.Mathlib.Omega.{arith}
 use lib.ListN.{length}
 use borrow.Author.Rules.{rules}
 use Rattle.routine_faults.specs.Inputs.{given}
 use Rattle.arithmetic.proofs.Laws.{sized-length, table_length}
-use Rattle.netlist.specs.Inner.Emit.{Emitted}
 use Rattle.netlist.proofs.Emitting.{emitted-none, ready-after, ready_weaken}
 use Rattle.translation_meaning.specs.Translation.{given_nodes, given_lits}
 use Rattle.translation_state.proofs.Ranges.{ranged, ranged_as, storable, stored}

@@ -1,16 +1,9 @@
-use mathlib.Core.Path.{◌≡◌, sym, ap, ◌∙◌}
-use mathlib.Core.List.{List, []}
+use mathlib.Core.Path.{◌≡◌}
+use mathlib.Core.List.{List}
 use Prim.Native.Nat.{ℕ, ◌-◌, ◌≤◌}
-use native.Mathlib.Omega.{arith}
 use lib.ListN.{length}
-use borrow.Author.Rules.{rules}
-use Rattle.routine_faults.specs.Inputs.{given}
-use Rattle.arithmetic.proofs.Laws.{sized-length, table_length}
 use Rattle.netlist.specs.Inner.Emit.{Emitted}
-use Rattle.netlist.proofs.Emitting.{emitted-none, ready-after, ready_weaken}
 use Rattle.translation_meaning.specs.Translation.{given_nodes, given_lits}
-use Rattle.translation_state.proofs.Ranges.{ranged, ranged_as, storable, stored}
-use Rattle.translation_walk.proofs.Variables.{some-few, given_made, given_wired, given-length}
 use Rattle.translation_walk.proofs.beginning.begin_variables.Given as goal
 
 abbrev pub invariant-loop-p : goal.invariant-loop-p

@@ -1,4 +1,3 @@
-use borrow.Author.Rules.{rules}
 use Rattle.translation_state.specs.declared.Claim.{Claim}
 use Rattle.translation_walk.proofs.beginning.first_walk.Goals as goal
 
