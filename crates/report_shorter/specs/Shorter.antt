@@ -1,5 +1,5 @@
--- Note 5's call: of two reports that are alike the shorter one, itself. A reference is a place, a name under which its value is tracked, and that value, so
--- that two are equal only where they are the same one.
+-- Note 5's call: of two reports that are alike the shorter one, itself. A reference is a place and the value there, so that two are equal only where both
+-- are the same.
 use Rattle.std.specs.Prelude.{ℕ, ◌≡◌, List, Bool, true, false, cond, length, take, ltb}
 use Rattle.std.specs.Borrow.{Bor}
 use Rattle.report_alike.specs.declared.Compared.{Compared}
