@@ -1,3 +1,4 @@
+use Rattle.std.proofs.Common.{rules}
 use mathlib.Core.Path.{sym}
 use Prim.Native.Nat.{◌+◌}
 use lib.Seq.{length-take-le}
@@ -6,10 +7,10 @@ use Rattle.report.proofs.Fitting.{prove_refused, prove_marks, prove_values, prov
 use Rattle.report.proofs.claim_proof.prove.Goals as goal
 
 pub slice_bounds-decisions-end : goal.slice_bounds-decisions-end
-slice_bounds-decisions-end c = decisions_held _ _ _ c.requires.0 c.args.lead c.well_formed.1.1.1.1.1.1.0.1.1.1.0.1.0.1
+slice_bounds-decisions-end c = decisions_held _ _ _ c.requires.0 c.args.lead (search rules)
 
 pub slice_bounds-fit-end : goal.slice_bounds-fit-end
-slice_bounds-fit-end c = sym (length-take-le _ _ (decisions_held _ _ _ c.requires.0 c.args.lead c.well_formed.1.1.1.1.1.1.0.1.1.1.0.1.0.1))
+slice_bounds-fit-end c = sym (length-take-le _ _ (decisions_held _ _ _ c.requires.0 c.args.lead (search rules)))
 
 pub fit-requires : goal.fit-requires
 fit-requires c = counted_routine _ _ _ c.requires.0

@@ -1,3 +1,4 @@
+use Rattle.std.proofs.Common.{rules}
 use mathlib.Core.Path.{sym, ap, ◌∙◌}
 use lib.Seq.{length-take-le}
 use Rattle.report_alike.specs.Alike.{same_decisions}
@@ -12,16 +13,16 @@ pub ifs_before-before-requires : goal.ifs_before-before-requires
 ifs_before-before-requires c = counted_routine _ _ _ c.requires
 
 pub slice_bounds-ds-end : goal.slice_bounds-ds-end
-slice_bounds-ds-end c = decisions_held _ _ _ c.requires c.args.l c.well_formed.1.1.1.0.1.1.1.0.1.0.1
+slice_bounds-ds-end c = decisions_held _ _ _ c.requires c.args.l (search rules)
 
 pub slice_bounds-same_decisions-end : goal.slice_bounds-same_decisions-end
-slice_bounds-same_decisions-end c = sym (length-take-le _ _ (decisions_held _ _ _ c.requires c.args.l c.well_formed.1.1.1.0.1.1.1.0.1.0.1))
+slice_bounds-same_decisions-end c = sym (length-take-le _ _ (decisions_held _ _ _ c.requires c.args.l (search rules)))
 
 pub slice_bounds-es-end : goal.slice_bounds-es-end
-slice_bounds-es-end c = decisions_held _ _ _ c.requires c.args.m c.well_formed.1.1.1.1.0.1.1.1.0.1.0.1
+slice_bounds-es-end c = decisions_held _ _ _ c.requires c.args.m (search rules)
 
 pub slice_bounds-same_decisions-end-2 : goal.slice_bounds-same_decisions-end-2
-slice_bounds-same_decisions-end-2 c = sym (length-take-le _ _ (decisions_held _ _ _ c.requires c.args.m c.well_formed.1.1.1.1.0.1.1.1.0.1.0.1))
+slice_bounds-same_decisions-end-2 c = sym (length-take-le _ _ (decisions_held _ _ _ c.requires c.args.m (search rules)))
 
 pub returns : goal.returns
 returns c =

@@ -5,7 +5,7 @@ use native.Mathlib.Omega.{arith}
 use Rattle.translation_walk.proofs.steps.walk_simple.Goals as goal
 
 pub overflow_add-next : goal.overflow_add-next
-overflow_add-next c = omega (arith, c.requires.sound.2, c.simple_size.ensures, c.well_formed.1.1.1.0)
+overflow_add-next c = omega (arith, c.requires.sound.2, c.simple_size.ensures)
 
 pub counts_after-counts-requires : goal.counts_after-counts-requires
 counts_after-counts-requires c = c.requires.sound.1
