@@ -1,3 +1,4 @@
+use native.Mathlib.Omega.{arith}
 use mathlib.Core.Path.{refl}
 use borrow.Author.Tests.{ne_eqb}
 use Rattle.netlist.proofs.Emitting.{emitted-none}
@@ -48,5 +49,5 @@ returns-in-9 c = rw c.in-9.is c.at_least_signed.ensures
 pub returns-in_default : goal.returns-in_default
 unfolding relation
 returns-in_default c =
-    simp (ne_eqb _ _ c.in_default.in_default-own.rest.0.0.0.0.0.0.0.0.0.1, ne_eqb _ _ c.in_default.in_default-own.rest.0.0.0.0.0.0.0.0.1, ne_eqb _ _ c.in_default.in_default-own.rest.0.0.0.0.0.0.0.1, ne_eqb _ _ c.in_default.in_default-own.rest.0.0.0.0.0.0.1, ne_eqb _ _ c.in_default.in_default-own.rest.0.0.0.0.0.1, ne_eqb _ _ c.in_default.in_default-own.rest.0.0.0.0.1, ne_eqb _ _ c.in_default.in_default-own.rest.0.0.0.1, ne_eqb _ _ c.in_default.in_default-own.rest.0.0.1, ne_eqb _ _ c.in_default.in_default-own.rest.0.1, ne_eqb _ _ c.in_default.in_default-own.rest.1)
+    simp (ne_eqb c.args.rel 0 (omega arith), ne_eqb c.args.rel 1 (omega arith), ne_eqb c.args.rel 2 (omega arith), ne_eqb c.args.rel 3 (omega arith), ne_eqb c.args.rel 4 (omega arith), ne_eqb c.args.rel 5 (omega arith), ne_eqb c.args.rel 6 (omega arith), ne_eqb c.args.rel 7 (omega arith), ne_eqb c.args.rel 8 (omega arith), ne_eqb c.args.rel 9 (omega arith))
     (record { emitted = emitted-none _ _ _; lit = refl })

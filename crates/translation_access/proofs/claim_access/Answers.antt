@@ -1,3 +1,4 @@
+use native.Mathlib.Omega.{arith}
 use mathlib.Core.Path.{refl}
 use borrow.Author.Tests.{ne_eqb}
 use Rattle.netlist.proofs.Emitting.{emitted-none}
@@ -15,4 +16,4 @@ returns-in-1 c = rw c.in-1.is c.above.ensures
 pub returns-in_default : goal.returns-in_default
 unfolding claim
 returns-in_default c =
-    simp (ne_eqb _ _ c.in_default.in_default-own.rest.0.1, ne_eqb _ _ c.in_default.in_default-own.rest.1) (record { emitted = emitted-none _ _ _; lit = refl })
+    simp (ne_eqb c.args.side 0 (omega arith), ne_eqb c.args.side 1 (omega arith)) (record { emitted = emitted-none _ _ _; lit = refl })

@@ -1,3 +1,4 @@
+use native.Mathlib.Omega.{arith}
 use Rattle.std.proofs.Common.{ne_eqb}
 use Rattle.bitvec.specs.Relation.{relates}
 use Rattle.bitvec.proofs.relation.relates.Goals as goal
@@ -46,4 +47,4 @@ returns-in-9 c = rw c.in-9.is (rw c.less_signed-in-9.ensures)
 pub returns-in_default : goal.returns-in_default
 unfolding relates
 returns-in_default c =
-    simp (ne_eqb _ _ c.in_default.in_default-own.rest.0.0.0.0.0.0.0.0.0.1, ne_eqb _ _ c.in_default.in_default-own.rest.0.0.0.0.0.0.0.0.1, ne_eqb _ _ c.in_default.in_default-own.rest.0.0.0.0.0.0.0.1, ne_eqb _ _ c.in_default.in_default-own.rest.0.0.0.0.0.0.1, ne_eqb _ _ c.in_default.in_default-own.rest.0.0.0.0.0.1, ne_eqb _ _ c.in_default.in_default-own.rest.0.0.0.0.1, ne_eqb _ _ c.in_default.in_default-own.rest.0.0.0.1, ne_eqb _ _ c.in_default.in_default-own.rest.0.0.1, ne_eqb _ _ c.in_default.in_default-own.rest.0.1, ne_eqb _ _ c.in_default.in_default-own.rest.1)
+    simp (ne_eqb c.args.r 0 (omega arith), ne_eqb c.args.r 1 (omega arith), ne_eqb c.args.r 2 (omega arith), ne_eqb c.args.r 3 (omega arith), ne_eqb c.args.r 4 (omega arith), ne_eqb c.args.r 5 (omega arith), ne_eqb c.args.r 6 (omega arith), ne_eqb c.args.r 7 (omega arith), ne_eqb c.args.r 8 (omega arith), ne_eqb c.args.r 9 (omega arith))

@@ -22,7 +22,7 @@ convert_at-requires c =
 
 pub long_command-requires : goal.long_command-requires
 long_command-requires c =
-    (four_or_more (command_by (entry c.args.bytes.now c.args.at) 0 0 0 0) (λ s. c.in_default.in_default-own.rest.0.1 (c.size_by_op-size.ensures ∙ s)) (λ s. c.in_default.in_default-own.rest.1 (c.size_by_op-size.ensures ∙ s)), omega (arith, c.size_by_op-size.ensures, c.if-bytes-at-2.false))
+    (four_or_more (command_by (entry c.args.bytes.now c.args.at) 0 0 0 0) (λ s. omega (arith, c.size_by_op-size.ensures, s)) (λ s. omega (arith, c.size_by_op-size.ensures, s)), omega (arith, c.size_by_op-size.ensures, c.if-bytes-at-2.false))
 
 pub returns-in-1 : goal.returns-in-1
 returns-in-1 c =

@@ -20,18 +20,18 @@ unfolding command_by
 returns-in-10 c = rw c.in-10.is
 
 pub returns-in-3-to-5 : goal.returns-in-3-to-5
-returns-in-3-to-5 c = computes _ _ _ _ _ (omega (arith, c.in-3-to-5.if-op-lt3-own.false)) (omega (arith, c.in-3-to-5.if-op-lt6-own.true))
+returns-in-3-to-5 c = computes _ _ _ _ _ (omega arith) (omega arith)
 
 pub returns-in-3-to-5-2 : goal.returns-in-3-to-5-2
-returns-in-3-to-5-2 c = divides _ _ _ _ _ (omega (arith, c.in-3-to-5.if-op-lt14-own.false)) (omega (arith, c.in-3-to-5.if-op-lt16-own.true))
+returns-in-3-to-5-2 c = divides _ _ _ _ _ (omega arith) (omega arith)
 
 pub returns-in_default : goal.returns-in_default
-returns-in_default c = absurd (long_low _ (omega (arith, c.in_default.if-op-lt3-own.true)) c.in_default.in_default-own.rest.0.0.1 c.requires.0)
+returns-in_default c = absurd (long_low c.args.op (omega arith) (omega arith) c.requires.0)
 
 pub returns-in_default-2 : goal.returns-in_default-2
 unfolding command_by
 returns-in_default-2 c =
-    rw (long_middle c.args.op (omega (arith, c.in_default.if-op-lt6-own.false)) (omega (arith, c.in_default.if-op-lt14-own.true)) c.in_default.in_default-own.rest.0.1 c.in_default.in_default-own.rest.1 c.requires.0)
+    rw (long_middle c.args.op (omega arith) (omega arith) (omega arith) (omega arith) c.requires.0)
 
 pub returns-in_default-3 : goal.returns-in_default-3
-returns-in_default-3 c = absurd (long_high _ (omega (arith, c.in_default.if-op-lt16-own.false)) c.requires.0)
+returns-in_default-3 c = absurd (long_high _ (omega arith) c.requires.0)

@@ -13,22 +13,22 @@ unfolding command_by
 returns-in-2 c = rw c.in-2.is
 
 pub returns-in-3-to-5 : goal.returns-in-3-to-5
-returns-in-3-to-5 c = ap command_size (computes _ 0 0 0 0 (omega (arith, c.in-3-to-5.if-op-lt1-own.false, c.in-3-to-5.in_default-own.rest)) (omega (arith, c.in-3-to-5.if-op-lt6-own.true)))
+returns-in-3-to-5 c = ap command_size (computes _ 0 0 0 0 (omega arith) (omega arith))
 
 pub returns-in-6-to-8 : goal.returns-in-6-to-8
-returns-in-6-to-8 c = ap command_size (converts _ 0 0 0 0 (omega (arith, c.in-6-to-8.if-op-lt6-own.false)) (omega (arith, c.in-6-to-8.if-op-lt9-own.true)))
+returns-in-6-to-8 c = ap command_size (converts _ 0 0 0 0 (omega arith) (omega arith))
 
 pub returns-in-9-to-11 : goal.returns-in-9-to-11
-returns-in-9-to-11 c = four_bytes _ (omega (arith, c.in-9-to-11.if-op-lt9-own.false)) (omega (arith, c.in-9-to-11.if-op-lt12-own.true))
+returns-in-9-to-11 c = four_bytes _ (omega arith) (omega arith)
 
 pub returns-in-14-to-15 : goal.returns-in-14-to-15
-returns-in-14-to-15 c = ap command_size (divides _ 0 0 0 0 (omega (arith, c.in-14-to-15.if-op-lt14-own.false)) (omega (arith, c.in-14-to-15.if-op-lt16-own.true)))
+returns-in-14-to-15 c = ap command_size (divides _ 0 0 0 0 (omega arith) (omega arith))
 
 pub returns-in_default : goal.returns-in_default
-returns-in_default c = alone_low _ (omega (arith, c.in_default.if-op-lt1-own.true)) c.in_default.in_default-own.rest.0.1 c.in_default.in_default-own.rest.1
+returns-in_default c = alone_low c.args.op (omega arith) (omega arith) (omega arith)
 
 pub returns-in_default-2 : goal.returns-in_default-2
-returns-in_default-2 c = alone_marks _ (omega (arith, c.in_default.if-op-lt12-own.false)) (omega (arith, c.in_default.if-op-lt14-own.true))
+returns-in_default-2 c = alone_marks _ (omega arith) (omega arith)
 
 pub returns-in_default-3 : goal.returns-in_default-3
-returns-in_default-3 c = alone_high _ (omega (arith, c.in_default.if-op-lt16-own.false))
+returns-in_default-3 c = alone_high _ (omega arith)

@@ -1,3 +1,4 @@
+use native.Mathlib.Omega.{arith}
 use borrow.Author.Tests.{ne_eqb}
 use Rattle.run_state.specs.State.{computed}
 use Rattle.run_state.proofs.moves.computed_by.Goals as goal
@@ -25,4 +26,4 @@ returns-in-15 c = rw c.in-15.is c.remainder.ensures
 pub returns-in_default : goal.returns-in_default
 unfolding computed
 returns-in_default c =
-    simp (ne_eqb _ _ c.in_default.in_default-own.rest.0.0.0.0.1, ne_eqb _ _ c.in_default.in_default-own.rest.0.0.0.1, ne_eqb _ _ c.in_default.in_default-own.rest.0.0.1, ne_eqb _ _ c.in_default.in_default-own.rest.0.1, ne_eqb _ _ c.in_default.in_default-own.rest.1)
+    simp (ne_eqb c.args.op 3 (omega arith), ne_eqb c.args.op 4 (omega arith), ne_eqb c.args.op 5 (omega arith), ne_eqb c.args.op 14 (omega arith), ne_eqb c.args.op 15 (omega arith))

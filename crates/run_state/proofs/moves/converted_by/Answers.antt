@@ -1,3 +1,4 @@
+use native.Mathlib.Omega.{arith}
 use borrow.Author.Tests.{ne_eqb}
 use Rattle.run_state.specs.State.{converted}
 use Rattle.run_state.proofs.moves.converted_by.Goals as goal
@@ -20,4 +21,4 @@ returns-in-8 c = rw c.in-8.is c.sign_extended.ensures
 
 pub returns-in_default : goal.returns-in_default
 unfolding converted
-returns-in_default c = simp (ne_eqb _ _ c.in_default.in_default-own.rest.0.0.0.1, ne_eqb _ _ c.in_default.in_default-own.rest.0.0.1, ne_eqb _ _ c.in_default.in_default-own.rest.0.1, ne_eqb _ _ c.in_default.in_default-own.rest.1)
+returns-in_default c = simp (ne_eqb c.args.op 2 (omega arith), ne_eqb c.args.op 6 (omega arith), ne_eqb c.args.op 7 (omega arith), ne_eqb c.args.op 8 (omega arith))

@@ -48,5 +48,5 @@ returns-in-15 c = rw c.in-15.is (record { emitted = c.emit_division-net-in-15.en
 pub returns-in_default : goal.returns-in_default
 unfolding computation tabulate
 returns-in_default c =
-    simp (ne_eqb _ _ c.in_default.in_default-own.rest.0.0.0.0.1, ne_eqb _ _ c.in_default.in_default-own.rest.0.0.0.1, ne_eqb _ _ c.in_default.in_default-own.rest.0.0.1, ne_eqb _ _ c.in_default.in_default-own.rest.0.1, ne_eqb _ _ c.in_default.in_default-own.rest.1)
+    simp (ne_eqb c.args.op 3 (omega arith), ne_eqb c.args.op 4 (omega arith), ne_eqb c.args.op 5 (omega arith), ne_eqb c.args.op 14 (omega arith), ne_eqb c.args.op 15 (omega arith))
     (record { emitted = emitted-none _ _ _; bits = refl })

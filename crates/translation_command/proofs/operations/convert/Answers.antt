@@ -1,3 +1,4 @@
+use native.Mathlib.Omega.{arith}
 use borrow.Author.Tests.{ne_eqb}
 use Rattle.arithmetic.specs.Bits.{tabulate}
 use Rattle.translation_command.specs.Operation.{conversion}
@@ -21,4 +22,4 @@ returns-in-8 c = rw c.in-8.is c.extended-in-8.ensures
 
 pub returns-in_default : goal.returns-in_default
 unfolding conversion tabulate
-returns-in_default c = simp (ne_eqb _ _ c.in_default.in_default-own.rest.0.0.0.1, ne_eqb _ _ c.in_default.in_default-own.rest.0.0.1, ne_eqb _ _ c.in_default.in_default-own.rest.0.1, ne_eqb _ _ c.in_default.in_default-own.rest.1)
+returns-in_default c = simp (ne_eqb c.args.op 2 (omega arith), ne_eqb c.args.op 6 (omega arith), ne_eqb c.args.op 7 (omega arith), ne_eqb c.args.op 8 (omega arith))
