@@ -6,13 +6,13 @@ use Prim.Native.Nat.{ℕ, zero, suc, ◌+◌, ◌-◌, ◌≤◌, ◌<◌}
 use native.Mathlib.Omega.{arith}
 use lib.ListN.{length}
 use lib.Dec.{leb, ltb, eqb}
-use borrow.Author.Tests.{leb-true, ltb-true, not-true, eq-eqb, ne_eqb}
+use borrow.Author.Tests.{leb-true, ltb-true, not-true}
 use Rattle.slices.specs.Guard.{unless}
 use Rattle.routine_command.specs.Command.{command_size, simple_size, command_of, command_at}
 use Rattle.routine_header.specs.Header.{width}
-use Rattle.routine_faults.specs.Step.{Step, faulty, closing, simple_then, if_then, in_range, widths_fit, too_many, counts_after, simple_step, counts_after_if, condition_in_range, if_step, step_of}
+use Rattle.routine_faults.specs.Step.{Step, faulty, closing, simple_then, if_then, in_range, widths_fit, too_many, counts_after, simple_step, counts_after_if, condition_in_range, if_step, same_mark, step_of}
 use Rattle.routine.specs.Routine.{Parsed, refused, parsed, plain, if_else, read_on, ArmReader, if_arms, arm_step, step_at, arm_by, arm}
-use Rattle.routine.specs.Inner.Walk.{walked, walk_arm, walk_if}
+use Rattle.routine.specs.Inner.Walk.{Walked, walked, walk_arm, walk_if}
 use Rattle.routine_faults.specs.Inner.Sound.{Sound, SoundIf}
 use Rattle.routine_header.specs.declared.Header.{Header}
 use Rattle.routine_command.specs.declared.Condition.{Condition}
@@ -20,10 +20,12 @@ use Rattle.routine_faults.specs.declared.Counts.{Counts}
 use Rattle.routine_command.specs.declared.Simple.{Simple}
 use Rattle.routine_command.specs.declared.Command.{Command}
 use Rattle.routine_faults.specs.declared.Fault.{Fault}
-use Rattle.routine_faults.specs.declared.Flaw.{Flaw}
-use Rattle.routine_faults.specs.Inner.Flaw.{flaw_of}
-use Rattle.routine.specs.declared.Walked.{Walked}
+use Rattle.std.specs.Prelude.{Result, Ok, Err}
+use Rattle.routine_faults.specs.Inner.Fault.{fault_of}
+use Rattle.routine.specs.declared.Passed.{Passed}
+use Rattle.routine.specs.declared.Refusal.{Refusal}
 use Rattle.routine_command.proofs.Sizes.{size-pos, simple-size}
+use Rattle.routine_command.specs.declared.Mark.{Mark}
 
 -- ---- a command that stands at an offset is whole
 
@@ -56,7 +58,7 @@ pub record ForkOf (bs : List ℕ) (h : Header) (depth : ℕ) (k : Counts) (c : C
 module _ (bs : List ℕ) (h : Header) (depth : ℕ) (k : Counts) where
   abbrev pub Of : Command → Step → Type 0
   Of c (faulty fault) = Unit {0}
-  Of c closing = (mark : ℕ) × (c ≡ Command.Close mark)
+  Of c closing = (mark : Mark) × (c ≡ Command.Close mark)
   Of c (simple_then d k₁) = PlainOf bs h k c d k₁
   Of c (if_then d k₁) = ForkOf bs h depth k c d k₁
 
@@ -82,10 +84,10 @@ module _ (bs : List ℕ) (h : Header) (depth : ℕ) (k : Counts) where
       of_unless (Command.Simple d) (not (too_many d k)) Fault.TooMany (simple_then d (counts_after d k)) (λ f.
       record { command = refl; sound = record { ranges = r; widths = w }; few = not-true _ f; counts = refl })))
 
-  pub of_step : (close : ℕ) (c : Command) → Of c (step_of bs h depth close c k)
+  pub of_step : (close : Mark) (c : Command) → Of c (step_of bs h depth close c k)
   unfolding step_of
   of_step close Command.Missing = tt
-  of_step close (Command.Close mark) = of_unless (Command.Close mark) (eqb mark close) Fault.Misplaced closing (λ e. (mark, refl))
+  of_step close (Command.Close mark) = of_unless (Command.Close mark) (same_mark mark close) Fault.Misplaced closing (λ e. (mark, refl))
   of_step close (Command.If d) = of_if d
   of_step close (Command.Simple d) = of_simple d
 
@@ -104,7 +106,7 @@ module _ (bs : List ℕ) where
   fits_of h depth at k c (simple_then d k₁) r o = rw o.command at (r (λ e. let z : ◌≡◌ {A = ℕ} 0 1 = cc in omega arith))
   fits_of h depth at k c (if_then d k₁) r o = (rw o.command at (r (λ e. let z : ◌≡◌ {A = ℕ} 0 1 = cc in omega arith)), o.shallow)
 
-  pub fits : (h : Header) (depth close at : ℕ) (k : Counts) → Fits depth at (step_at bs h depth close at k)
+  pub fits : (h : Header) (depth : ℕ) (close : Mark) (at : ℕ) (k : Counts) → Fits depth at (step_at bs h depth close at k)
   fits h depth close at k = fits_of h depth at k (command_at bs at) (step_at bs h depth close at k) (room bs at) (of_step bs h depth k close (command_at bs at))
 
   -- ---- what was read from an offset ends after it, within the bytes
@@ -119,15 +121,15 @@ module _ (bs : List ℕ) where
   ahead_then at at₁ (parsed a end k) f p q = q a end k p.0 p.1
 
   abbrev pub AheadBy : ArmReader → Type 0
-  AheadBy read = (depth close at : ℕ) (k : Counts) → Ahead at (read depth close at k)
+  AheadBy read = (depth : ℕ) (close : Mark) (at : ℕ) (k : Counts) → Ahead at (read depth close at k)
 
   pub ahead_if : (read : ArmReader) → AheadBy read → (depth at : ℕ) (k : Counts) → Ahead (at + 4) (if_arms read depth at k)
   ahead_if read go depth at k =
-      ahead_then (at + 4) (at + 4) (read (depth + 1) 12 (at + 4) k) _ (go (depth + 1) 12 (at + 4) k) (λ first at₁ k₁ l₁ h₁.
-      ahead_then (at + 4) at₁ (read (depth + 1) 13 at₁ k₁) _ (go (depth + 1) 13 at₁ k₁) (λ second at₂ k₂ l₂ h₂.
+      ahead_then (at + 4) (at + 4) (read (depth + 1) Mark.Else (at + 4) k) _ (go (depth + 1) Mark.Else (at + 4) k) (λ first at₁ k₁ l₁ h₁.
+      ahead_then (at + 4) at₁ (read (depth + 1) Mark.EndIf at₁ k₁) _ (go (depth + 1) Mark.EndIf at₁ k₁) (λ second at₂ k₂ l₂ h₂.
       (omega arith, h₂)))
 
-  ahead_step : (read : ArmReader) → AheadBy read → (depth close at : ℕ) (k : Counts) (s : Step) → Fits depth at s → Ahead at (arm_step read depth close at k s)
+  ahead_step : (read : ArmReader) → AheadBy read → (depth : ℕ) (close : Mark) (at : ℕ) (k : Counts) (s : Step) → Fits depth at s → Ahead at (arm_step read depth close at k s)
   ahead_step read go depth close at k (faulty fault) f = tt
   ahead_step read go depth close at k closing f = (omega arith, f)
   ahead_step read go depth close at k (simple_then c k₁) f =
@@ -158,15 +160,15 @@ module _ (bs : List ℕ) where
 
   -- read and read₁ find the same from each offset after `at` within the bytes
   abbrev Agree : ℕ → ArmReader → ArmReader → Type 0
-  Agree at read read₁ = (depth close at₁ : ℕ) (k : Counts) → at < at₁ → at₁ ≤ length bs → read depth close at₁ k ≡ read₁ depth close at₁ k
+  Agree at read read₁ = (depth : ℕ) (close : Mark) (at₁ : ℕ) (k : Counts) → at < at₁ → at₁ ≤ length bs → read depth close at₁ k ≡ read₁ depth close at₁ k
 
   agree_if : (read read₁ : ArmReader) (at : ℕ) → AheadBy read → Agree at read read₁ → (depth : ℕ) (k : Counts) → at + 4 ≤ length bs
       → if_arms read depth at k ≡ if_arms read₁ depth at k
   agree_if read read₁ at go same depth k u =
-      agree_then (at + 4) _ _ _ _ (same (depth + 1) 12 (at + 4) k (omega arith) u) (go (depth + 1) 12 (at + 4) k) (λ first at₁ k₁ l₁ u₁.
-      agree_then at₁ _ _ _ _ (same (depth + 1) 13 at₁ k₁ (omega arith) u₁) (go (depth + 1) 13 at₁ k₁) (λ second at₂ k₂ l₂ u₂. refl))
+      agree_then (at + 4) _ _ _ _ (same (depth + 1) Mark.Else (at + 4) k (omega arith) u) (go (depth + 1) Mark.Else (at + 4) k) (λ first at₁ k₁ l₁ u₁.
+      agree_then at₁ _ _ _ _ (same (depth + 1) Mark.EndIf at₁ k₁ (omega arith) u₁) (go (depth + 1) Mark.EndIf at₁ k₁) (λ second at₂ k₂ l₂ u₂. refl))
 
-  agree_step : (read read₁ : ArmReader) (at : ℕ) → AheadBy read → Agree at read read₁ → (depth close : ℕ) (k : Counts) (s : Step) → Fits depth at s
+  agree_step : (read read₁ : ArmReader) (at : ℕ) → AheadBy read → Agree at read read₁ → (depth : ℕ) (close : Mark) (k : Counts) (s : Step) → Fits depth at s
       → arm_step read depth close at k s ≡ arm_step read₁ depth close at k s
   agree_step read read₁ at go same depth close k (faulty fault) f = refl
   agree_step read read₁ at go same depth close k closing f = refl
@@ -178,7 +180,7 @@ module _ (bs : List ℕ) where
       agree_then at₂ _ _ _ _ (same depth close at₂ k₂ (omega arith) u₂) (go depth close at₂ k₂) (λ rest end k₃ l₃ u₃. refl))
 
   -- bounds above the bytes left find the same
-  enough : (n m : ℕ) (h : Header) (depth close at : ℕ) (k : Counts) → length bs - at < n → length bs - at < m
+  enough : (n m : ℕ) (h : Header) (depth : ℕ) (close : Mark) (at : ℕ) (k : Counts) → length bs - at < n → length bs - at < m
       → arm_by n bs h depth close at k ≡ arm_by m bs h depth close at k
   unfolding arm_by
   enough zero m h depth close at k l r = absurd (omega arith)
@@ -188,7 +190,7 @@ module _ (bs : List ℕ) where
       (step_at bs h depth close at k) (fits h depth close at k)
 
   -- an arm is its first command and what follows
-  pub unroll : (h : Header) (depth close at : ℕ) (k : Counts) → arm bs h depth close at k ≡ arm_step (arm bs h) depth close at k (step_at bs h depth close at k)
+  pub unroll : (h : Header) (depth : ℕ) (close : Mark) (at : ℕ) (k : Counts) → arm bs h depth close at k ≡ arm_step (arm bs h) depth close at k (step_at bs h depth close at k)
   unfolding arm_by
   unroll h depth close at k =
       agree_step (arm_by (length bs) bs h) (arm bs h) at (ahead_by (length bs) h) (λ d z at₁ k₁ l₁ u₁. enough (length bs) (suc (length bs)) h d z at₁ k₁ (omega arith) (omega arith))
@@ -198,8 +200,8 @@ module _ (bs : List ℕ) where
 
 -- go on after what ended
 abbrev pub then_walk : Walked → (ℕ → Counts → Walked) → Walked
-then_walk (Walked.Refused fault place) f = Walked.Refused fault place
-then_walk (Walked.Ended end k) f = f end k
+then_walk (Err refusal) f = Err refusal
+then_walk (Ok passed) f = f passed.next passed.counts
 
 walked_then : {A B : Type 0} (p : Parsed A) (f : A → ℕ → Counts → Parsed B) (g : ℕ → Counts → Walked)
     → ((a : A) (end : ℕ) (k : Counts) → walked (f a end k) ≡ g end k) → walked (read_on p f) ≡ then_walk (walked p) g
@@ -212,19 +214,19 @@ walked_as (parsed a end k) f = refl
 
 -- a walk over an if is one over its first arm, and then one over its second
 pub walk_if_lem : (bs : List ℕ) (h : Header) (depth at : ℕ) (k : Counts)
-    → walk_if bs h depth at k ≡ then_walk (walk_arm bs h (depth + 1) 12 (at + 4) k) (walk_arm bs h (depth + 1) 13)
+    → walk_if bs h depth at k ≡ then_walk (walk_arm bs h (depth + 1) Mark.Else (at + 4) k) (walk_arm bs h (depth + 1) Mark.EndIf)
 unfolding walk_if walk_arm
 walk_if_lem bs h depth at k =
-    walked_then (arm bs h (depth + 1) 12 (at + 4) k) _ _ (λ first at₁ k₁. walked_as (arm bs h (depth + 1) 13 at₁ k₁) (λ second. (first, second)))
+    walked_then (arm bs h (depth + 1) Mark.Else (at + 4) k) _ _ (λ first at₁ k₁. walked_as (arm bs h (depth + 1) Mark.EndIf at₁ k₁) (λ second. (first, second)))
 
 -- a walk over an arm, by what its first command is
-abbrev pub walk_step : List ℕ → Header → (depth close at : ℕ) → Counts → Step → Walked
-walk_step bs h depth close at k (faulty fault) = Walked.Refused fault at
-walk_step bs h depth close at k closing = Walked.Ended (at + 1) k
+abbrev pub walk_step : List ℕ → Header → (depth : ℕ) (close : Mark) (at : ℕ) → Counts → Step → Walked
+walk_step bs h depth close at k (faulty fault) = Err (Refusal.Command fault at)
+walk_step bs h depth close at k closing = Ok (record { next = at + 1; counts = k })
 walk_step bs h depth close at k (simple_then c k₁) = walk_arm bs h depth close (at + simple_size c) k₁
 walk_step bs h depth close at k (if_then c k₁) = then_walk (walk_if bs h depth at k₁) (walk_arm bs h depth close)
 
-walked_step : (bs : List ℕ) (h : Header) (depth close at : ℕ) (k : Counts) (s : Step)
+walked_step : (bs : List ℕ) (h : Header) (depth : ℕ) (close : Mark) (at : ℕ) (k : Counts) (s : Step)
     → walked (arm_step (arm bs h) depth close at k s) ≡ walk_step bs h depth close at k s
 unfolding walk_if walk_arm
 walked_step bs h depth close at k (faulty fault) = refl
@@ -233,27 +235,27 @@ walked_step bs h depth close at k (simple_then c k₁) = walked_as (arm bs h dep
 walked_step bs h depth close at k (if_then c k₁) =
     walked_then (if_arms (arm bs h) depth at k₁) _ _ (λ arms at₂ k₂. walked_as (arm bs h depth close at₂ k₂) (λ rest. if_else at c k arms.0 arms.1 rest))
 
-walk_arm_lem : (bs : List ℕ) (h : Header) (depth close at : ℕ) (k : Counts)
+walk_arm_lem : (bs : List ℕ) (h : Header) (depth : ℕ) (close : Mark) (at : ℕ) (k : Counts)
     → walk_arm bs h depth close at k ≡ walk_step bs h depth close at k (step_at bs h depth close at k)
 unfolding walk_arm
 walk_arm_lem bs h depth close at k = ap walked (unroll bs h depth close at k) ∙ walked_step bs h depth close at k (step_at bs h depth close at k)
 
 -- ---- what the command at an offset is, by what `command_at` and the looks at it answered
 
-fault_is : (s : Step) (fault : Fault) → flaw_of s ≡ Flaw.Fault fault → s ≡ faulty fault
+fault_is : (s : Step) (fault : Fault) → fault_of s ≡ Err fault → s ≡ faulty fault
 fault_is (faulty f) fault e = let z : f ≡ fault = cc in ap faulty z
 fault_is closing fault e = let z : ◌≡◌ {A = ℕ} 0 1 = cc in absurd (omega arith)
 fault_is (simple_then c k) fault e = let z : ◌≡◌ {A = ℕ} 0 1 = cc in absurd (omega arith)
 fault_is (if_then c k) fault e = let z : ◌≡◌ {A = ℕ} 0 1 = cc in absurd (omega arith)
 
-module _ (bs : List ℕ) (h : Header) (depth close at : ℕ) (k : Counts) where
-  good_simple : (d : Simple) (s : Step) → Of bs h depth k (Command.Simple d) s → flaw_of s ≡ Flaw.Nothing → s ≡ simple_then d (counts_after d k)
+module _ (bs : List ℕ) (h : Header) (depth : ℕ) (close : Mark) (at : ℕ) (k : Counts) where
+  good_simple : (d : Simple) (s : Step) → Of bs h depth k (Command.Simple d) s → fault_of s ≡ Ok tt → s ≡ simple_then d (counts_after d k)
   good_simple d (faulty f) o e = let z : ◌≡◌ {A = ℕ} 0 1 = cc in absurd (omega arith)
   good_simple d closing o e = let f = o.1 in let z : ◌≡◌ {A = ℕ} 0 1 = cc in absurd (omega arith)
   good_simple d (simple_then c k₁) o e = let f = o.command in let z : c ≡ d = cc in rw (o.counts, z)
   good_simple d (if_then c k₁) o e = let f = o.command in let z : ◌≡◌ {A = ℕ} 0 1 = cc in absurd (omega arith)
 
-  good_if : (d : Condition) (s : Step) → Of bs h depth k (Command.If d) s → flaw_of s ≡ Flaw.Nothing → s ≡ if_then d (counts_after_if k)
+  good_if : (d : Condition) (s : Step) → Of bs h depth k (Command.If d) s → fault_of s ≡ Ok tt → s ≡ if_then d (counts_after_if k)
   good_if d (faulty f) o e = let z : ◌≡◌ {A = ℕ} 0 1 = cc in absurd (omega arith)
   good_if d closing o e = let f = o.1 in let z : ◌≡◌ {A = ℕ} 0 1 = cc in absurd (omega arith)
   good_if d (simple_then c k₁) o e = let f = o.command in let z : ◌≡◌ {A = ℕ} 0 1 = cc in absurd (omega arith)
@@ -267,36 +269,36 @@ module _ (bs : List ℕ) (h : Header) (depth close at : ℕ) (k : Counts) where
     unfolding step_of
     is_missing e = by_command Command.Missing e (faulty Fault.Unknown) refl
 
-    pub is_misplaced : (mark : ℕ) → c ≡ Command.Close mark → (mark ≡ close → ⊥) → step_at bs h depth close at k ≡ faulty Fault.Misplaced
+    pub is_misplaced : (mark : Mark) → c ≡ Command.Close mark → same_mark mark close ≡ false → step_at bs h depth close at k ≡ faulty Fault.Misplaced
     unfolding step_of unless
-    is_misplaced mark e f = by_command (Command.Close mark) e (faulty Fault.Misplaced) (rw (ne_eqb mark close f))
+    is_misplaced mark e f = by_command (Command.Close mark) e (faulty Fault.Misplaced) (rw f)
 
-    pub is_closing : (mark : ℕ) → c ≡ Command.Close mark → mark ≡ close → step_at bs h depth close at k ≡ closing
+    pub is_closing : (mark : Mark) → c ≡ Command.Close mark → same_mark mark close ≡ true → step_at bs h depth close at k ≡ closing
     unfolding step_of unless
-    is_closing mark e f = by_command (Command.Close mark) e closing (rw (eq-eqb mark close f))
+    is_closing mark e f = by_command (Command.Close mark) e closing (rw f)
 
-    module _ (d : Simple) (e : c ≡ Command.Simple d) (v : Flaw) (by : v ≡ flaw_of (simple_step bs h d k)) where
-      pub faulty-simple : (fault : Fault) → v ≡ Flaw.Fault fault → step_at bs h depth close at k ≡ faulty fault
+    module _ (d : Simple) (e : c ≡ Command.Simple d) (v : Result (Unit {0}) Fault) (by : v ≡ fault_of (simple_step bs h d k)) where
+      pub faulty-simple : (fault : Fault) → v ≡ Err fault → step_at bs h depth close at k ≡ faulty fault
       unfolding step_of
       faulty-simple fault f = by_command (Command.Simple d) e (faulty fault) (fault_is (simple_step bs h d k) fault (sym by ∙ f))
 
-      pub is_simple : v ≡ Flaw.Nothing → step_at bs h depth close at k ≡ simple_then d (counts_after d k)
+      pub is_simple : v ≡ Ok tt → step_at bs h depth close at k ≡ simple_then d (counts_after d k)
       unfolding step_of
       is_simple f = by_command (Command.Simple d) e (simple_then d (counts_after d k)) (good_simple d (simple_step bs h d k) (of_simple bs h depth k d) (sym by ∙ f))
 
-      pub few-accesses : v ≡ Flaw.Nothing → too_many d k ≡ false
+      pub few-accesses : v ≡ Ok tt → too_many d k ≡ false
       few-accesses f = (rw (good_simple d (simple_step bs h d k) (of_simple bs h depth k d) (sym by ∙ f)) at (of_simple bs h depth k d)).few
 
-    module _ (d : Condition) (e : c ≡ Command.If d) (v : Flaw) (by : v ≡ flaw_of (if_step bs h depth d k)) where
-      pub faulty_if : (fault : Fault) → v ≡ Flaw.Fault fault → step_at bs h depth close at k ≡ faulty fault
+    module _ (d : Condition) (e : c ≡ Command.If d) (v : Result (Unit {0}) Fault) (by : v ≡ fault_of (if_step bs h depth d k)) where
+      pub faulty_if : (fault : Fault) → v ≡ Err fault → step_at bs h depth close at k ≡ faulty fault
       unfolding step_of
       faulty_if fault f = by_command (Command.If d) e (faulty fault) (fault_is (if_step bs h depth d k) fault (sym by ∙ f))
 
-      pub is_if : v ≡ Flaw.Nothing → step_at bs h depth close at k ≡ if_then d (counts_after_if k)
+      pub is_if : v ≡ Ok tt → step_at bs h depth close at k ≡ if_then d (counts_after_if k)
       unfolding step_of
       is_if f = by_command (Command.If d) e (if_then d (counts_after_if k)) (good_if d (if_step bs h depth d k) (of_if bs h depth k d) (sym by ∙ f))
 
-      pub few-ifs : v ≡ Flaw.Nothing → k.ifs < 32
+      pub few-ifs : v ≡ Ok tt → k.ifs < 32
       few-ifs f = (rw (good_if d (if_step bs h depth d k) (of_if bs h depth k d) (sym by ∙ f)) at (of_if bs h depth k d)).few
 
   -- the command at the offset is s
@@ -312,16 +314,16 @@ pub then_by : (r x v w : Walked) (f : ℕ → Counts → Walked) → r ≡ x →
 then_by r x v w f e p q = ap (λ (y : Walked). then_walk y f) (sym p ∙ e) ∙ q
 
 -- where a walk ended
-ended : {A : Type 0} (bs : List ℕ) (at : ℕ) (p : Parsed A) (w : Walked) (end : ℕ) (k : Counts) → w ≡ Walked.Ended end k → w ≡ walked p → Ahead bs at p
-    → (at < end) × (end ≤ length bs)
-ended bs at (refused fault place) w end k e f a = let z : ◌≡◌ {A = ℕ} 0 1 = cc in absurd (omega arith)
-ended bs at (parsed a₁ end₁ k₁) w end k e f a = let z : end ≡ end₁ = cc in (omega arith, omega arith)
+ended : {A : Type 0} (bs : List ℕ) (at : ℕ) (p : Parsed A) (w : Walked) (r : Passed) → w ≡ Ok r → w ≡ walked p → Ahead bs at p
+    → (at < r.next) × (r.next ≤ length bs)
+ended bs at (refused fault place) w r e f a = let z : ◌≡◌ {A = ℕ} 0 1 = cc in absurd (omega arith)
+ended bs at (parsed a₁ end₁ k₁) w r e f a = let z : r.next ≡ end₁ = cc in (omega arith, omega arith)
 
-module _ (bs : List ℕ) (h : Header) (depth at : ℕ) (k : Counts) (w : Walked) (end : ℕ) (k₁ : Counts) (is : w ≡ Walked.Ended end k₁) where
-  pub ended_arm : (close : ℕ) → w ≡ walk_arm bs h depth close at k → (at < end) × (end ≤ length bs)
+module _ (bs : List ℕ) (h : Header) (depth at : ℕ) (k : Counts) (w : Walked) (r : Passed) (is : w ≡ Ok r) where
+  pub ended_arm : (close : Mark) → w ≡ walk_arm bs h depth close at k → (at < r.next) × (r.next ≤ length bs)
   unfolding walk_arm
-  ended_arm close e = ended bs at (arm bs h depth close at k) w end k₁ is e (ahead bs h depth close at k)
+  ended_arm close e = ended bs at (arm bs h depth close at k) w r is e (ahead bs h depth close at k)
 
-  pub ended_if : w ≡ walk_if bs h depth at k → (at + 4 < end) × (end ≤ length bs)
+  pub ended_if : w ≡ walk_if bs h depth at k → (at + 4 < r.next) × (r.next ≤ length bs)
   unfolding walk_if
-  ended_if e = ended bs (at + 4) (if_arms (arm bs h) depth at k) w end k₁ is e (ahead_if bs (arm bs h) (ahead bs h) depth at k)
+  ended_if e = ended bs (at + 4) (if_arms (arm bs h) depth at k) w r is e (ahead_if bs (arm bs h) (ahead bs h) depth at k)

@@ -15,8 +15,9 @@ use Rattle.routine_header.specs.declared.Header.{Header}
 use Rattle.routine_faults.specs.declared.Counts.{Counts}
 use Rattle.routine_command.specs.declared.Simple.{Simple}
 use Rattle.routine.proofs.Views.{induction}
-use Rattle.routine.proofs.Accepted.{decoded}
+use Rattle.routine.proofs.Decoded.{decoded}
 use Rattle.routine.proofs.Counting.{same-ifs}
+use Rattle.routine_command.specs.declared.Mark.{Mark}
 
 -- no variable is wider than the greatest width
 pub width_at_most : (bs : List ℕ) (n v : ℕ) → v < n → width bs v ≤ greatest_width bs n
@@ -44,7 +45,7 @@ three_bytes (Simple.Write array i s) = omega arith
 
 module _ (bs : List ℕ) (h : Header) where
   -- an if, its else and its end take 6 bytes: so there are at most as many commands as half the bytes, and what ends the arm
-  pub commands-few : (a : Arm) (depth close at : ℕ) (k : Counts) (end : ℕ) (k₁ : Counts) → Stands bs h depth close at k a end k₁ → at + 2 * command_count a ≤ end + 1
+  pub commands-few : (a : Arm) (depth : ℕ) (close : Mark) (at : ℕ) (k : Counts) (end : ℕ) (k₁ : Counts) → Stands bs h depth close at k a end k₁ → at + 2 * command_count a ≤ end + 1
   unfolding command_count
   commands-few =
       induction bs h (λ depth close at k a end k₁. at + 2 * command_count a ≤ end + 1)
@@ -53,7 +54,7 @@ module _ (bs : List ℕ) (h : Header) where
       (λ depth close at k c first second rest end k₁ v go₁ go₂ go₃. omega (arith, go₁, go₂, go₃))
 
   -- the count of the ifs grows by those of the arm
-  pub ifs_counted : (a : Arm) (depth close at : ℕ) (k : Counts) (end : ℕ) (k₁ : Counts) → Stands bs h depth close at k a end k₁ → k.ifs + ifs_in a ≡ k₁.ifs
+  pub ifs_counted : (a : Arm) (depth : ℕ) (close : Mark) (at : ℕ) (k : Counts) (end : ℕ) (k₁ : Counts) → Stands bs h depth close at k a end k₁ → k.ifs + ifs_in a ≡ k₁.ifs
   unfolding ifs_in
   ifs_counted =
       induction bs h (λ depth close at k a end k₁. k.ifs + ifs_in a ≡ k₁.ifs)
@@ -64,10 +65,10 @@ module _ (bs : List ℕ) (h : Header) where
   module _ (a : Arm) (k : Counts) (e : decode bs ≡ routine h a k) where
     -- the ifs of a routine are those that it counts
     pub all_ifs : ifs_in a ≡ k.ifs
-    all_ifs = let p = ifs_counted a 0 0 _ _ _ k (decoded bs h a k e).stands in omega (arith, p)
+    all_ifs = let p = ifs_counted a 0 Mark.End _ _ _ k (decoded bs h a k e).stands in omega (arith, p)
 
     -- a routine has at most 2048 commands
     pub few-commands : command_count a ≤ 2048
     few-commands =
         let d = decoded bs h a k e in
-        omega (arith, commands-few a 0 0 _ _ _ k d.stands, d.short)
+        omega (arith, commands-few a 0 Mark.End _ _ _ k d.stands, d.short)

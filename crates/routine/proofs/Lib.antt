@@ -2,7 +2,7 @@
 mod Answers
 pub mod Arms
 pub mod Views
-pub mod Accepted
+pub mod Decoded
 pub mod Walking
 pub mod Standing
 mod Passing

@@ -18,10 +18,12 @@ use Rattle.routine_command.specs.declared.Condition.{Condition}
 use Rattle.routine_command.specs.declared.Simple.{Simple}
 use Rattle.routine_command.specs.declared.Touch.{Touch}
 use Rattle.routine_faults.specs.declared.Counts.{Counts}
+use Rattle.std.specs.Prelude.{Option, Some, None}
 use Rattle.routine.specs.declared.Access.{Access}
 use Rattle.routine.proofs.Views.{induction}
-use Rattle.routine.proofs.Accepted.{decoded}
+use Rattle.routine.proofs.Decoded.{decoded}
 use Rattle.routine.proofs.Counting.{same-ifs}
+use Rattle.routine_command.specs.declared.Mark.{Mark}
 
 -- ---- the ifs of an arm
 
@@ -55,9 +57,9 @@ record Inside (n : ℕ) (k k₁ j : Counts) : Type 0 where
 
 module _ (n : ℕ) where
   -- where nothing is found, the number is not between them
-  abbrev Within : Counts → Counts → Access → Type 0
-  Within k k₁ Access.Nowhere = (n < accesses k) ⊎ (accesses k₁ ≤ n)
-  Within k k₁ (Access.Here j array i) = Inside n k k₁ j
+  abbrev Within : Counts → Counts → Option Access → Type 0
+  Within k k₁ None = (n < accesses k) ⊎ (accesses k₁ ≤ n)
+  Within k k₁ (Some a) = Inside n k k₁ a.counts
 
   order : (m : ℕ) → (n < m) ⊎ (m ≤ n)
   order m = go (ltb n m) refl
@@ -68,12 +70,12 @@ module _ (n : ℕ) where
 
   module _ (k m k₁ : Counts) (i : k.ifs ≤ m.ifs) (a : accesses k ≤ accesses m) (i₁ : m.ifs ≤ k₁.ifs) (a₁ : accesses m ≤ accesses k₁) where
     -- one part after the other
-    within_then : (x y : Access) → Within k m x → Within m k₁ y → Within k k₁ (or_else x y)
-    within_then (Access.Here j array v) y w u = record { number = w.number; from = w.from; up_to = omega (arith, w.up_to); low = w.low; high = omega (arith, w.high) }
-    within_then Access.Nowhere Access.Nowhere (inl l) u = inl l
-    within_then Access.Nowhere Access.Nowhere (inr l) (inl u) = absurd (omega arith)
-    within_then Access.Nowhere Access.Nowhere (inr l) (inr u) = inr u
-    within_then Access.Nowhere (Access.Here j array v) w u = record { number = u.number; from = omega (arith, u.from); up_to = u.up_to; low = omega (arith, u.low); high = u.high }
+    within_then : (x y : Option Access) → Within k m x → Within m k₁ y → Within k k₁ (or_else x y)
+    within_then (Some a₂) y w u = record { number = w.number; from = w.from; up_to = omega (arith, w.up_to); low = w.low; high = omega (arith, w.high) }
+    within_then None None (inl l) u = inl l
+    within_then None None (inr l) (inl u) = absurd (omega arith)
+    within_then None None (inr l) (inr u) = inr u
+    within_then None (Some a₂) w u = record { number = u.number; from = omega (arith, u.from); up_to = u.up_to; low = omega (arith, u.low); high = u.high }
 
 module _ (k : Counts) where
   -- a command adds at most one access
@@ -83,7 +85,7 @@ module _ (k : Counts) where
   one_more (Touch.Writes array i) = (omega arith, omega arith)
 
   -- it is the access of that number, or is none
-  by_touch : (n : ℕ) (t : Touch) (b : Bool) → eqb (accesses k) n ≡ b → Within n k (counts_after_by t k) (cond b (access_by t k) Access.Nowhere)
+  by_touch : (n : ℕ) (t : Touch) (b : Bool) → eqb (accesses k) n ≡ b → Within n k (counts_after_by t k) (cond b (access_by t k) None)
   by_touch n Touch.Nothing true e = inr (let z = eqb-true (accesses k) n e in omega arith)
   by_touch n (Touch.Reads d array i) true e =
       let z = eqb-true (accesses k) n e in
@@ -156,12 +158,12 @@ module _ (n : ℕ) where
           wider k₃ k₁ k k₁ (omega arith) (omega arith) (omega arith) (omega arith) rest z.each,
         );
         within =
-            within_then n k (counts_after_if k) k₁ (omega arith) (omega arith) (omega arith) (omega arith) Access.Nowhere (or_else u (or_else v w)) (order n (accesses k))
+            within_then n k (counts_after_if k) k₁ (omega arith) (omega arith) (omega arith) (omega arith) None (or_else u (or_else v w)) (order n (accesses k))
             (within_then n (counts_after_if k) k₂ k₁ i a (omega arith) (omega arith) u (or_else v w) x.within
             (within_then n k₂ k₃ k₁ i₂ a₂ i₃ a₃ v w y.within z.within));
       }
 
-spans : (bs : List ℕ) (h : Header) (n : ℕ) (a : Arm) (depth close at : ℕ) (k : Counts) (end : ℕ) (k₁ : Counts) → Stands bs h depth close at k a end k₁
+spans : (bs : List ℕ) (h : Header) (n : ℕ) (a : Arm) (depth : ℕ) (close : Mark) (at : ℕ) (k : Counts) (end : ℕ) (k₁ : Counts) → Stands bs h depth close at k a end k₁
     → Spans n k a k₁
 spans bs h n =
     induction bs h (λ depth close at k a end k₁. Spans n k a k₁)
@@ -175,16 +177,16 @@ pub record Found (a : Arm) (n : ℕ) : Type 0 where
   pub counts : Counts
   pub array : ℕ
   pub i : ℕ
-  pub here : access_at a n ≡ Access.Here counts array i
+  pub here : access_at a n ≡ Some (record { counts = counts; array = array; i = i })
   pub number : accesses counts ≡ n
 
 pub access-found : (bs : List ℕ) (h : Header) (a : Arm) (k : Counts) → decode bs ≡ routine h a k → (n : ℕ) → n < accesses k → Found a n
-access-found bs h a k e n l = go (access_at a n) refl (spans bs h n a 0 0 _ _ _ k (decoded bs h a k e).stands).within
+access-found bs h a k e n l = go (access_at a n) refl (spans bs h n a 0 Mark.End _ _ _ k (decoded bs h a k e).stands).within
   where
-    go : (x : Access) → access_at a n ≡ x → Within n no_counts k x → Found a n
-    go Access.Nowhere q (inl m) = absurd (omega arith)
-    go Access.Nowhere q (inr m) = absurd (omega arith)
-    go (Access.Here j array i) q w = record { counts = j; array = array; i = i; here = q; number = w.number }
+    go : (x : Option Access) → access_at a n ≡ x → Within n no_counts k x → Found a n
+    go None q (inl m) = absurd (omega arith)
+    go None q (inr m) = absurd (omega arith)
+    go (Some x) q w = record { counts = x.counts; array = x.array; i = x.i; here = q; number = w.number }
 
 -- ---- the ifs before it
 
@@ -202,13 +204,13 @@ module _ (j : Counts) (n : ℕ) where
   module _ (array i : ℕ) where
     -- the access is in the arm
     abbrev Here : Arm → Type 0
-    Here a = access_at a n ≡ Access.Here j array i
+    Here a = access_at a n ≡ Some (record { counts = j; array = array; i = i })
 
     before-plain : (c : Simple) (k : Counts) (rest : Arm) (k₁ : Counts) → Spans n (counts_after c k) rest k₁ → (Here rest → EachIf (Before j.ifs n) rest)
-        → (x : Access) → Within n k (counts_after c k) x → or_else x (access_at rest n) ≡ Access.Here j array i → EachIf (Before j.ifs n) rest
-    before-plain c k rest k₁ s go Access.Nowhere w e = go e
-    before-plain c k rest k₁ s go (Access.Here j₁ a₁ i₁) w e =
-        let z : j₁ ≡ j = cc in
+        → (x : Option Access) → Within n k (counts_after c k) x → or_else x (access_at rest n) ≡ Some (record { counts = j; array = array; i = i }) → EachIf (Before j.ifs n) rest
+    before-plain c k rest k₁ s go None w e = go e
+    before-plain c k rest k₁ s go (Some a₁) w e =
+        let z : a₁.counts ≡ j = cc in
         let w₁ = rw z at w in
         begins-after (counts_after c k) k₁ w₁.up_to w₁.high rest s.each
 
@@ -246,14 +248,14 @@ module _ (j : Counts) (n : ℕ) where
           let a₂ = y.accessed in
           ((λ _. omega arith, λ _. omega arith), ends-before (counts_after_if k) k₂ (omega arith) (omega arith) first x.each, ends-before k₂ k₃ f l second y.each, go₃ e)
 
-      before_fork : (u v w : Access) → access_at first n ≡ u → access_at second n ≡ v → access_at rest n ≡ w → Within n (counts_after_if k) k₂ u → Within n k₂ k₃ v
-          → Within n k₃ k₁ w → or_else u (or_else v w) ≡ Access.Here j array i → All
-      before_fork (Access.Here j₁ a₁ i₁) v w p q r s t o e = let z₁ : j₁ ≡ j = cc in in_first_lem (p ∙ e) (rw z₁ at s)
-      before_fork Access.Nowhere (Access.Here j₁ a₁ i₁) w p q r s t o e = let z₁ : j₁ ≡ j = cc in in_second (q ∙ e) (rw z₁ at t)
-      before_fork Access.Nowhere Access.Nowhere (Access.Here j₁ a₁ i₁) p q r s t o e = let z₁ : j₁ ≡ j = cc in in_rest (r ∙ e) (rw z₁ at o)
-      before_fork Access.Nowhere Access.Nowhere Access.Nowhere p q r s t o e = let z₁ : ◌≡◌ {A = ℕ} 0 1 = cc in absurd (omega arith)
+      before_fork : (u v w : Option Access) → access_at first n ≡ u → access_at second n ≡ v → access_at rest n ≡ w → Within n (counts_after_if k) k₂ u → Within n k₂ k₃ v
+          → Within n k₃ k₁ w → or_else u (or_else v w) ≡ Some (record { counts = j; array = array; i = i }) → All
+      before_fork (Some a₁) v w p q r s t o e = let z₁ : a₁.counts ≡ j = cc in in_first_lem (p ∙ e) (rw z₁ at s)
+      before_fork None (Some a₁) w p q r s t o e = let z₁ : a₁.counts ≡ j = cc in in_second (q ∙ e) (rw z₁ at t)
+      before_fork None None (Some a₁) p q r s t o e = let z₁ : a₁.counts ≡ j = cc in in_rest (r ∙ e) (rw z₁ at o)
+      before_fork None None None p q r s t o e = let z₁ : ◌≡◌ {A = ℕ} 0 1 = cc in absurd (omega arith)
 
-    before : (bs : List ℕ) (h : Header) (a : Arm) (depth close at : ℕ) (k : Counts) (end : ℕ) (k₁ : Counts) → Stands bs h depth close at k a end k₁
+    before : (bs : List ℕ) (h : Header) (a : Arm) (depth : ℕ) (close : Mark) (at : ℕ) (k : Counts) (end : ℕ) (k₁ : Counts) → Stands bs h depth close at k a end k₁
         → Here a → EachIf (Before j.ifs n) a
     unfolding access_at
     before bs h =
@@ -272,4 +274,4 @@ pub ifs-before : (bs : List ℕ) (h : Header) (a : Arm) (k : Counts) → decode 
 unfolding ifs_before
 ifs-before bs h a k e n l =
     let f = access-found bs h a k e n l in
-    rw f.here (before f.counts n f.array f.i bs h a 0 0 _ _ _ k (decoded bs h a k e).stands f.here)
+    rw f.here (before f.counts n f.array f.i bs h a 0 Mark.End _ _ _ k (decoded bs h a k e).stands f.here)

@@ -18,9 +18,10 @@ use Rattle.routine.specs.Inner.Stands.{SomeArm, SomeIf}
 use Rattle.routine.specs.Inner.Passes.{Passes}
 use Rattle.routine.specs.declared.Passed.{Passed}
 use Rattle.routine.proofs.Views.{onward, by_missing, by_close, by_simple, by_if, ByIf}
+use Rattle.routine_command.specs.declared.Mark.{Mark}
 
 -- the two arms of an if
-abbrev pub arms_of : {bs : List ℕ} {h : Header} {depth close at : ℕ} {k : Counts} {c : Condition} {a : Arm} {end : ℕ} {k₁ : Counts}
+abbrev pub arms_of : {bs : List ℕ} {h : Header} {depth : ℕ} {close : Mark} {at : ℕ} {k : Counts} {c : Condition} {a : Arm} {end : ℕ} {k₁ : Counts}
     → ByIf bs h depth close at k c a end k₁ → SomeIf bs h depth at (counts_after_if k)
 arms_of v =
     let f = v.known in
@@ -36,11 +37,11 @@ arms_of v =
       stands-second = f.stands-second;
     }
 
-module _ (bs : List ℕ) (h : Header) (depth close at : ℕ) (k : Counts) (w : SomeArm bs h depth close at k) (r : Command) (is : r ≡ command_at bs at) where
+module _ (bs : List ℕ) (h : Header) (depth : ℕ) (close : Mark) (at : ℕ) (k : Counts) (w : SomeArm bs h depth close at k) (r : Command) (is : r ≡ command_at bs at) where
   pub not_missing : r ≡ Command.Missing → ⊥
   not_missing q = by_missing bs h depth close at k w.arm w.end w.after r is w.stands q
 
-  pub close_room : (m : ℕ) → r ≡ Command.Close m → at + 1 ≤ length bs
+  pub close_room : (m : Mark) → r ≡ Command.Close m → at + 1 ≤ length bs
   close_room m q = (by_close bs h depth close at k w.arm w.end w.after r is w.stands m q).room
 
   -- operands, counts and room of a command that is no if
@@ -57,34 +58,34 @@ module _ (bs : List ℕ) (h : Header) (depth close at : ℕ) (k : Counts) (w : S
 
 -- where the else lies
 pub else-room : (bs : List ℕ) (h : Header) (depth at : ℕ) (k : Counts) (i : SomeIf bs h depth at (counts_after_if k)) → (at + 4 < i.else) × (i.else ≤ length bs)
-else-room bs h depth at k i = onward bs h (depth + 1) 12 (at + 4) (counts_after_if k) i.first i.else i.between i.stands-first
+else-room bs h depth at k i = onward bs h (depth + 1) Mark.Else (at + 4) (counts_after_if k) i.first i.else i.between i.stands-first
 
 -- the bytes left fall from an if to its second arm
 pub second_falls : (n at next else t : ℕ) → 2 * (n - at) ≡ t → at + 4 < else → else ≤ n → next ≡ else → 2 * (n - next) + 1 < t
 second_falls n at next else t e l u q = omega arith
 
 -- where an if ends
-pub if_ends : {bs : List ℕ} {h : Header} {depth close at : ℕ} {k : Counts} {c : Condition} {a : Arm} {end : ℕ} {k₁ : Counts}
+pub if_ends : {bs : List ℕ} {h : Header} {depth : ℕ} {close : Mark} {at : ℕ} {k : Counts} {c : Condition} {a : Arm} {end : ℕ} {k₁ : Counts}
     (v : ByIf bs h depth close at k c a end k₁) → (at < v.known.next) × (v.known.next ≤ length bs)
 if_ends {bs} {h} {depth} {at = at} {k} v =
     let f = v.known in
-    let p = onward bs h (depth + 1) 12 (at + 4) (counts_after_if k) v.first f.else f.k₂ f.stands-first in
-    let q = onward bs h (depth + 1) 13 f.else f.k₂ v.second f.next f.k₃ f.stands-second in
+    let p = onward bs h (depth + 1) Mark.Else (at + 4) (counts_after_if k) v.first f.else f.k₂ f.stands-first in
+    let q = onward bs h (depth + 1) Mark.EndIf f.else f.k₂ v.second f.next f.k₃ f.stands-second in
     (omega arith, omega arith)
 
 -- ---- the arms of an if, each as an arm that stands
 
 module _ (bs : List ℕ) (h : Header) (depth at : ℕ) (k : Counts) (i : SomeIf bs h depth at (counts_after_if k)) where
-  pub second_at : (next : ℕ) (k₁ : Counts) → next ≡ i.else → k₁ ≡ i.between → SomeArm bs h (depth + 1) 13 next k₁
+  pub second_at : (next : ℕ) (k₁ : Counts) → next ≡ i.else → k₁ ≡ i.between → SomeArm bs h (depth + 1) Mark.EndIf next k₁
   second_at next k₁ p q = rw (p, q) (record { arm = i.second; end = i.end; after = i.after; stands = i.stands-second })
 
   module _ (inside : Counts) (e : inside ≡ counts_after_if k) where
-    pub first-arm : SomeArm bs h (depth + 1) 12 (at + 4) inside
+    pub first-arm : SomeArm bs h (depth + 1) Mark.Else (at + 4) inside
     first-arm = rw e (record { arm = i.first; end = i.else; after = i.between; stands = i.stands-first })
 
     -- after the first arm was passed
-    pub passed_to : (p : Passed) → Passes bs h (depth + 1) 12 (at + 4) inside p → (p.next ≡ i.else) × (p.counts ≡ i.between)
+    pub passed_to : (p : Passed) → Passes bs h (depth + 1) Mark.Else (at + 4) inside p → (p.next ≡ i.else) × (p.counts ≡ i.between)
     passed_to p x = x.tells i.first i.else i.between (rw e i.stands-first)
 
-    pub second-passed : (p : Passed) → Passes bs h (depth + 1) 12 (at + 4) inside p → SomeArm bs h (depth + 1) 13 p.next p.counts
+    pub second-passed : (p : Passed) → Passes bs h (depth + 1) Mark.Else (at + 4) inside p → SomeArm bs h (depth + 1) Mark.EndIf p.next p.counts
     second-passed p x = let y = passed_to p x in second_at p.next p.counts y.0 y.1

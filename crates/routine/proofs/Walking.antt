@@ -13,9 +13,10 @@ use Rattle.routine_faults.specs.declared.Counts.{Counts}
 use Rattle.routine_command.specs.declared.Simple.{Simple}
 use Rattle.routine_command.specs.declared.Command.{Command}
 use Rattle.routine.proofs.Views.{by_close, by_simple, by_if}
+use Rattle.routine_command.specs.declared.Mark.{Mark}
 
 -- what is left of the arm a
-pub record LeftOf (bs : List ℕ) (h : Header) (depth close : ℕ) {S R : Type 0} (M : Arm → S → R) (K : Counts → S → Type 0) (s₀ : S) (at : ℕ) (s : S) (a : Arm) (end : ℕ) (k₁ : Counts) : Type 0 where
+pub record LeftOf (bs : List ℕ) (h : Header) (depth : ℕ) (close : Mark) {S R : Type 0} (M : Arm → S → R) (K : Counts → S → Type 0) (s₀ : S) (at : ℕ) (s : S) (a : Arm) (end : ℕ) (k₁ : Counts) : Type 0 where
   pub counts : Counts
   pub tied : K counts s
   pub rest : Arm
@@ -23,16 +24,16 @@ pub record LeftOf (bs : List ℕ) (h : Header) (depth close : ℕ) {S R : Type 0
   pub same : M rest s ≡ M a s₀
 
 -- the walk began at `from` with s₀ and is now at `at` with s
-pub record Going (bs : List ℕ) (h : Header) (depth close : ℕ) {S R : Type 0} (M : Arm → S → R) (K : Counts → S → Type 0) (from : ℕ) (s₀ : S) (at : ℕ) (s : S) : Type 0 where
+pub record Going (bs : List ℕ) (h : Header) (depth : ℕ) (close : Mark) {S R : Type 0} (M : Arm → S → R) (K : Counts → S → Type 0) (from : ℕ) (s₀ : S) (at : ℕ) (s : S) : Type 0 where
   pub goes : (k : Counts) (a : Arm) (end : ℕ) (k₁ : Counts) → K k s₀ → Stands bs h depth close from k a end k₁ → LeftOf bs h depth close M K s₀ at s a end k₁
 
-module _ (bs : List ℕ) (h : Header) (depth close : ℕ) {S R : Type 0} (M : Arm → S → R) (K : Counts → S → Type 0) where
+module _ (bs : List ℕ) (h : Header) (depth : ℕ) (close : Mark) {S R : Type 0} (M : Arm → S → R) (K : Counts → S → Type 0) where
   pub begin : (from : ℕ) (s : S) → Going bs h depth close M K from s from s
   begin from s = record { goes = λ k a end k₁ t x. record { counts = k; tied = t; rest = a; stands = x; same = refl } }
 
   module _ (from : ℕ) (s₀ : S) (at : ℕ) (s : S) (g : Going bs h depth close M K from s₀ at s) (r : Command) (is : r ≡ command_at bs at) where
     -- at the arm's end
-    pub at_close : (m : ℕ) → r ≡ Command.Close m → (k : Counts) (a : Arm) (end : ℕ) (k₁ : Counts) → K k s₀ → Stands bs h depth close from k a end k₁
+    pub at_close : (m : Mark) → r ≡ Command.Close m → (k : Counts) (a : Arm) (end : ℕ) (k₁ : Counts) → K k s₀ → Stands bs h depth close from k a end k₁
         → (at + 1 ≡ end) × K k₁ s × (M done s ≡ M a s₀)
     at_close m q k a end k₁ t x =
         let l = g.goes k a end k₁ t x in
@@ -62,7 +63,7 @@ module _ (bs : List ℕ) (h : Header) (depth close : ℕ) {S R : Type 0} (M : Ar
     -- what both arms of an if tell, whichever stand there
     abbrev pub Both : Condition → (Counts → (first second rest : Arm) → (next : ℕ) → Counts → Type 0) → Type 0
     Both c T = (k : Counts) (first second rest : Arm) (else : ℕ) (k₂ : Counts) (next : ℕ) (k₃ : Counts) → K k s
-        → Stands bs h (depth + 1) 12 (at + 4) (counts_after_if k) first else k₂ → Stands bs h (depth + 1) 13 else k₂ second next k₃ → T k first second rest next k₃
+        → Stands bs h (depth + 1) Mark.Else (at + 4) (counts_after_if k) first else k₂ → Stands bs h (depth + 1) Mark.EndIf else k₂ second next k₃ → T k first second rest next k₃
 
     -- at an if after which nothing of the rest matters
     pub over_if : (c : Condition) → r ≡ Command.If c → (x : R) → Both c (λ k first second rest next k₃. x ≡ M (if_else at c k first second rest) s)

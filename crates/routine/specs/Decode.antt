@@ -1,14 +1,14 @@
 -- A routine from its bytes, or the refusal.
-use Rattle.std.specs.Prelude.{ℕ, List, ◌≡◌, ◌&&◌, length, leb, eqb}
+use Rattle.std.specs.Prelude.{ℕ, List, Result, Ok, Err, ◌≡◌, ◌&&◌, length, leb, eqb}
 use Rattle.slices.specs.Guard.{unless}
 use Rattle.routine_header.specs.Header.{header_of, first_command}
 pub use Rattle.routine_faults.specs.Step.{no_counts}
 use Rattle.routine.specs.Routine.{Arm, done, Parsed, refused, parsed, arm}
 use Rattle.routine_header.specs.declared.Header.{Header}
-use Rattle.routine_header.specs.declared.Head.{Head}
 use Rattle.routine_faults.specs.declared.Counts.{Counts}
 use Rattle.routine.specs.declared.Refusal.{Refusal}
-use Rattle.routine.specs.declared.Checked.{Checked}
+use Rattle.routine.specs.declared.Accepted.{Accepted}
+use Rattle.routine_command.specs.declared.Mark.{Mark}
 
 -- what the bytes are: no routine, for a reason, or a routine: its header, its commands, and how many ifs, reads and writes it has
 pub data Decoded : Type 0 where
@@ -21,9 +21,9 @@ decode_arm bs h (refused fault place) = rejected (Refusal.Command fault place)
 decode_arm bs h (parsed a end k) = unless (eqb end (length bs)) (rejected (Refusal.Trailing end)) (routine h a k)
 
 -- what the header is, and then the commands after it
-abbrev pub decode_head : List ℕ → Head → Decoded
-decode_head bs (Head.Wrong place) = rejected (Refusal.Header place)
-decode_head bs (Head.Valid h) = decode_arm bs h (arm bs h 0 0x00 (first_command h) no_counts)
+abbrev pub decode_head : List ℕ → Result Header ℕ → Decoded
+decode_head bs (Err place) = rejected (Refusal.Header place)
+decode_head bs (Ok h) = decode_arm bs h (arm bs h 0 Mark.End (first_command h) no_counts)
 
 -- 1 to 4,096 bytes, and in them a header and commands
 unfoldable pub decode : List ℕ → Decoded
@@ -40,12 +40,12 @@ unfoldable pub commands_in : List ℕ → Arm
 commands_in bs = commands_of (decode bs)
 
 -- the answer: a routine is accepted with its header and its counts
-abbrev pub check_answer : Decoded → Checked
-check_answer (rejected refusal) = Checked.Refused refusal
-check_answer (routine h a k) = Checked.Accepted h k
+abbrev pub check_answer : Decoded → Result Accepted Refusal
+check_answer (rejected refusal) = Err refusal
+check_answer (routine h a k) = Ok (record { header = h; counts = k })
 
 -- what `check` answers for these bytes
-unfoldable pub checked : List ℕ → Checked
+unfoldable pub checked : List ℕ → Result Accepted Refusal
 checked bs = check_answer (decode bs)
 
 -- the bytes are a routine with this header

@@ -7,6 +7,7 @@ use Rattle.routine_command.specs.declared.Condition.{Condition}
 use Rattle.routine_faults.specs.declared.Counts.{Counts}
 use Rattle.routine_command.specs.declared.Simple.{Simple}
 use Rattle.routine_faults.specs.declared.Fault.{Fault}
+use Rattle.routine_command.specs.declared.Mark.{Mark}
 
 -- An arm: its commands, each with its offset and the counts before it, by which it is numbered: an if by its `ifs`, a read by its `reads`, an
 -- access by its `accesses`. An if has two arms, and the arm that it stands in goes on after it.
@@ -31,19 +32,19 @@ abbrev pub read_on : {A B : Type 0} → Parsed A → (A → ℕ → Counts → P
 read_on (refused fault place) f = refused fault place
 read_on (parsed a end k) f = f a end k
 
--- How an arm is read: inside so many ifs, up to the command byte that ends it, from an offset, after some counts.
+-- How an arm is read: inside so many ifs, up to the mark that ends it, from an offset, after some counts.
 abbrev pub ArmReader : Type 0
-ArmReader = (depth close at : ℕ) → Counts → Parsed Arm
+ArmReader = (depth : ℕ) (close : Mark) (at : ℕ) → Counts → Parsed Arm
 
 -- The two arms of the if at `at`: the first is ended by an else, the second by an end of if.
 abbrev pub if_arms : ArmReader → (depth at : ℕ) → Counts → Parsed (Arm × Arm)
 if_arms read depth at k =
-    read_on (read (depth + 1) 0x0C (at + 4) k) (λ first at₁ k₁.
-    read_on (read (depth + 1) 0x0D at₁ k₁) (λ second at₂ k₂.
+    read_on (read (depth + 1) Mark.Else (at + 4) k) (λ first at₁ k₁.
+    read_on (read (depth + 1) Mark.EndIf at₁ k₁) (λ second at₂ k₂.
     parsed (first, second) at₂ k₂))
 
 -- The arm from `at` on, by what its first command is; the rest of it, and the arms of an if, are read by `read`.
-abbrev pub arm_step : ArmReader → (depth close at : ℕ) → Counts → Step → Parsed Arm
+abbrev pub arm_step : ArmReader → (depth : ℕ) (close : Mark) (at : ℕ) → Counts → Step → Parsed Arm
 arm_step read depth close at k (faulty fault) = refused fault at
 arm_step read depth close at k closing = parsed done (at + 1) k
 arm_step read depth close at k (simple_then c k₁) =
@@ -55,7 +56,7 @@ arm_step read depth close at k (if_then c k₁) =
     parsed (if_else at c k arms.0 arms.1 rest) end k₃))
 
 -- What the command at `at` is.
-abbrev pub step_at : List ℕ → Header → (depth close at : ℕ) → Counts → Step
+abbrev pub step_at : List ℕ → Header → (depth : ℕ) (close : Mark) (at : ℕ) → Counts → Step
 step_at bs h depth close at k = step_of bs h depth close (command_at bs at) k
 
 -- The arm from `at` on, in at most so many steps: one more than the bytes left is enough.

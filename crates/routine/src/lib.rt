@@ -8,7 +8,7 @@ ghost use Rattle.std.specs.Prelude.{◌≡◌};
 ghost use Rattle.routine.specs.Decode.{checked};
 
 use routine_faults::{Counts, Fault};
-use routine_header::{Head, Header};
+use routine_header::Header;
 
 // Why bytes are no routine.
 #[derive(Clone, Copy)]
@@ -23,21 +23,14 @@ pub enum Refusal {
     Trailing(usize),
 }
 
-// What checking a routine answers.
+// What a routine is accepted with.
 #[derive(Clone, Copy)]
-pub enum Checked {
-    Accepted { header: Header, counts: Counts },
-    Refused(Refusal),
+pub struct Accepted {
+    pub header: Header,
+    pub counts: Counts,
 }
 
-// What walking over an arm, or over an if, answers: the fault of the command at an offset, or the offset after it and the counts there.
-#[derive(Clone, Copy)]
-pub enum Walked {
-    Refused(Fault, usize),
-    Ended(usize, Counts),
-}
-
-// Where an arm ends, and the counts there.
+// Where an arm or an if ends, and the counts there.
 #[derive(Clone, Copy)]
 pub struct Passed {
     pub next: usize,
@@ -46,23 +39,23 @@ pub struct Passed {
 
 // The access of a number: the counts before it, its array, and the variable that holds its index.
 #[derive(Clone, Copy)]
-pub enum Access {
-    Nowhere,
-    Here { counts: Counts, array: u8, i: u8 },
+pub struct Access {
+    pub counts: Counts,
+    pub array: u8,
+    pub i: u8,
 }
 
 // Checks a routine: the whole of what is refused with numbers 1 to 8.
-pub fn check(routine: &[u8]) -> Checked
+#[tactic(auto, unfolding(crate::specs::Decode::checked, crate::specs::Decode::decode, crate::specs::Inner::Known::checked_commands))]
+pub fn check(routine: &[u8]) -> Result<Accepted, Refusal>
     ensures { result ≡ checked routine.now }
 {
     if routine.len() < 1 {
-        return Checked::Refused(Refusal::Length);
+        return Err(Refusal::Length);
     }
     if 4096 < routine.len() {
-        return Checked::Refused(Refusal::Length);
+        return Err(Refusal::Length);
     }
-    match routine_header::read_header(routine) {
-        Head::Wrong(place) => Checked::Refused(Refusal::Header(place)),
-        Head::Valid(h) => walks::check_commands(routine, h),
-    }
+    let header = routine_header::read_header(routine).map_err(|place| Refusal::Header(place))?;
+    walks::check_commands(routine, header)
 }

@@ -10,32 +10,27 @@ use routine_command::{Command, Simple, Touch};
 use routine_faults::Counts;
 use routine_faults::steps::{accesses_of, counts_after, counts_after_if, no_counts};
 use routine_header::{Header, first_command};
-use slices::wide;
 
 // The command after the counts k, if it is the access of this number.
-fn access_here(c: Simple, k: Counts, access: u8) -> Access
+#[tactic(auto, unfolding(crate::specs::Access::access_here))]
+fn access_here(c: Simple, k: Counts, access: u8) -> Option<Access>
     ensures { result ≡ access_here c k access }
 {
-    if accesses_of(k) != wide(access) {
-        return Access::Nowhere;
+    if accesses_of(k) != u32::from(access) {
+        return None;
     }
     match touched(c) {
-        Touch::Nothing => Access::Nowhere,
-        Touch::Reads { d: _, array, i } => Access::Here {
+        Touch::Nothing => None,
+        Touch::Reads { d: _, array, i } | Touch::Writes { array, i } => Some(Access {
             counts: k,
             array,
             i,
-        },
-        Touch::Writes { array, i } => Access::Here {
-            counts: k,
-            array,
-            i,
-        },
+        }),
     }
 }
 
-// The access of this number in an accepted routine.
-pub fn access_at(bytes: &[u8], h: Header, access: u8) -> Access
+// The access of this number in an accepted routine. No index is counted: a command's size tells where the next one stands.
+pub fn access_at(bytes: &[u8], h: Header, access: u8) -> Option<Access>
     requires { IsRoutine bytes.now h }
     ensures { Seeks bytes.now h access result }
 {
@@ -43,7 +38,7 @@ pub fn access_at(bytes: &[u8], h: Header, access: u8) -> Access
     let mut k = no_counts();
     while at < bytes.len() {
         match command_at(bytes, at) {
-            Command::Missing => return Access::Nowhere,
+            Command::Missing => return None,
             Command::Close(_) => {
                 at += 1;
             }
@@ -52,15 +47,15 @@ pub fn access_at(bytes: &[u8], h: Header, access: u8) -> Access
                 k = counts_after_if(k);
             }
             Command::Simple(c) => match access_here(c, k, access) {
-                Access::Here { counts, array, i } => return Access::Here { counts, array, i },
-                Access::Nowhere => {
+                Some(found) => return Some(found),
+                None => {
                     at += simple_size(c);
                     k = counts_after(c, k);
                 }
             },
         }
     }
-    Access::Nowhere
+    None
 }
 
 // How many ifs stand before the access of this number in an accepted routine.
@@ -69,11 +64,7 @@ pub fn ifs_before(bytes: &[u8], h: Header, access: u8) -> u8
     ensures { result ≡ ifs_before (commands_in bytes.now) access }
 {
     match access_at(bytes, h, access) {
-        Access::Nowhere => 0,
-        Access::Here {
-            counts,
-            array: _,
-            i: _,
-        } => counts.ifs,
+        None => 0,
+        Some(found) => found.counts.ifs,
     }
 }

@@ -5,96 +5,85 @@ ghost use Rattle.routine.specs.Inner.Walk.{walk_arm, walk_if};
 ghost use Rattle.routine.specs.Inner.Stands.{SomeArm};
 ghost use Rattle.routine.specs.Inner.Passes.{Passes};
 
-use crate::{Checked, Passed, Refusal, Walked};
-use routine_command::Command;
+use crate::{Accepted, Passed, Refusal};
 use routine_command::commands::{command_at, simple_size};
+use routine_command::{Command, Mark};
 use routine_faults::steps::{counts_after, counts_after_if, if_fault, no_counts, simple_fault};
-use routine_faults::{Counts, Fault, Flaw};
+use routine_faults::{Counts, Fault};
 use routine_header::{Header, first_command};
 
-// Walks over the arm from `from` on, inside `depth` ifs, that the command byte `close` ends, after the counts `before`.
+// Walks over the arm from `from` on, inside `depth` ifs, that the mark `close` ends, after the counts `before`: where it ends and the counts there, or
+// the fault of a command. No index is counted: a command's size tells where the next one stands.
 #[cycle(walk_arm_walk_if)]
 pub fn walk_arm(
     bytes: &[u8],
     h: Header,
     depth: u8,
-    close: u8,
+    close: Mark,
     from: usize,
     before: Counts,
-) -> Walked
+) -> Result<Passed, Refusal>
     ensures { result ≡ walk_arm bytes.now h depth close from before }
 {
     let mut at = from;
     let mut k = before;
     loop {
         match command_at(bytes, at) {
-            Command::Missing => return Walked::Refused(Fault::Unknown, at),
+            Command::Missing => return Err(Refusal::Command(Fault::Unknown, at)),
             Command::Close(mark) => {
                 if mark != close {
-                    return Walked::Refused(Fault::Misplaced, at);
+                    return Err(Refusal::Command(Fault::Misplaced, at));
                 }
-                return Walked::Ended(at + 1, k);
+                return Ok(Passed {
+                    next: at + 1,
+                    counts: k,
+                });
             }
-            Command::If(c) => match if_fault(bytes, h, depth, c, k) {
-                Flaw::Fault(fault) => return Walked::Refused(fault, at),
-                Flaw::Nothing => match walk_if(bytes, h, depth, at, counts_after_if(k)) {
-                    Walked::Refused(fault, place) => return Walked::Refused(fault, place),
-                    Walked::Ended(next, counts) => {
-                        at = next;
-                        k = counts;
-                    }
-                },
-            },
-            Command::Simple(c) => match simple_fault(bytes, h, c, k) {
-                Flaw::Fault(fault) => return Walked::Refused(fault, at),
-                Flaw::Nothing => {
-                    at += simple_size(c);
-                    k = counts_after(c, k);
-                }
-            },
+            Command::If(c) => {
+                if_fault(bytes, h, depth, c, k).map_err(|fault| Refusal::Command(fault, at))?;
+                let passed = walk_if(bytes, h, depth, at, counts_after_if(k))?;
+                at = passed.next;
+                k = passed.counts;
+            }
+            Command::Simple(c) => {
+                simple_fault(bytes, h, c, k).map_err(|fault| Refusal::Command(fault, at))?;
+                at += simple_size(c);
+                k = counts_after(c, k);
+            }
         }
     }
 }
 
 // Walks over the two arms of the if at `at`, up to its end.
 #[cycle(walk_arm_walk_if)]
-fn walk_if(bytes: &[u8], h: Header, depth: u8, at: usize, k: Counts) -> Walked
+fn walk_if(bytes: &[u8], h: Header, depth: u8, at: usize, k: Counts) -> Result<Passed, Refusal>
     requires { (at + 4 ≤ length bytes.now) × (depth < 8) }
     ensures { result ≡ walk_if bytes.now h depth at k }
 {
-    match walk_arm(bytes, h, depth + 1, 0x0C, at + 4, k) {
-        Walked::Refused(fault, place) => Walked::Refused(fault, place),
-        Walked::Ended(next, counts) => walk_arm(bytes, h, depth + 1, 0x0D, next, counts),
-    }
+    let first = walk_arm(bytes, h, depth + 1, Mark::Else, at + 4, k)?;
+    walk_arm(bytes, h, depth + 1, Mark::EndIf, first.next, first.counts)
 }
 
 // Checks the commands of a routine whose header is whole: refusals 3 to 8.
-pub fn check_commands(bytes: &[u8], h: Header) -> Checked
+pub fn check_commands(bytes: &[u8], h: Header) -> Result<Accepted, Refusal>
     ensures { result ≡ checked_commands bytes.now h }
 {
     let nothing_yet = no_counts();
-    match walk_arm(bytes, h, 0, 0x00, first_command(h), nothing_yet) {
-        Walked::Refused(fault, place) => Checked::Refused(Refusal::Command(fault, place)),
-        Walked::Ended(next, counts) => {
-            if next == bytes.len() {
-                Checked::Accepted { header: h, counts }
-            } else {
-                Checked::Refused(Refusal::Trailing(next))
-            }
-        }
+    let Passed { next, counts } = walk_arm(bytes, h, 0, Mark::End, first_command(h), nothing_yet)?;
+    if next == bytes.len() {
+        Ok(Accepted { header: h, counts })
+    } else {
+        Err(Refusal::Trailing(next))
     }
 }
 
 // Goes past the arm that stands at `at`.
-pub fn pass_arm(bytes: &[u8], h: Header, depth: u8, close: u8, at: usize, k: Counts) -> Passed
+pub fn pass_arm(bytes: &[u8], h: Header, depth: u8, close: Mark, at: usize, k: Counts) -> Passed
     requires { SomeArm bytes.now h depth close at k }
     ensures { Passes bytes.now h depth close at k result }
 {
     match walk_arm(bytes, h, depth, close, at, k) {
-        Walked::Refused(_, place) => Passed {
-            next: place,
-            counts: k,
-        },
-        Walked::Ended(next, counts) => Passed { next, counts },
+        Ok(passed) => passed,
+        Err(_) => unreachable!(),
     }
 }

@@ -1,3 +1,2 @@
 -- The laws for the layers above.
 pub mod Sizes
-pub mod Bytes

@@ -1,15 +1,16 @@
 -- Laws of a command at an offset. Assumes nothing.
-use mathlib.Core.Path.{◌≡◌, refl, sym}
+use mathlib.Core.Path.{◌≡◌, refl, sym, ◌∙◌}
 use mathlib.Core.List.{List}
-use mathlib.Core.Bool.{Bool, true, false, cond, ◌||◌}
+use mathlib.Core.Bool.{Bool, true, false, cond}
+use Rattle.std.specs.Prelude.{Option, Some, None}
 use Prim.Native.Nat.{ℕ, ◌+◌, ◌≤◌, ◌<◌, ◌-◌}
 use native.Mathlib.Omega.{arith}
 use lib.ListN.{length}
-use lib.Dec.{lit<, leb, eqb}
+use lib.Dec.{lit<, leb}
 use borrow.Author.Tests.{le-leb, lt-leb}
 use Rattle.slices.specs.Bytes.{entry, word}
-use Rattle.routine_header.specs.Header.{between}
-use Rattle.routine_command.specs.Command.{command_size, simple_size, size_by_op, command_by, command_of, command_at}
+use Rattle.routine_command.specs.Command.{command_size, simple_size, size_by_op, opcode_of, opcode_size, command_with, command_from, command_by, command_of, command_at}
+use Rattle.routine_command.specs.declared.Opcode.{Opcode}
 use Rattle.routine_command.specs.declared.Simple.{Simple}
 use Rattle.routine_command.specs.declared.Command.{Command}
 
@@ -27,17 +28,6 @@ size-pos (Command.Close m) = lit< tt
 size-pos (Command.If c) = lit< tt
 size-pos (Command.Simple c) = simple-size c
 
--- one, three, or at least four
-pub four_or_more : (c : Command) → (command_size c ≡ 1 → ⊥) → (command_size c ≡ 3 → ⊥) → 4 ≤ command_size c
-four_or_more Command.Missing f g = absurd (f refl)
-four_or_more (Command.Close m) f g = absurd (f refl)
-four_or_more (Command.If c) f g = omega arith
-four_or_more (Command.Simple (Simple.Set d k)) f g = omega arith
-four_or_more (Command.Simple (Simple.Convert op d s)) f g = absurd (g refl)
-four_or_more (Command.Simple (Simple.Compute op d s t)) f g = omega arith
-four_or_more (Command.Simple (Simple.Read d a i)) f g = omega arith
-four_or_more (Command.Simple (Simple.Write a i s)) f g = omega arith
-
 -- it is whole
 pub whole : (bs : List ℕ) (at : ℕ) (r : Command) → r ≡ command_of bs at → command_size r ≤ length bs - at → r ≡ command_at bs at
 unfolding command_at
@@ -50,31 +40,47 @@ cut bs at h = simp (lt-leb _ _ h)
 
 -- ---- by the command's byte alone
 
-size_same : (b₁ b₂ b₃ b₄ b₅ b₆ b₇ : Bool) (op a b c k : ℕ)
-    → command_size (cond b₁ (Command.Simple (Simple.Set a k)) (cond b₂ (Command.Simple (Simple.Convert op a b)) (cond b₃ (Command.Simple (Simple.Compute op a b c))
-    (cond b₄ (Command.Simple (Simple.Read a b c)) (cond b₅ (Command.Simple (Simple.Write a b c)) (cond b₆ (Command.If (record { relation = a; s = b; t = c }))
-    (cond b₇ (Command.Close op) Command.Missing)))))))
-    ≡ command_size (cond b₁ (Command.Simple (Simple.Set 0 0)) (cond b₂ (Command.Simple (Simple.Convert op 0 0)) (cond b₃ (Command.Simple (Simple.Compute op 0 0 0))
-    (cond b₄ (Command.Simple (Simple.Read 0 0 0)) (cond b₅ (Command.Simple (Simple.Write 0 0 0)) (cond b₆ (Command.If (record { relation = 0; s = 0; t = 0 }))
-    (cond b₇ (Command.Close op) Command.Missing)))))))
-size_same true b₂ b₃ b₄ b₅ b₆ b₇ op a b c k = refl
-size_same false true b₃ b₄ b₅ b₆ b₇ op a b c k = refl
-size_same false false true b₄ b₅ b₆ b₇ op a b c k = refl
-size_same false false false true b₅ b₆ b₇ op a b c k = refl
-size_same false false false false true b₆ b₇ op a b c k = refl
-size_same false false false false false true b₇ op a b c k = refl
-size_same false false false false false false true op a b c k = refl
-size_same false false false false false false false op a b c k = refl
+size_with : (o : Opcode) (a b c k : ℕ) → command_size (command_with o a b c k) ≡ opcode_size o
+size_with (Opcode.Close mark) a b c k = refl
+size_with Opcode.Set a b c k = refl
+size_with (Opcode.Convert op) a b c k = refl
+size_with (Opcode.Compute op) a b c k = refl
+size_with Opcode.Read a b c k = refl
+size_with Opcode.Write a b c k = refl
+size_with Opcode.If a b c k = refl
+
+same_size : (o : Option Opcode) (a b c k : ℕ) → command_size (command_from o a b c k) ≡ command_size (command_from o 0 0 0 0)
+same_size None a b c k = refl
+same_size (Some o) a b c k = size_with o a b c k ∙ sym (size_with o 0 0 0 0)
 
 -- the operands do not matter
 pub size_by : (op a b c k : ℕ) → command_size (command_by op a b c k) ≡ size_by_op op
 unfolding command_by
-size_by op a b c k =
-    size_same (eqb op 1) (eqb op 2 || between 6 8 op) (between 3 5 op || between 14 15 op) (eqb op 9) (eqb op 10) (eqb op 11) (eqb op 0 || between 12 13 op) op a b c k
+size_by op a b c k = same_size (opcode_of op) a b c k
 
 -- so a command's size is that of its byte
 pub size_at : (bs : List ℕ) (at : ℕ) → command_size (command_of bs at) ≡ size_by_op (entry bs at)
 size_at bs at = size_by (entry bs at) (entry bs (at + 1)) (entry bs (at + 2)) (entry bs (at + 3)) (word bs (at + 2))
+
+-- ---- by the opcode of the byte that stands there
+
+module _ (bs : List ℕ) (at : ℕ) where
+  pub unknown : opcode_of (entry bs at) ≡ None → Command.Missing ≡ command_at bs at
+  unfolding command_at command_by
+  unknown e = rw e (go (leb 1 (length bs - at)))
+    where
+      go : (b : Bool) → Command.Missing ≡ cond b Command.Missing Command.Missing
+      go true = refl
+      go false = refl
+
+  module _ (o : Opcode) (e : opcode_of (entry bs at) ≡ Some o) where
+    pub size_there : command_size (command_of bs at) ≡ opcode_size o
+    unfolding command_by
+    size_there = rw e (size_with o (entry bs (at + 1)) (entry bs (at + 2)) (entry bs (at + 3)) (word bs (at + 2)))
+
+    pub there : opcode_size o ≤ length bs - at → command_with o (entry bs (at + 1)) (entry bs (at + 2)) (entry bs (at + 3)) (word bs (at + 2)) ≡ command_at bs at
+    unfolding command_by
+    there l = whole bs at _ (rw e) (omega (arith, size_with o (entry bs (at + 1)) (entry bs (at + 2)) (entry bs (at + 3)) (word bs (at + 2))))
 
 -- a command that is there is the one whose byte stands there
 pub not_cut : (bs : List ℕ) (at : ℕ) (r : Command) → command_at bs at ≡ r → (r ≡ Command.Missing → ⊥) → command_of bs at ≡ r

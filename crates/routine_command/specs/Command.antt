@@ -1,7 +1,10 @@
 -- What stands at an offset of a routine.
-use Rattle.std.specs.Prelude.{ℕ, ◌+◌, ◌-◌, List, cond, ◌||◌, length, leb, eqb}
+use Rattle.std.specs.Prelude.{ℕ, ◌+◌, ◌-◌, List, Option, Some, None, cond, length, leb, eqb}
 use Rattle.slices.specs.Bytes.{entry, word}
-use Rattle.routine_header.specs.Header.{between}
+use Rattle.routine_command.specs.declared.Conversion.{Conversion}
+use Rattle.routine_command.specs.declared.Operation.{Operation}
+use Rattle.routine_command.specs.declared.Mark.{Mark}
+use Rattle.routine_command.specs.declared.Opcode.{Opcode}
 use Rattle.routine_command.specs.declared.Simple.{Simple}
 use Rattle.routine_command.specs.declared.Touch.{Touch}
 use Rattle.routine_command.specs.declared.Command.{Command}
@@ -36,17 +39,55 @@ command_size (Command.Close mark) = 1
 command_size (Command.If c) = 4
 command_size (Command.Simple c) = simple_size c
 
+-- the command that the byte `op` stands for; any other byte is unknown
+unfoldable pub opcode_of : (op : ℕ) → Option Opcode
+opcode_of op =
+    cond (eqb op 0x00) (Some (Opcode.Close Mark.End))
+    (cond (eqb op 0x01) (Some Opcode.Set)
+    (cond (eqb op 0x02) (Some (Opcode.Convert Conversion.Copy))
+    (cond (eqb op 0x03) (Some (Opcode.Compute Operation.Add))
+    (cond (eqb op 0x04) (Some (Opcode.Compute Operation.Subtract))
+    (cond (eqb op 0x05) (Some (Opcode.Compute Operation.Multiply))
+    (cond (eqb op 0x06) (Some (Opcode.Convert Conversion.Cut))
+    (cond (eqb op 0x07) (Some (Opcode.Convert Conversion.ZeroExtend))
+    (cond (eqb op 0x08) (Some (Opcode.Convert Conversion.SignExtend))
+    (cond (eqb op 0x09) (Some Opcode.Read)
+    (cond (eqb op 0x0A) (Some Opcode.Write)
+    (cond (eqb op 0x0B) (Some Opcode.If)
+    (cond (eqb op 0x0C) (Some (Opcode.Close Mark.Else))
+    (cond (eqb op 0x0D) (Some (Opcode.Close Mark.EndIf))
+    (cond (eqb op 0x0E) (Some (Opcode.Compute Operation.Quotient))
+    (cond (eqb op 0x0F) (Some (Opcode.Compute Operation.Remainder))
+    None)))))))))))))))
+
+-- the size in bytes of the command with this opcode
+abbrev pub opcode_size : Opcode → ℕ
+opcode_size (Opcode.Close mark) = 1
+opcode_size Opcode.Set = 6
+opcode_size (Opcode.Convert op) = 3
+opcode_size (Opcode.Compute op) = 4
+opcode_size Opcode.Read = 4
+opcode_size Opcode.Write = 4
+opcode_size Opcode.If = 4
+
+-- the command with this opcode and the operands a, b, c (one byte each), or the constant that a set has
+abbrev pub command_with : Opcode → (a b c const : ℕ) → Command
+command_with (Opcode.Close mark) a b c const = Command.Close mark
+command_with Opcode.Set a b c const = Command.Simple (Simple.Set a const)
+command_with (Opcode.Convert op) a b c const = Command.Simple (Simple.Convert op a b)
+command_with (Opcode.Compute op) a b c const = Command.Simple (Simple.Compute op a b c)
+command_with Opcode.Read a b c const = Command.Simple (Simple.Read a b c)
+command_with Opcode.Write a b c const = Command.Simple (Simple.Write a b c)
+command_with Opcode.If a b c const = Command.If (record { relation = a; s = b; t = c })
+
+-- the same where the byte may be unknown
+abbrev pub command_from : Option Opcode → (a b c const : ℕ) → Command
+command_from None a b c const = Command.Missing
+command_from (Some opcode) a b c const = command_with opcode a b c const
+
 -- the command by its byte `op`, with those of the operands a, b, c (one byte each) and the constant that it has; any other byte is unknown
 unfoldable pub command_by : (op a b c const : ℕ) → Command
-command_by op a b c const =
-    cond (eqb op 0x01) (Command.Simple (Simple.Set a const))
-    (cond (eqb op 0x02 || between 0x06 0x08 op) (Command.Simple (Simple.Convert op a b))
-    (cond (between 0x03 0x05 op || between 0x0E 0x0F op) (Command.Simple (Simple.Compute op a b c))
-    (cond (eqb op 0x09) (Command.Simple (Simple.Read a b c))
-    (cond (eqb op 0x0A) (Command.Simple (Simple.Write a b c))
-    (cond (eqb op 0x0B) (Command.If (record { relation = a; s = b; t = c }))
-    (cond (eqb op 0x00 || between 0x0C 0x0D op) (Command.Close op)
-    Command.Missing))))))
+command_by op a b c const = command_from (opcode_of op) a b c const
 
 -- the size of a command by its byte alone: the operands do not matter
 abbrev pub size_by_op : (op : ℕ) → ℕ

@@ -1,8 +1,9 @@
 // The command at an offset, and its size in bytes.
-ghost use Rattle.std.specs.Prelude.{◌≡◌, ℕ, ◌+◌, ◌≤◌, length};
-ghost use Rattle.routine_command.specs.Command.{command_by, command_over, command_at, size_by_op, simple_size, touches, touches_of};
+ghost use Rattle.std.specs.Prelude.{◌≡◌, ◌+◌, ◌≤◌, length};
+ghost use Rattle.slices.specs.Bytes.{entry, word};
+ghost use Rattle.routine_command.specs.Command.{opcode_of, opcode_size, command_with, command_at, size_by_op, simple_size, touches, touches_of};
 
-use crate::{Command, Condition, Simple, Touch};
+use crate::{Command, Condition, Conversion, Mark, Opcode, Operation, Simple, Touch};
 use slices::whole_word_at;
 
 pub fn simple_size(c: Simple) -> usize
@@ -29,6 +30,7 @@ pub fn touched(c: Simple) -> Touch
     }
 }
 
+#[tactic(auto, unfolding(crate::specs::Command::touches_of))]
 pub fn touch_of(command: Command) -> Touch
     ensures { result ≡ touches_of command }
 {
@@ -40,77 +42,96 @@ pub fn touch_of(command: Command) -> Touch
     }
 }
 
+// The command that a byte stands for; none where the byte is unknown.
+#[tactic(auto, unfolding(crate::specs::Command::opcode_of))]
+pub fn opcode_of(op: u8) -> Option<Opcode>
+    ensures { result ≡ opcode_of op }
+{
+    let opcode = match op {
+        0x00 => Opcode::Close(Mark::End),
+        0x01 => Opcode::Set,
+        0x02 => Opcode::Convert(Conversion::Copy),
+        0x03 => Opcode::Compute(Operation::Add),
+        0x04 => Opcode::Compute(Operation::Subtract),
+        0x05 => Opcode::Compute(Operation::Multiply),
+        0x06 => Opcode::Convert(Conversion::Cut),
+        0x07 => Opcode::Convert(Conversion::ZeroExtend),
+        0x08 => Opcode::Convert(Conversion::SignExtend),
+        0x09 => Opcode::Read,
+        0x0A => Opcode::Write,
+        0x0B => Opcode::If,
+        0x0C => Opcode::Close(Mark::Else),
+        0x0D => Opcode::Close(Mark::EndIf),
+        0x0E => Opcode::Compute(Operation::Quotient),
+        0x0F => Opcode::Compute(Operation::Remainder),
+        _ => return None,
+    };
+    Some(opcode)
+}
+
+fn opcode_size(opcode: Opcode) -> usize
+    ensures { result ≡ opcode_size opcode }
+{
+    match opcode {
+        Opcode::Close(_) => 1,
+        Opcode::Set => 6,
+        Opcode::Convert(_) => 3,
+        Opcode::Compute(_) => 4,
+        Opcode::Read => 4,
+        Opcode::Write => 4,
+        Opcode::If => 4,
+    }
+}
+
 // How many bytes a command takes, by its own byte alone.
+#[tactic(auto, unfolding(crate::specs::Command::command_by, crate::specs::Command::opcode_of))]
 pub fn size_by_op(op: u8) -> usize
     ensures { result ≡ size_by_op op }
 {
     match op {
         0x01 => 6,
-        0x02 => 3,
-        0x03..=0x05 => 4,
-        0x06..=0x08 => 3,
-        0x09..=0x0B => 4,
-        0x0E..=0x0F => 4,
+        0x02 | 0x06..=0x08 => 3,
+        0x03..=0x05 | 0x09..=0x0B | 0x0E..=0x0F => 4,
         _ => 1,
     }
 }
 
-// A command of one byte.
-fn lone_command(op: u8) -> Command
-    requires { size_by_op op ≡ 1 }
-    ensures { (a b c k : ℕ) → result ≡ command_by op a b c k }
+// The operands that follow an opcode, all of them being there.
+fn with_operands(bytes: &[u8], at: usize, opcode: Opcode) -> Command
+    requires { at + opcode_size opcode ≤ length bytes.now }
+    ensures { result ≡ command_with opcode (entry bytes.now (at + 1)) (entry bytes.now (at + 2)) (entry bytes.now (at + 3)) (word bytes.now (at + 2)) }
 {
-    match op {
-        0x00 | 0x0C..=0x0D => Command::Close(op),
-        _ => Command::Missing,
-    }
-}
-
-// A conversion: no other command has three bytes.
-fn convert_at(bytes: &[u8], at: usize, op: u8) -> Command
-    requires { (size_by_op op ≡ 3) × (at + 3 ≤ length bytes.now) }
-    ensures { result ≡ command_over bytes.now at op }
-{
-    Command::Simple(Simple::Convert {
-        op,
-        d: bytes[at + 1],
-        s: bytes[at + 2],
-    })
-}
-
-// A command of four bytes or more: a set, a computation, a read, a write or an if.
-fn long_command(bytes: &[u8], at: usize, op: u8) -> Command
-    requires { (4 ≤ size_by_op op) × (at + size_by_op op ≤ length bytes.now) }
-    ensures { result ≡ command_over bytes.now at op }
-{
-    let a = bytes[at + 1];
-    let b = bytes[at + 2];
-    let c = bytes[at + 3];
-    match op {
-        0x01 => Command::Simple(Simple::Set {
-            d: a,
+    match opcode {
+        Opcode::Close(mark) => Command::Close(mark),
+        Opcode::Set => Command::Simple(Simple::Set {
+            d: bytes[at + 1],
             c: whole_word_at(bytes, at + 2),
         }),
-        0x03..=0x05 | 0x0E..=0x0F => Command::Simple(Simple::Compute {
+        Opcode::Convert(op) => Command::Simple(Simple::Convert {
             op,
-            d: a,
-            s: b,
-            t: c,
+            d: bytes[at + 1],
+            s: bytes[at + 2],
         }),
-        0x09 => Command::Simple(Simple::Read {
-            d: a,
-            array: b,
-            i: c,
+        Opcode::Compute(op) => Command::Simple(Simple::Compute {
+            op,
+            d: bytes[at + 1],
+            s: bytes[at + 2],
+            t: bytes[at + 3],
         }),
-        0x0A => Command::Simple(Simple::Write {
-            array: a,
-            i: b,
-            s: c,
+        Opcode::Read => Command::Simple(Simple::Read {
+            d: bytes[at + 1],
+            array: bytes[at + 2],
+            i: bytes[at + 3],
         }),
-        _ => Command::If(Condition {
-            relation: a,
-            s: b,
-            t: c,
+        Opcode::Write => Command::Simple(Simple::Write {
+            array: bytes[at + 1],
+            i: bytes[at + 2],
+            s: bytes[at + 3],
+        }),
+        Opcode::If => Command::If(Condition {
+            relation: bytes[at + 1],
+            s: bytes[at + 2],
+            t: bytes[at + 3],
         }),
     }
 }
@@ -123,14 +144,14 @@ pub fn command_at(bytes: &[u8], at: usize) -> Command
     if bytes.len() <= at {
         return Command::Missing;
     }
-    let op = bytes[at];
-    let size = size_by_op(op);
-    if bytes.len() - at < size {
-        return Command::Missing;
-    }
-    match size {
-        1 => lone_command(op),
-        3 => convert_at(bytes, at, op),
-        _ => long_command(bytes, at, op),
+    match opcode_of(bytes[at]) {
+        None => Command::Missing,
+        Some(opcode) => {
+            let size = opcode_size(opcode);
+            if bytes.len() - at < size {
+                return Command::Missing;
+            }
+            with_operands(bytes, at, opcode)
+        }
     }
 }

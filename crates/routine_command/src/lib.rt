@@ -3,7 +3,46 @@
 
 pub mod commands;
 
-// The condition of an if.
+// What copies a value from a width to another: equal, narrower or wider.
+#[derive(Clone, Copy)]
+pub enum Conversion {
+    Copy,
+    Cut,
+    ZeroExtend,
+    SignExtend,
+}
+
+// What is computed of two values.
+#[derive(Clone, Copy)]
+pub enum Operation {
+    Add,
+    Subtract,
+    Multiply,
+    Quotient,
+    Remainder,
+}
+
+// What closes an arm: the end of the routine, an else, or the end of an if.
+#[derive(Clone, Copy, PartialEq, Eq)]
+pub enum Mark {
+    End,
+    Else,
+    EndIf,
+}
+
+// What a command's own byte tells: which command it is, without its operands.
+#[derive(Clone, Copy)]
+pub enum Opcode {
+    Close(Mark),
+    Set,
+    Convert(Conversion),
+    Compute(Operation),
+    Read,
+    Write,
+    If,
+}
+
+// The condition of an if. Its relation is the byte that stands there: one that is none is refused where the command stands, and not while it is read.
 #[derive(Clone, Copy)]
 pub struct Condition {
     pub relation: u8,
@@ -15,10 +54,8 @@ pub struct Condition {
 #[derive(Clone, Copy)]
 pub enum Simple {
     Set { d: u8, c: u32 },
-    // 0x02 copy, 0x06 cut, 0x07 zero-extend, 0x08 sign-extend
-    Convert { op: u8, d: u8, s: u8 },
-    // 0x03 add, 0x04 subtract, 0x05 multiply, 0x0E quotient, 0x0F remainder
-    Compute { op: u8, d: u8, s: u8, t: u8 },
+    Convert { op: Conversion, d: u8, s: u8 },
+    Compute { op: Operation, d: u8, s: u8, t: u8 },
     Read { d: u8, array: u8, i: u8 },
     Write { array: u8, i: u8, s: u8 },
 }
@@ -36,8 +73,7 @@ pub enum Touch {
 pub enum Command {
     // unknown or cut short, or no command there
     Missing,
-    // 0x00 end, 0x0C else, 0x0D end of if
-    Close(u8),
+    Close(Mark),
     If(Condition),
     Simple(Simple),
 }

@@ -8,6 +8,7 @@ use native.Mathlib.Nat.{mul-suc, mul-zero, add-zero, add_assoc, add_comm}
 use lib.ListN.{length}
 use lib.Dec.{ltb, leb, eqb, lit<}
 use borrow.Author.Tests.{ltb-true, leb-true, eqb-true}
+use Rattle.std.specs.Prelude.{Ok}
 use Rattle.slices.specs.Bytes.{entry, half}
 use Rattle.routine_header.specs.Header.{between, within, width_ok, size_ok, first_bad, header_of, width}
 use Rattle.routine_header.proofs.Held.{header_in, held}
@@ -15,7 +16,8 @@ use Rattle.routine_faults.specs.Step.{in_range, widths_fit}
 use Rattle.routine_faults.specs.Inner.Sound.{Sound, SoundIf, Fine}
 use Rattle.routine_faults.proofs.Tests.{both}
 use Rattle.routine_header.specs.declared.Header.{Header}
-use Rattle.routine_header.specs.declared.Head.{Head}
+use Rattle.routine_command.specs.declared.Conversion.{Conversion}
+use Rattle.routine_command.specs.declared.Operation.{Operation}
 use Rattle.routine_command.specs.declared.Condition.{Condition}
 use Rattle.routine_command.specs.declared.Simple.{Simple}
 
@@ -35,13 +37,13 @@ module _ (bs : List ℕ) (h : Header) where
       let p = both (ltb d h.variables) (ltb c (2 ^ width bs d)) s.ranges in
       (ltb-true _ _ p.0, ltb-true _ _ p.1)
 
-  pub convert_fine : (op d s : ℕ) → Sound bs h (Simple.Convert op d s) → (d < h.variables) × (s < h.variables)
+  pub convert_fine : (op : Conversion) (d s : ℕ) → Sound bs h (Simple.Convert op d s) → (d < h.variables) × (s < h.variables)
   unfolding in_range
   convert_fine op d s x =
       let p = both (ltb d h.variables) (ltb s h.variables) x.ranges in
       (ltb-true _ _ p.0, ltb-true _ _ p.1)
 
-  pub compute_fine : (op d s t : ℕ) → Sound bs h (Simple.Compute op d s t)
+  pub compute_fine : (op : Operation) (d s t : ℕ) → Sound bs h (Simple.Compute op d s t)
       → (d < h.variables) × (s < h.variables) × (t < h.variables) × (width bs d ≡ width bs s) × (width bs d ≡ width bs t)
   unfolding in_range widths_fit
   compute_fine op d s t x =
@@ -108,7 +110,7 @@ module _ (bs : List ℕ) (v : ℕ) where
   header-room zero l e = omega arith
   header-room (suc n) l e = omega (arith, (sizes_fine (suc n) e n (omega arith)).0)
 
-pub fine : (bs : List ℕ) (h : Header) → header_of bs ≡ Head.Valid h → Fine bs h
+pub fine : (bs : List ℕ) (h : Header) → header_of bs ≡ Ok h → Fine bs h
 fine bs h e =
     let v = (header_in bs).variables in
     let n = (header_in bs).arrays in

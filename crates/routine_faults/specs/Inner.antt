@@ -1,3 +1,3 @@
 -- What inner functions ask and tell each other. No promise of a public call rests on it.
 pub mod Sound
-pub mod Flaw
+pub mod Fault

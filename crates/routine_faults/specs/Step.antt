@@ -1,9 +1,11 @@
 -- What a command is where it stands: refusals 3 to 7, in their order.
-use Rattle.std.specs.Prelude.{ℕ, ◌+◌, ◌^◌, List, Bool, true, false, cond, not, ◌&&◌, ltb, leb, eqb}
+use Rattle.std.specs.Prelude.{ℕ, ◌+◌, ◌^◌, List, Bool, true, false, not, ◌&&◌, ltb, leb, eqb}
 use Rattle.slices.specs.Guard.{unless}
-use Rattle.routine_header.specs.Header.{width, between}
+use Rattle.routine_header.specs.Header.{width}
 use Rattle.routine_command.specs.Command.{touches}
 use Rattle.routine_header.specs.declared.Header.{Header}
+use Rattle.routine_command.specs.declared.Conversion.{Conversion}
+use Rattle.routine_command.specs.declared.Mark.{Mark}
 use Rattle.routine_command.specs.declared.Condition.{Condition}
 use Rattle.routine_faults.specs.declared.Counts.{Counts}
 use Rattle.routine_command.specs.declared.Simple.{Simple}
@@ -20,12 +22,11 @@ in_range bs h (Simple.Read d array i) = ltb d h.variables && ltb array h.arrays 
 in_range bs h (Simple.Write array i s) = ltb array h.arrays && ltb i h.variables && ltb s h.variables
 
 -- the widths of d and s: equal for copy, d narrower for cut, d wider for the extensions
-abbrev pub converts : (op d s : ℕ) → Bool
-converts op d s =
-    cond (eqb op 0x02) (eqb d s)
-    (cond (eqb op 0x06) (ltb d s)
-    (cond (between 0x07 0x08 op) (ltb s d)
-    false))
+abbrev pub converts : Conversion → (d s : ℕ) → Bool
+converts Conversion.Copy d s = eqb d s
+converts Conversion.Cut d s = ltb d s
+converts Conversion.ZeroExtend d s = ltb s d
+converts Conversion.SignExtend d s = ltb s d
 
 -- the widths are as the command asks
 unfoldable pub widths_fit : List ℕ → Simple → Bool
@@ -101,10 +102,17 @@ if_step bs h depth c k =
     (unless (ltb k.ifs 32) (faulty Fault.TooMany)
     (if_then c (counts_after_if k)))))
 
--- the command inside `depth` ifs, in an arm that the command byte `close` ends, after the counts k
-unfoldable pub step_of : List ℕ → Header → (depth close : ℕ) → Command → Counts → Step
+-- two marks are the same
+abbrev pub same_mark : Mark → Mark → Bool
+same_mark Mark.End Mark.End = true
+same_mark Mark.Else Mark.Else = true
+same_mark Mark.EndIf Mark.EndIf = true
+same_mark mark close = false
+
+-- the command inside `depth` ifs, in an arm that the mark `close` ends, after the counts k
+unfoldable pub step_of : List ℕ → Header → (depth : ℕ) → (close : Mark) → Command → Counts → Step
 unfolding unless
 step_of bs h depth close Command.Missing k = faulty Fault.Unknown
-step_of bs h depth close (Command.Close mark) k = unless (eqb mark close) (faulty Fault.Misplaced) closing
+step_of bs h depth close (Command.Close mark) k = unless (same_mark mark close) (faulty Fault.Misplaced) closing
 step_of bs h depth close (Command.If c) k = if_step bs h depth c k
 step_of bs h depth close (Command.Simple c) k = simple_step bs h c k

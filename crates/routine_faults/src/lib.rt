@@ -26,10 +26,3 @@ pub enum Fault {
     // the 33rd if, the 65th access
     TooMany,
 }
-
-// What is found of a command where it stands: nothing, or what is wrong with it.
-#[derive(Clone, Copy)]
-pub enum Flaw {
-    Nothing,
-    Fault(Fault),
-}

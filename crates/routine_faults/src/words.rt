@@ -19,7 +19,7 @@ pub fn input_number(h: Header, k: Counts) -> usize
     given_of(h) as usize + k.reads as usize
 }
 
-// How many words an input list has.
+// How many words an input list has. A definition of its own, which promises cite, though the number is that of the next read.
 pub fn input_count(h: Header, k: Counts) -> usize
     ensures { result ≡ input_count h k }
 {

@@ -6,11 +6,11 @@ use Prim.Native.Nat.{ℕ, ◌+◌, ◌*◌}
 use native.Mathlib.Omega.{arith}
 use borrow.Author.Tests.{eqb-true}
 use lib.Dec.{eqb}
+use Rattle.std.specs.Prelude.{Result, Ok, Err}
 use Rattle.slices.specs.Bytes.{entry}
 use Rattle.slices.specs.Guard.{unless}
 use Rattle.routine_header.specs.Header.{within, width_ok, size_ok, first_bad, header_of}
 use Rattle.routine_header.specs.declared.Header.{Header}
-use Rattle.routine_header.specs.declared.Head.{Head}
 
 -- what the bytes say of a header
 abbrev pub header_in : List ℕ → Header
@@ -26,15 +26,15 @@ pub record Held (bs : List ℕ) (h : Header) : Type 0 where
   pub is : header_in bs ≡ h
 
 -- no wrong place: the test held
-needed : (b : Bool) (place : ℕ) (go : Head) (h : Header) → unless b (Head.Wrong place) go ≡ Head.Valid h → (b ≡ true) × (go ≡ Head.Valid h)
+needed : (b : Bool) (place : ℕ) (go : Result Header ℕ) (h : Header) → unless b (Err place) go ≡ Ok h → (b ≡ true) × (go ≡ Ok h)
 unfolding unless
 needed true place go h e = (refl, e)
 needed false place go h e = let z : ◌≡◌ {A = ℕ} 0 1 = cc in absurd (omega arith)
 
-valid_injective : {h h₁ : Header} → Head.Valid h ≡ Head.Valid h₁ → h ≡ h₁
+valid_injective : {h h₁ : Header} → ◌≡◌ {A = Result Header ℕ} (Ok h) (Ok h₁) → h ≡ h₁
 valid_injective e = cc
 
-pub held : (bs : List ℕ) (h : Header) → header_of bs ≡ Head.Valid h → Held bs h
+pub held : (bs : List ℕ) (h : Header) → header_of bs ≡ Ok h → Held bs h
 unfolding header_of
 held bs h e =
     let v = entry bs 1 in

@@ -1,9 +1,8 @@
 -- The header of a routine.
-use Rattle.std.specs.Prelude.{ℕ, zero, suc, ◌+◌, ◌*◌, List, Bool, cond, ◌&&◌, length, ltb, leb, eqb}
+use Rattle.std.specs.Prelude.{ℕ, zero, suc, ◌+◌, ◌*◌, List, Result, Ok, Err, Bool, cond, ◌&&◌, length, ltb, leb, eqb}
 use Rattle.slices.specs.Bytes.{entry, half}
 use Rattle.slices.specs.Guard.{unless}
 use Rattle.routine_header.specs.declared.Header.{Header}
-use Rattle.routine_header.specs.declared.Head.{Head}
 
 -- lo ≤ n ≤ hi
 abbrev pub between : (lo hi n : ℕ) → Bool
@@ -26,21 +25,21 @@ unfoldable pub first_bad : (ok : ℕ → Bool) → (step n at : ℕ) → ℕ
 first_bad ok step zero at = at
 first_bad ok step (suc n) at = cond (ok at) (first_bad ok step n (at + step)) at
 
--- 0x01; the number of variables; their widths; the number of parameters; the number of arrays; their sizes
-unfoldable pub header_of : List ℕ → Head
+-- 0x01; the number of variables; their widths; the number of parameters; the number of arrays; their sizes. Or the offset that is wrong.
+unfoldable pub header_of : List ℕ → Result Header ℕ
 unfolding unless
 header_of bs =
     let v : ℕ = entry bs 1 in
     let n : ℕ = entry bs (v + 3) in
     let w : ℕ = first_bad (width_ok bs) 1 v 2 in
     let z : ℕ = first_bad (size_ok bs) 2 n (v + 4) in
-    unless (within bs 0 1 1) (Head.Wrong 0)
-    (unless (within bs 1 1 32) (Head.Wrong 1)
-    (unless (eqb w (v + 2)) (Head.Wrong w)
-    (unless (within bs (v + 2) 0 v) (Head.Wrong (v + 2))
-    (unless (within bs (v + 3) 0 16) (Head.Wrong (v + 3))
-    (unless (eqb z (v + 4 + 2 * n)) (Head.Wrong z)
-    (Head.Valid (record { variables = v; parameters = entry bs (v + 2); arrays = n })))))))
+    unless (within bs 0 1 1) (Err 0)
+    (unless (within bs 1 1 32) (Err 1)
+    (unless (eqb w (v + 2)) (Err w)
+    (unless (within bs (v + 2) 0 v) (Err (v + 2))
+    (unless (within bs (v + 3) 0 16) (Err (v + 3))
+    (unless (eqb z (v + 4 + 2 * n)) (Err z)
+    (Ok (record { variables = v; parameters = entry bs (v + 2); arrays = n })))))))
 
 -- the offset of the first command
 abbrev pub first_command : Header → ℕ

@@ -1,8 +1,8 @@
 // The header: reading it, and the widths and sizes that it holds.
 #![tactic(auto)]
 
-ghost use Rattle.std.specs.Prelude.{◌≡◌, ◌<◌, ◌&&◌, leb};
-ghost use Rattle.routine_header.specs.Header.{within, width_ok, size_ok, first_bad, header_of, first_command, width, array_size};
+ghost use Rattle.std.specs.Prelude.{◌≡◌, ℕ, Bool, ◌<◌, ◌≤◌};
+ghost use Rattle.routine_header.specs.Header.{within, size_ok, first_bad, header_of, first_command, width, array_size};
 
 use slices::{byte_at, half_at};
 
@@ -14,28 +14,17 @@ pub struct Header {
     pub arrays: u8,
 }
 
-// What reading the header finds: a header, or the offset that is wrong.
-#[derive(Clone, Copy)]
-pub enum Head {
-    Valid(Header),
-    Wrong(usize),
-}
-
-fn between(b: u8, lo: u8, hi: u8) -> bool
-    ensures { result ≡ leb lo b && leb b hi }
-{
-    lo <= b && b <= hi
-}
-
 // There is a byte at i, from lo to hi.
+#[tactic(auto, unfolding(crate::specs::Header::within))]
 fn is_within(bytes: &[u8], i: usize, lo: u8, hi: u8) -> bool
     ensures { result ≡ within bytes.now i lo hi }
 {
     let b = byte_at(bytes, i);
-    i < bytes.len() && between(b, lo, hi)
+    i < bytes.len() && lo <= b && b <= hi
 }
 
 // A whole size stands at i.
+#[tactic(auto, unfolding(crate::specs::Header::size_ok))]
 fn is_size(bytes: &[u8], i: usize) -> bool
     requires { i < 1000 }
     ensures { result ≡ size_ok bytes.now i }
@@ -47,67 +36,52 @@ fn is_size(bytes: &[u8], i: usize) -> bool
     1 <= size && size <= 4096
 }
 
-// The first of n widths that is wrong, or the offset after them.
-fn bad_width(bytes: &[u8], n: u8) -> usize
-    ensures { result ≡ first_bad (width_ok bytes.now) 1 n 2 }
-{
-    let mut at: usize = 2;
-    let mut left = n;
-    while 0 < left {
-        if !is_within(bytes, at, 1, 32) {
-            return at;
-        }
-        at += 1;
-        left -= 1;
-    }
-    at
-}
-
-// The first of n sizes from `from` on that is wrong, or the offset after them.
-fn bad_size(bytes: &[u8], from: usize, n: u8) -> usize
-    requires { from < 300 }
-    ensures { result ≡ first_bad (size_ok bytes.now) 2 n from }
+// The first of n places from `from` on, `step` bytes apart, that is not ok, or the place after them all.
+fn first_bad<F: Fn(usize) -> bool>(ok: F, step: usize, n: u8, from: usize) -> usize
+    requires near { (from < 300) × (step ≤ 2) }
+    requires callable { (i : ℕ) → i < 1000 → F.pre ok i }
+    ensures { (P : ℕ → Bool) → ((i : ℕ) (b : Bool) → i < 1000 → F.post ok i b → b ≡ P i) → result ≡ first_bad P step n from }
 {
     let mut at = from;
-    let mut left = n;
-    while 0 < left {
-        if !is_size(bytes, at) {
+    for _ in 0..n {
+        if !ok(at) {
             return at;
         }
-        at += 2;
-        left -= 1;
+        at += step;
     }
     at
 }
 
-pub fn read_header(bytes: &[u8]) -> Head
+// The header, or the offset that is wrong.
+#[tactic(auto, unfolding(crate::specs::Header::header_of))]
+pub fn read_header(bytes: &[u8]) -> Result<Header, usize>
     ensures { result ≡ header_of bytes.now }
 {
     if !is_within(bytes, 0, 1, 1) {
-        return Head::Wrong(0);
+        return Err(0);
     }
     if !is_within(bytes, 1, 1, 32) {
-        return Head::Wrong(1);
+        return Err(1);
     }
     let variables = byte_at(bytes, 1);
     let v = variables as usize;
-    let w = bad_width(bytes, variables);
+    let w = first_bad(|i| is_within(bytes, i, 1, 32), 1, variables, 2);
     if w != v + 2 {
-        return Head::Wrong(w);
+        return Err(w);
     }
     if !is_within(bytes, v + 2, 0, variables) {
-        return Head::Wrong(v + 2);
+        return Err(v + 2);
     }
     if !is_within(bytes, v + 3, 0, 16) {
-        return Head::Wrong(v + 3);
+        return Err(v + 3);
     }
     let parameters = byte_at(bytes, v + 2);
     let arrays = byte_at(bytes, v + 3);
-    let z = bad_size(bytes, v + 4, arrays);
+    let z = first_bad(|i| is_size(bytes, i), 2, arrays, v + 4);
     if z != v + 4 + 2 * (arrays as usize) {
-        return Head::Wrong(z);
+        return Err(z);
     }
-    Head::Valid(Header {
+    Ok(Header {
         variables,
         parameters,
         arrays,

@@ -4,6 +4,7 @@ use mathlib.Core.List.{[], ◌∷◌}
 use Rattle.slices.specs.Bytes.{half_bytes, word_bytes}
 use Rattle.routine_rendering.specs.Syntax.{no_more, simple, if_text}
 use Rattle.routine_rendering.specs.Render.{simple_bytes, text_bytes, size_bytes, render}
+use Rattle.routine_command.specs.declared.Operation.{Operation}
 use Rattle.routine_command.specs.declared.Simple.{Simple}
 
 -- in turn: the two of document 01; two-sensors of the examples, with an if in an if in an if; a quotient, and a write at a remainder
@@ -20,7 +21,7 @@ bench :
           simple (Simple.Set 3 50)
           (if_text (record { relation = 9; s = 0; t = 3 })
           (if_text (record { relation = 9; s = 1; t = 3 })
-          (simple (Simple.Compute 0x03 2 0 1)
+          (simple (Simple.Compute Operation.Add 2 0 1)
           (simple (Simple.Set 3 100)
           (if_text (record { relation = 6; s = 2; t = 3 }) (simple (Simple.Write 0 2 0) no_more) no_more no_more)))
           no_more no_more)
@@ -33,7 +34,7 @@ bench :
       widths = 8 ∷ 8 ∷ 8 ∷ [];
       parameters = 2;
       sizes = 10 ∷ [];
-      commands = simple (Simple.Compute 0x0E 2 0 1) (simple (Simple.Compute 0x0F 0 0 1) (simple (Simple.Write 0 0 2) no_more));
+      commands = simple (Simple.Compute Operation.Quotient 2 0 1) (simple (Simple.Compute Operation.Remainder 0 0 1) (simple (Simple.Write 0 0 2) no_more));
     })
     ≡ 0x01 ∷ 0x03 ∷ 0x08 ∷ 0x08 ∷ 0x08 ∷ 0x02 ∷ 0x01 ∷ 0x0A ∷ 0x00 ∷ 0x0E ∷ 0x02 ∷ 0x00 ∷ 0x01 ∷ 0x0F ∷ 0x00 ∷ 0x00 ∷ 0x01
     ∷ 0x0A ∷ 0x00 ∷ 0x00 ∷ 0x02 ∷ 0x00 ∷ [])

@@ -1,25 +1,25 @@
 -- A command and its bytes. Assumes nothing.
 use mathlib.Core.Path.{◌≡◌, refl, sym, ap, subst, ◌∙◌}
 use mathlib.Core.List.{List, ◌∷◌, ◌++◌}
-use mathlib.Core.Bool.{Bool, true, false, cond, ◌||◌}
-use mathlib.Core.Logic.{◌⊎◌, inl, inr}
+use mathlib.Core.Bool.{Bool, true, false, cond}
 use Prim.Native.Nat.{ℕ, ◌+◌, ◌-◌, ◌≤◌, ◌<◌}
 use native.Mathlib.Omega.{arith}
 use lib.ListN.{length, drop}
 use lib.Dec.{leb, eqb}
-use borrow.Author.Tests.{eqb-true, leb-true}
+use borrow.Author.Tests.{eqb-true}
 use Rattle.slices.specs.Bytes.{entry, word, word_bytes}
-use Rattle.routine_header.specs.Header.{between}
-use Rattle.routine_command.specs.Command.{command_size, simple_size, command_by, command_of, command_at}
-use Rattle.routine_rendering.specs.Render.{simple_bytes}
-use Rattle.routine_rendering.specs.WellFormed.{Between, Computes}
+use Rattle.routine_command.specs.Command.{command_size, simple_size, opcode_of, command_from as of_opcode, command_by, command_of, command_at}
+use Rattle.std.specs.Prelude.{Option, Some, None}
+use Rattle.routine_rendering.specs.Render.{conversion_byte, operation_byte, simple_bytes}
+use Rattle.routine_command.specs.declared.Conversion.{Conversion}
+use Rattle.routine_command.specs.declared.Operation.{Operation}
+use Rattle.routine_command.specs.declared.Mark.{Mark}
+use Rattle.routine_command.specs.declared.Opcode.{Opcode}
 use Rattle.routine_command.specs.declared.Simple.{Simple}
 use Rattle.routine_command.specs.declared.Condition.{Condition}
 use Rattle.routine_command.specs.declared.Command.{Command}
 use Rattle.routine_rendering.specs.Exactly.{AreBytes}
 use Rattle.routine_command.proofs.Sizes.{whole}
-use Rattle.routine_command.proofs.Bytes.{converts, computes, divides, closes}
-use Rattle.routine_faults.proofs.Tests.{both}
 use Rattle.slices.proofs.Digits.{word_digits, word_value}
 use Rattle.routine_rendering.proofs.Bytes.{next, here, entry_at, entry_here, bytes_left, word_at}
 
@@ -37,40 +37,48 @@ whole_here ys c e l = let m : command_size c ≤ length ys - 0 = omega arith in 
 
 -- ---- from the bytes to the command
 
--- what the bytes can hold: a constant of four bytes, and a command byte that is one of its kind
+-- what the bytes can hold: a constant of four bytes
 abbrev pub Kind : Simple → Type 0
 Kind (Simple.Set d c) = c < 4294967296
-Kind (Simple.Convert op d s) = (op ≡ 0x02) ⊎ Between 0x06 0x08 op
-Kind (Simple.Compute op d s t) = Computes op
+Kind (Simple.Convert op d s) = Unit {0}
+Kind (Simple.Compute op d s t) = Unit {0}
 Kind (Simple.Read d array i) = Unit {0}
 Kind (Simple.Write array i s) = Unit {0}
 
--- the marks: end, else, end of if
-abbrev pub Mark : ℕ → Type 0
-Mark m = (m ≡ 0x00) ⊎ Between 0x0C 0x0D m
+-- the byte of a mark
+abbrev pub mark_byte : Mark → ℕ
+mark_byte Mark.End = 0x00
+mark_byte Mark.Else = 0x0C
+mark_byte Mark.EndIf = 0x0D
 
-module _ (op a b c k : ℕ) where
-  by_convert : (op ≡ 0x02) ⊎ Between 0x06 0x08 op → command_by op a b c k ≡ Command.Simple (Simple.Convert op a b)
-  unfolding command_by
-  by_convert (inl e) = rw e
-  by_convert (inr l) = sym (converts op a b c k l.low l.high)
+by_convert : (op : Conversion) (a b c k : ℕ) → command_by (conversion_byte op) a b c k ≡ Command.Simple (Simple.Convert op a b)
+unfolding command_by opcode_of
+by_convert Conversion.Copy a b c k = refl
+by_convert Conversion.Cut a b c k = refl
+by_convert Conversion.ZeroExtend a b c k = refl
+by_convert Conversion.SignExtend a b c k = refl
 
-  by_compute : Computes op → command_by op a b c k ≡ Command.Simple (Simple.Compute op a b c)
-  by_compute (inl l) = sym (computes op a b c k (omega (arith, l.low)) (omega (arith, l.high)))
-  by_compute (inr l) = sym (divides op a b c k (omega (arith, l.low)) (omega (arith, l.high)))
+by_compute : (op : Operation) (a b c k : ℕ) → command_by (operation_byte op) a b c k ≡ Command.Simple (Simple.Compute op a b c)
+unfolding command_by opcode_of
+by_compute Operation.Add a b c k = refl
+by_compute Operation.Subtract a b c k = refl
+by_compute Operation.Multiply a b c k = refl
+by_compute Operation.Quotient a b c k = refl
+by_compute Operation.Remainder a b c k = refl
 
-  by_close : Mark op → command_by op a b c k ≡ Command.Close op
-  unfolding command_by
-  by_close (inl e) = rw e
-  by_close (inr l) = sym (closes op a b c k l.low l.high)
+by_close : (mark : Mark) (a b c k : ℕ) → command_by (mark_byte mark) a b c k ≡ Command.Close mark
+unfolding command_by opcode_of
+by_close Mark.End a b c k = refl
+by_close Mark.Else a b c k = refl
+by_close Mark.EndIf a b c k = refl
 
 -- a command stands where its bytes do
 simple-bytes : (c : Simple) (tail : List ℕ) → Kind c → command_at (simple_bytes c ++ tail) 0 ≡ Command.Simple c
-unfolding simple_bytes command_by word_bytes word
+unfolding simple_bytes command_by opcode_of word_bytes word
 simple-bytes (Simple.Set d c) tail l =
     whole_here (simple_bytes (Simple.Set d c) ++ tail) (Command.Simple (Simple.Set d c)) (ap (λ (x : ℕ). Command.Simple (Simple.Set d x)) (word_value c l)) (omega arith)
-simple-bytes (Simple.Convert op d s) tail l = whole_here (op ∷ d ∷ s ∷ tail) (Command.Simple (Simple.Convert op d s)) (by_convert op d s _ _ l) (omega arith)
-simple-bytes (Simple.Compute op d s t) tail l = whole_here (op ∷ d ∷ s ∷ t ∷ tail) (Command.Simple (Simple.Compute op d s t)) (by_compute op d s t _ l) (omega arith)
+simple-bytes (Simple.Convert op d s) tail l = whole_here (conversion_byte op ∷ d ∷ s ∷ tail) (Command.Simple (Simple.Convert op d s)) (by_convert op d s _ _) (omega arith)
+simple-bytes (Simple.Compute op d s t) tail l = whole_here (operation_byte op ∷ d ∷ s ∷ t ∷ tail) (Command.Simple (Simple.Compute op d s t)) (by_compute op d s t _) (omega arith)
 simple-bytes (Simple.Read d array i) tail l = whole_here (0x09 ∷ d ∷ array ∷ i ∷ tail) (Command.Simple (Simple.Read d array i)) refl (omega arith)
 simple-bytes (Simple.Write array i s) tail l = whole_here (0x0A ∷ array ∷ i ∷ s ∷ tail) (Command.Simple (Simple.Write array i s)) refl (omega arith)
 
@@ -79,53 +87,82 @@ module _ (bs : List ℕ) (at : ℕ) (tail : List ℕ) where
   simple_here c l e = command_from bs at (simple_bytes c ++ tail) e ∙ simple-bytes c tail l
 
   pub if_here : (c : Condition) → drop at bs ≡ 0x0B ∷ c.relation ∷ c.s ∷ c.t ∷ tail → command_at bs at ≡ Command.If c
-  unfolding command_by
+  unfolding command_by opcode_of
   if_here c e = command_from bs at _ e ∙ whole_here (0x0B ∷ c.relation ∷ c.s ∷ c.t ∷ tail) (Command.If c) refl (omega arith)
 
-  pub close_here : (mark : ℕ) → Mark mark → drop at bs ≡ mark ∷ tail → command_at bs at ≡ Command.Close mark
-  close_here mark l e = command_from bs at _ e ∙ whole_here (mark ∷ tail) (Command.Close mark) (by_close mark _ _ _ _ l) (omega arith)
+  pub close_here : (mark : Mark) → drop at bs ≡ mark_byte mark ∷ tail → command_at bs at ≡ Command.Close mark
+  close_here mark e = command_from bs at _ e ∙ whole_here (mark_byte mark ∷ tail) (Command.Close mark) (by_close mark _ _ _ _) (omega arith)
 
 -- ---- from the command to the bytes
 
-by_test : (P : Command → Type 0) (t : Bool) (x y : Command) → (t ≡ true → P x) → P y → P (cond t x y)
+by_test : {A : Type 0} (P : A → Type 0) (t : Bool) (x y : A) → (t ≡ true → P x) → P y → P (cond t x y)
 by_test P true x y p q = p refl
 by_test P false x y p q = q
 
-from_between : (lo hi n : ℕ) → between lo hi n ≡ true → Between lo hi n
-from_between lo hi n e = let p = both (leb lo n) (leb n hi) e in record { low = leb-true _ _ p.0; high = leb-true _ _ p.1 }
+-- the byte of an opcode
+abbrev opcode_byte : Opcode → ℕ
+opcode_byte (Opcode.Close mark) = mark_byte mark
+opcode_byte Opcode.Set = 0x01
+opcode_byte (Opcode.Convert op) = conversion_byte op
+opcode_byte (Opcode.Compute op) = operation_byte op
+opcode_byte Opcode.Read = 0x09
+opcode_byte Opcode.Write = 0x0A
+opcode_byte Opcode.If = 0x0B
 
--- one of two tests held
-either : {A B : Type 0} (t u : Bool) → (t ≡ true → A) → (u ≡ true → B) → (t || u) ≡ true → A ⊎ B
-either true u f g e = inl (f refl)
-either false u f g e = inr (g e)
+-- the byte `op` is that of the opcode that it stands for
+module _ (op : ℕ) where
+  abbrev Stands : Option Opcode → Type 0
+  Stands None = Unit {0}
+  Stands (Some o) = op ≡ opcode_byte o
+
+  stands : Stands (opcode_of op)
+  unfolding opcode_of
+  stands =
+      by_test Stands (eqb op 0) _ _ (eqb-true op 0)
+      (by_test Stands (eqb op 1) _ _ (eqb-true op 1)
+      (by_test Stands (eqb op 2) _ _ (eqb-true op 2)
+      (by_test Stands (eqb op 3) _ _ (eqb-true op 3)
+      (by_test Stands (eqb op 4) _ _ (eqb-true op 4)
+      (by_test Stands (eqb op 5) _ _ (eqb-true op 5)
+      (by_test Stands (eqb op 6) _ _ (eqb-true op 6)
+      (by_test Stands (eqb op 7) _ _ (eqb-true op 7)
+      (by_test Stands (eqb op 8) _ _ (eqb-true op 8)
+      (by_test Stands (eqb op 9) _ _ (eqb-true op 9)
+      (by_test Stands (eqb op 10) _ _ (eqb-true op 10)
+      (by_test Stands (eqb op 11) _ _ (eqb-true op 11)
+      (by_test Stands (eqb op 12) _ _ (eqb-true op 12)
+      (by_test Stands (eqb op 13) _ _ (eqb-true op 13)
+      (by_test Stands (eqb op 14) _ _ (eqb-true op 14)
+      (by_test Stands (eqb op 15) _ _ (eqb-true op 15) tt)))))))))))))))
 
 module _ (op a b c k : ℕ) where
   -- what a command says of its byte and its operands
   abbrev Held : Simple → Type 0
   Held (Simple.Set d x) = (op ≡ 0x01) × (d ≡ a) × (x ≡ k)
-  Held (Simple.Convert o d s) = (o ≡ op) × (d ≡ a) × (s ≡ b) × Kind (Simple.Convert op d s)
-  Held (Simple.Compute o d s t) = (o ≡ op) × (d ≡ a) × (s ≡ b) × (t ≡ c) × Kind (Simple.Compute op d s t)
+  Held (Simple.Convert o d s) = (op ≡ conversion_byte o) × (d ≡ a) × (s ≡ b)
+  Held (Simple.Compute o d s t) = (op ≡ operation_byte o) × (d ≡ a) × (s ≡ b) × (t ≡ c)
   Held (Simple.Read d array i) = (op ≡ 0x09) × (d ≡ a) × (array ≡ b) × (i ≡ c)
   Held (Simple.Write array i s) = (op ≡ 0x0A) × (array ≡ a) × (i ≡ b) × (s ≡ c)
 
   abbrev Holds : Command → Type 0
   Holds Command.Missing = Unit {0}
-  Holds (Command.Close mark) = mark ≡ op
+  Holds (Command.Close mark) = op ≡ mark_byte mark
   Holds (Command.If d) = (op ≡ 0x0B) × (d.relation ≡ a) × (d.s ≡ b) × (d.t ≡ c)
   Holds (Command.Simple d) = Held d
 
+  holds_with : (o : Option Opcode) → Stands op o → Holds (of_opcode o a b c k)
+  holds_with None e = tt
+  holds_with (Some (Opcode.Close mark)) e = e
+  holds_with (Some Opcode.Set) e = (e, refl, refl)
+  holds_with (Some (Opcode.Convert o)) e = (e, refl, refl)
+  holds_with (Some (Opcode.Compute o)) e = (e, refl, refl, refl)
+  holds_with (Some Opcode.Read) e = (e, refl, refl, refl)
+  holds_with (Some Opcode.Write) e = (e, refl, refl, refl)
+  holds_with (Some Opcode.If) e = (e, refl, refl, refl)
+
   holds : Holds (command_by op a b c k)
   unfolding command_by
-  holds =
-      by_test Holds (eqb op 1) (Command.Simple (Simple.Set a k)) _ (λ e. (eqb-true _ _ e, refl, refl))
-      (by_test Holds (eqb op 2 || between 6 8 op) (Command.Simple (Simple.Convert op a b)) _
-      (λ e. (refl, refl, refl, either (eqb op 2) (between 6 8 op) (eqb-true op 2) (from_between 6 8 op) e))
-      (by_test Holds (between 3 5 op || between 14 15 op) (Command.Simple (Simple.Compute op a b c)) _
-      (λ e. (refl, refl, refl, refl, either (between 3 5 op) (between 14 15 op) (from_between 3 5 op) (from_between 14 15 op) e))
-      (by_test Holds (eqb op 9) (Command.Simple (Simple.Read a b c)) _ (λ e. (eqb-true _ _ e, refl, refl, refl))
-      (by_test Holds (eqb op 10) (Command.Simple (Simple.Write a b c)) _ (λ e. (eqb-true _ _ e, refl, refl, refl))
-      (by_test Holds (eqb op 11) (Command.If (record { relation = a; s = b; t = c })) _ (λ e. (eqb-true _ _ e, refl, refl, refl))
-      (by_test Holds (eqb op 0 || between 12 13 op) (Command.Close op) Command.Missing (λ e. refl) tt))))))
+  holds = holds_with (opcode_of op) (stands op)
 
 module _ (bs : List ℕ) (at : ℕ) where
   abbrev HoldsAt : Command → Type 0
@@ -137,8 +174,8 @@ module _ (bs : List ℕ) (at : ℕ) where
       by_test HoldsAt (leb (command_size (command_of bs at)) (length bs - at)) (command_of bs at) Command.Missing
       (λ e. holds (entry bs at) (entry bs (at + 1)) (entry bs (at + 2)) (entry bs (at + 3)) (word bs (at + 2))) tt
 
-  pub close_there : (mark : ℕ) → command_at bs at ≡ Command.Close mark → at + 1 ≤ length bs → drop at bs ≡ mark ∷ drop (at + 1) bs
-  close_there mark e l = let h : mark ≡ entry bs at = subst HoldsAt e holds_at in rw h (here bs at (omega arith))
+  pub close_there : (mark : Mark) → command_at bs at ≡ Command.Close mark → at + 1 ≤ length bs → drop at bs ≡ mark_byte mark ∷ drop (at + 1) bs
+  close_there mark e l = let h : entry bs at ≡ mark_byte mark = subst HoldsAt e holds_at in rw (← h) (here bs at (omega arith))
 
   front₄ : at + 4 ≤ length bs → drop at bs ≡ entry bs at ∷ entry bs (at + 1) ∷ entry bs (at + 2) ∷ entry bs (at + 3) ∷ drop (at + 4) bs
   front₄ l = rw (here bs at (omega arith), next bs at 1 (omega arith), next bs at 2 (omega arith), next bs at 3 (omega arith))
@@ -172,8 +209,8 @@ module _ (bs : List ℕ) (at : ℕ) where
       let q = constant f l in
       (rw (← h.0, h.1, h.2) (rw (here bs at (omega arith), next bs at 1 (omega arith), q.0)), rw h.2 q.1)
   stood f (Simple.Convert op d s) l h =
-      (rw (h.0, h.1, h.2) (rw (here bs at (omega arith), next bs at 1 (omega arith), next bs at 2 (omega arith))), rw h.0 h.3)
-  stood f (Simple.Compute op d s t) l h = (rw (h.0, h.1, h.2, h.3) (front₄ l), rw h.0 h.4)
+      (rw (← h.0, h.1, h.2) (rw (here bs at (omega arith), next bs at 1 (omega arith), next bs at 2 (omega arith))), tt)
+  stood f (Simple.Compute op d s t) l h = (rw (← h.0, h.1, h.2, h.3) (front₄ l), tt)
   stood f (Simple.Read d array i) l h = (rw (h.1, h.2, h.3, ← h.0) (front₄ l), tt)
   stood f (Simple.Write array i s) l h = (rw (h.1, h.2, h.3, ← h.0) (front₄ l), tt)
 

@@ -1,7 +1,6 @@
 -- What is accepted is what a well-formed routine renders to. Assumes nothing.
 use mathlib.Core.Path.{◌≡◌, refl, sym, ap, ◌∙◌}
 use mathlib.Core.List.{List, [], ◌∷◌, ◌++◌}
-use mathlib.Core.Logic.{inl}
 use Prim.Native.Nat.{ℕ, ◌+◌, ◌≤◌}
 use native.Mathlib.Omega.{arith}
 use lib.ListN.{length, drop}
@@ -17,10 +16,11 @@ use Rattle.routine_rendering.specs.WellFormed.{depth, ifs, reads, writes, access
 use Rattle.routine_rendering.specs.Exactly.{AreBytes, Accepted, Rendered, head_of, text_counts, plus, numbered, numbered_commands, Exactly}
 use Rattle.routine_header.specs.declared.Header.{Header}
 use Rattle.routine_faults.specs.declared.Counts.{Counts}
-use Rattle.routine.specs.declared.Checked.{Checked}
+use Rattle.std.specs.Prelude.{Ok}
+use Rattle.routine_command.specs.declared.Mark.{Mark}
 use Rattle.routine_faults.proofs.Fine.{fine}
 use Rattle.routine.proofs.Views.{onward}
-use Rattle.routine.proofs.Accepted.{Whole, decoded}
+use Rattle.routine.proofs.Decoded.{Whole, decoded}
 use Rattle.routine.proofs.Counting.{few-ifs, few-accesses}
 use Rattle.routine_rendering.proofs.Bytes.{bytes_left}
 use Rattle.routine_rendering.proofs.Heads.{length-sizes, size_from, syntax_of, many_widths, same-told, header-bytes, from_commands, header_read, same_read, read_back}
@@ -40,11 +40,11 @@ rendered_decodes p w =
     let i : 0 + ifs t ≤ 32 = omega (arith, w.few-ifs) in
     let a : 0 + 0 + access_count t ≤ 64 = omega (arith, w.few-accesses) in
     let b = from_commands bs p (text_bytes t ++ (0 ∷ [])) refl in
-    let s = all_read bs h p (same_read bs p (text_bytes t ++ (0 ∷ [])) refl) (λ v l. (w.widths v l).high) t 0 0 (first_command h) no_counts []
-    (inl refl) b w.commands d i a in
+    let s = all_read bs h p (same_read bs p (text_bytes t ++ (0 ∷ [])) refl) (λ v l. (w.widths v l).high) t 0 Mark.End (first_command h) no_counts []
+    b w.commands d i a in
     let l = w.short in
     let end = first_command h + length (text_bytes t) + 1 in
-    let o = onward bs h 0 0 (first_command h) no_counts (numbered_commands p) end (plus no_counts t) s in
+    let o = onward bs h 0 Mark.End (first_command h) no_counts (numbered_commands p) end (plus no_counts t) s in
     let q : end ≡ length bs = omega (arith, bytes_left bs end [] (past bs (first_command h) (text_bytes t) 0 [] b)) in
     let i₁ : 0 + ifs t ≡ ifs t = omega arith in
     let r₁ : 0 + reads t ≡ reads t = omega arith in
@@ -55,7 +55,7 @@ rendered_decodes p w =
 pub rendered_accepted : (p : Syntax) → WellFormed p → Accepted (render p)
 rendered_accepted p w = record { header = head_of p; routine = record { commands = numbered_commands p; counts = text_counts p; decodes = rendered_decodes p w } }
 
-rendered_answered : (p : Syntax) → WellFormed p → checked (render p) ≡ Checked.Accepted (head_of p) (text_counts p)
+rendered_answered : (p : Syntax) → WellFormed p → checked (render p) ≡ Ok (record { header = head_of p; counts = text_counts p })
 unfolding checked
 rendered_answered p w = ap check_answer (rendered_decodes p w)
 
@@ -71,8 +71,8 @@ module _ (bs : List ℕ) (f : AreBytes bs) (h : Header) (a : Arm) (k : Counts) (
   told_fine : Fine bs h
   told_fine = fine bs h told-whole.header
 
-  told-written : Written bs told 0 0 (first_command h) no_counts a (length bs) k
-  told-written = written bs f h told (same-told bs h told_fine (text a)) a 0 0 (first_command h) no_counts (length bs) k told-whole.stands (omega arith)
+  told-written : Written bs told 0 Mark.End (first_command h) no_counts a (length bs) k
+  told-written = written bs f h told (same-told bs h told_fine (text a)) a 0 Mark.End (first_command h) no_counts (length bs) k told-whole.stands (omega arith)
 
   told_same : bs ≡ render told
   unfolding render

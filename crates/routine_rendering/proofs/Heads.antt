@@ -16,7 +16,7 @@ use Rattle.routine_rendering.specs.Render.{size_bytes}
 use Rattle.routine_rendering.specs.WellFormed.{Between}
 use Rattle.routine_rendering.specs.Exactly.{AreBytes, head_of}
 use Rattle.routine_header.specs.declared.Header.{Header}
-use Rattle.routine_header.specs.declared.Head.{Head}
+use Rattle.std.specs.Prelude.{Ok}
 use Rattle.routine_faults.proofs.Fine.{in_bounds}
 use Rattle.routine_header.proofs.Held.{held}
 use Rattle.slices.proofs.Digits.{half_digits, half-value}
@@ -32,7 +32,7 @@ record Told (bs : List ℕ) (h : Header) : Type 0 where
   pub parameters : entry bs (h.variables + 2) ≡ h.parameters
   pub arrays : entry bs (h.variables + 3) ≡ h.arrays
 
-told : (bs : List ℕ) (h : Header) → header_of bs ≡ Head.Valid h → Told bs h
+told : (bs : List ℕ) (h : Header) → header_of bs ≡ Ok h → Told bs h
 told bs h e =
     let t = held bs h e in
     subst (Told bs) t.is (record { first = omega (arith, (in_bounds bs 0 1 1 t.first).1, (in_bounds bs 0 1 1 t.first).2); variables = refl; parameters = refl; arrays = refl })
@@ -92,7 +92,7 @@ module _ (bs : List ℕ) (h : Header) (fine : Fine bs h) where
   }
 
   -- the bytes of the header
-  pub header-bytes : AreBytes bs → header_of bs ≡ Head.Valid h → (t : Text)
+  pub header-bytes : AreBytes bs → header_of bs ≡ Ok h → (t : Text)
       → let p = syntax_of bs h t in
       bs ≡ 1 ∷ length p.widths ∷ p.widths ++ (p.parameters ∷ length p.sizes ∷ size_bytes p.sizes ++ drop (first_command h) bs)
   header-bytes f q t =
@@ -185,7 +185,7 @@ module _ (bs : List ℕ) (p : Syntax) (tail : List ℕ)
   from_commands = further bs (variables + 4) _ from_sizes (2 * arrays) ∙ drop_at (size_bytes p.sizes) tail (2 * arrays) (length-size-bytes p.sizes)
 
   -- the header that is read
-  pub header_read : Between 1 32 variables → Each 1 32 p.widths → p.parameters ≤ variables → arrays ≤ 16 → Each 1 4096 p.sizes → header_of bs ≡ Head.Valid (head_of p)
+  pub header_read : Between 1 32 variables → Each 1 32 p.widths → p.parameters ≤ variables → arrays ≤ 16 → Each 1 4096 p.sizes → header_of bs ≡ Ok (head_of p)
   unfolding header_of
   header_read v w l n z =
       let e₁ : entry bs 1 ≡ variables = entry_at bs 0 _ is 1 in

@@ -1,21 +1,21 @@
 -- The operands of a command in the bytes and in the syntax. Assumes nothing.
 use mathlib.Core.Path.{◌≡◌, refl, sym, ◌∙◌}
 use mathlib.Core.List.{List}
-use mathlib.Core.Bool.{Bool, true, false}
-use mathlib.Core.Logic.{◌⊎◌, inl, inr}
+use mathlib.Core.Bool.{true}
 use Prim.Native.Nat.{ℕ, ◌^◌, ◌≤◌, ◌<◌}
 use native.Mathlib.Omega.{arith}
 use native.Mathlib.Nat.{lt_of_lt_of_le}
 use lib.Pow.{pow_mono}
 use lib.ListN.{length}
 use lib.Dec.{ltb, eqb}
-use borrow.Author.Tests.{lt-ltb, eq-eqb, ne_eqb, ltb-true, eqb-true, eqb-false, le-leb}
+use borrow.Author.Tests.{lt-ltb, eq-eqb, ltb-true, eqb-true}
 use Rattle.routine_header.specs.Header.{width}
 use Rattle.routine_faults.specs.Step.{in_range, converts, widths_fit}
 use Rattle.routine_faults.specs.Inner.Sound.{Sound, SoundIf}
 use Rattle.routine_rendering.specs.Syntax.{Syntax}
-use Rattle.routine_rendering.specs.WellFormed.{Between, Variable, width_of, Converts, Good, GoodIf}
+use Rattle.routine_rendering.specs.WellFormed.{Variable, width_of, Converts, Good, GoodIf}
 use Rattle.routine_header.specs.declared.Header.{Header}
+use Rattle.routine_command.specs.declared.Conversion.{Conversion}
 use Rattle.routine_command.specs.declared.Simple.{Simple}
 use Rattle.routine_command.specs.declared.Condition.{Condition}
 use Rattle.routine_faults.proofs.Fine.{set_fine, convert_fine, compute_fine, read_fine, write_fine, condition_fine}
@@ -28,34 +28,23 @@ pub record Same (bs : List ℕ) (h : Header) (p : Syntax) : Type 0 where
   pub widths : (v : ℕ) → Variable p v → width bs v ≡ width_of p v
 
 -- the test of a conversion's widths
-pub converts_says : (op w x : ℕ) → (op ≡ 0x02) ⊎ Between 0x06 0x08 op → converts op w x ≡ true → Converts op w x
-converts_says op w x (inl e) t = inl (e, eqb-true _ _ (rw e at t))
-converts_says op w x (inr l) t = by (eqb op 6) refl
-  where
-    by : (b : Bool) → eqb op 6 ≡ b → Converts op w x
-    by true e = inr (inl (eqb-true _ _ e, ltb-true _ _ (simp (ne_eqb op 2 (λ q. omega arith), e) at t)))
-    by false e =
-        let n = eqb-false op 6 e in
-        inr (inr (record { low = above n; high = l.high }, ltb-true _ _ (simp (ne_eqb op 2 (λ q. omega arith), e, le-leb 7 op (above n), le-leb op 8 l.high) at t)))
-      where
-        above : (op ≡ 6 → ⊥) → 7 ≤ op
-        above n = omega arith
+pub converts_says : (op : Conversion) (w x : ℕ) → converts op w x ≡ true → Converts op w x
+converts_says Conversion.Copy w x t = eqb-true w x t
+converts_says Conversion.Cut w x t = ltb-true w x t
+converts_says Conversion.ZeroExtend w x t = ltb-true x w t
+converts_says Conversion.SignExtend w x t = ltb-true x w t
 
-pub converts-holds : (op w x : ℕ) → Converts op w x → converts op w x ≡ true
-converts-holds op w x (inl e) = simp (eq-eqb op 2 e.0, eq-eqb w x e.1)
-converts-holds op w x (inr (inl e)) = simp (ne_eqb op 2 (λ q. omega arith), eq-eqb op 6 e.0, lt-ltb w x e.1)
-converts-holds op w x (inr (inr e)) = simp (ne_eqb op 2 (λ q. omega (arith, e.0.low)), ne_eqb op 6 (λ q. omega (arith, e.0.low)), le-leb 7 op e.0.low, le-leb op 8 e.0.high, lt-ltb x w e.1)
+pub converts-holds : (op : Conversion) (w x : ℕ) → Converts op w x → converts op w x ≡ true
+converts-holds Conversion.Copy w x e = eq-eqb w x e
+converts-holds Conversion.Cut w x l = lt-ltb w x l
+converts-holds Conversion.ZeroExtend w x l = lt-ltb x w l
+converts-holds Conversion.SignExtend w x l = lt-ltb x w l
 
-converts_kind : (op w x : ℕ) → Converts op w x → (op ≡ 0x02) ⊎ Between 0x06 0x08 op
-converts_kind op w x (inl e) = inl e.0
-converts_kind op w x (inr (inl e)) = inr (record { low = omega arith; high = omega arith })
-converts_kind op w x (inr (inr e)) = inr (record { low = omega arith; high = omega arith })
-
--- the byte of a good command is one of its kind, and its constant has four bytes
+-- the constant of a good command has four bytes
 pub good_kind : (p : Syntax) → ((v : ℕ) → Variable p v → width_of p v ≤ 32) → (c : Simple) → Good p c → Kind c
 good_kind p f (Simple.Set d c) g = lt_of_lt_of_le g.1 (pow_mono (f d g.0))
-good_kind p f (Simple.Convert op d s) g = converts_kind op (width_of p d) (width_of p s) g.2
-good_kind p f (Simple.Compute op d s t) g = g.0
+good_kind p f (Simple.Convert op d s) g = tt
+good_kind p f (Simple.Compute op d s t) g = tt
 good_kind p f (Simple.Read d array i) g = tt
 good_kind p f (Simple.Write array i s) g = tt
 
@@ -70,19 +59,19 @@ module _ (bs : List ℕ) (h : Header) (p : Syntax) (same : Same bs h p) where
   width_is v l = same.widths v (variable v l)
 
   -- a command whose operands passed is good
-  pub good : (c : Simple) → Kind c → Sound bs h c → Good p c
+  pub good : (c : Simple) → Sound bs h c → Good p c
   unfolding widths_fit
-  good (Simple.Set d c) k s =
+  good (Simple.Set d c) s =
       let f = set_fine bs h d c s in
       (variable d f.0, rw (width_is d f.0) at f.1)
-  good (Simple.Convert op d s) k x =
+  good (Simple.Convert op d s) x =
       let f = convert_fine bs h op d s x in
-      (variable d f.0, variable s f.1, converts_says op _ _ k (rw (width_is d f.0, width_is s f.1) at x.widths))
-  good (Simple.Compute op d s t) k x =
+      (variable d f.0, variable s f.1, converts_says op _ _ (rw (width_is d f.0, width_is s f.1) at x.widths))
+  good (Simple.Compute op d s t) x =
       let f = compute_fine bs h op d s t x in
-      (k, variable d f.0, variable s f.1, variable t f.2, sym (width_is d f.0) ∙ f.3 ∙ width_is s f.1, sym (width_is d f.0) ∙ f.4 ∙ width_is t f.2)
-  good (Simple.Read d a i) k x = let f = read_fine bs h d a i x in (variable d f.0, array a f.1, variable i f.2)
-  good (Simple.Write a i s) k x = let f = write_fine bs h a i s x in (array a f.0, variable i f.1, variable s f.2)
+      (variable d f.0, variable s f.1, variable t f.2, sym (width_is d f.0) ∙ f.3 ∙ width_is s f.1, sym (width_is d f.0) ∙ f.4 ∙ width_is t f.2)
+  good (Simple.Read d a i) x = let f = read_fine bs h d a i x in (variable d f.0, array a f.1, variable i f.2)
+  good (Simple.Write a i s) x = let f = write_fine bs h a i s x in (array a f.0, variable i f.1, variable s f.2)
 
   pub good_if : (c : Condition) → SoundIf bs h c → GoodIf p c
   good_if c x =
@@ -107,8 +96,8 @@ module _ (bs : List ℕ) (h : Header) (p : Syntax) (same : Same bs h p) where
     widths = rw (same.widths d g.0, same.widths s g.1) (converts-holds op _ _ g.2);
   }
   sound (Simple.Compute op d s t) g = record {
-    ranges = simp (below d g.1, below s g.2, below t g.3);
-    widths = simp (same_width d s g.1 g.2 g.4, same_width d t g.1 g.3 g.5);
+    ranges = simp (below d g.0, below s g.1, below t g.2);
+    widths = simp (same_width d s g.0 g.1 g.3, same_width d t g.0 g.2 g.4);
   }
   sound (Simple.Read d a i) g = record { ranges = simp (below d g.0, below-arrays a g.1, below i g.2); widths = refl }
   sound (Simple.Write a i s) g = record { ranges = simp (below-arrays a g.0, below i g.1, below s g.2); widths = refl }

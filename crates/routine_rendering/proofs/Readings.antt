@@ -2,13 +2,11 @@
 use mathlib.Core.Path.{◌≡◌, refl, sym, ap, subst, ◌∙◌}
 use mathlib.Core.List.{List, ◌∷◌, ◌++◌, append_assoc}
 use mathlib.Core.Bool.{false}
-use mathlib.Core.Logic.{inr}
 use Prim.Native.Nat.{ℕ, ◌+◌, ◌≤◌, ◌<◌, max}
 use native.Mathlib.Omega.{arith}
 use lib.ListN.{length, drop, length-append}
 use lib.Seq.{drop-append-add}
-use lib.Dec.{lit≤}
-use borrow.Author.Tests.{eq-eqb, lt-ltb, lt-leb}
+use borrow.Author.Tests.{lt-ltb, lt-leb}
 use Rattle.slices.specs.Bytes.{word_bytes}
 use Rattle.routine_command.specs.Command.{simple_size, command_at}
 use Rattle.routine_faults.specs.Step.{closing, simple_then, if_then, too_many, counts_after, simple_step, counts_after_if, if_step, step_of, accesses}
@@ -26,17 +24,12 @@ use Rattle.routine_command.specs.declared.Condition.{Condition}
 use Rattle.routine_command.specs.declared.Command.{Command}
 use Rattle.routine.proofs.Arms.{unroll}
 use Rattle.routine.proofs.Counting.{same-ifs}
+use Rattle.routine_faults.proofs.Tests.{mark_same}
 use Rattle.routine_rendering.proofs.Bytes.{further}
-use Rattle.routine_rendering.proofs.Commands.{Mark, simple_here, if_here, close_here}
+use Rattle.routine_rendering.proofs.Commands.{mark_byte, simple_here, if_here, close_here}
 use Rattle.routine_rendering.proofs.Operands.{Same, good_kind, sound, sound_if}
 use Rattle.routine_rendering.proofs.Written.{counts-after}
-
--- else and end of if
-else_mark : Mark 12
-else_mark = inr (record { low = lit≤ tt; high = lit≤ tt })
-
-end_mark : Mark 13
-end_mark = inr (record { low = lit≤ tt; high = lit≤ tt })
+use Rattle.routine_command.specs.declared.Mark.{Mark}
 
 -- what follows the bytes of a command
 after-simple : (c : Simple) (tail : List ℕ) → drop (simple_size c) (simple_bytes c ++ tail) ≡ tail
@@ -56,10 +49,10 @@ not_many (Simple.Compute op d s t) k l = refl
 not_many (Simple.Read d a i) k l = lt-leb 64 (accesses k) (omega arith)
 not_many (Simple.Write a i s) k l = lt-leb 64 (accesses k) (omega arith)
 
-module _ (bs : List ℕ) (h : Header) (n close at : ℕ) (k : Counts) where
+module _ (bs : List ℕ) (h : Header) (n : ℕ) (close : Mark) (at : ℕ) (k : Counts) where
   step_close : command_at bs at ≡ Command.Close close → step_at bs h n close at k ≡ closing
   unfolding step_of
-  step_close e = simp (e, eq-eqb close close refl)
+  step_close e = simp (e, mark_same close close refl)
 
   step-simple : (c : Simple) → command_at bs at ≡ Command.Simple c → Sound bs h c → too_many c k ≡ false → step_at bs h n close at k ≡ simple_then c (counts_after c k)
   unfolding step_of simple_step
@@ -80,8 +73,8 @@ module _ (bs : List ℕ) (h : Header) (n close at : ℕ) (k : Counts) where
   }
 
   pub stands_fork : (c : Condition) → command_at bs at ≡ Command.If c → SoundIf bs h c → n < 8 → k.ifs < 32
-      → (first : Arm) (else : ℕ) (k₂ : Counts) → Stands bs h (n + 1) 12 (at + 4) (counts_after_if k) first else k₂
-      → (second : Arm) (next : ℕ) (k₃ : Counts) → Stands bs h (n + 1) 13 else k₂ second next k₃
+      → (first : Arm) (else : ℕ) (k₂ : Counts) → Stands bs h (n + 1) Mark.Else (at + 4) (counts_after_if k) first else k₂
+      → (second : Arm) (next : ℕ) (k₃ : Counts) → Stands bs h (n + 1) Mark.EndIf else k₂ second next k₃
       → (rest : Arm) (end : ℕ) (k₁ : Counts) → Stands bs h n close next k₃ rest end k₁ → Stands bs h n close at k (if_else at c k first second rest) end k₁
   stands_fork c e s l m first else k₂ x second next k₃ y rest end k₁ z = record {
     reads = unroll bs h n close at k ∙ ap (arm_step (arm bs h) n close at k) (step_if c e s l m) ∙ rw (x.reads, y.reads, z.reads);
@@ -93,7 +86,7 @@ inside n x y z l = (omega arith, omega arith, omega arith, omega arith)
 
 -- ---- where a text ends, and the counts there
 
-module _ (bs : List ℕ) (h : Header) (n close : ℕ) (a : Arm) where
+module _ (bs : List ℕ) (h : Header) (n : ℕ) (close : Mark) (a : Arm) where
   -- the same arm from the same offset and counts
   from : {at at₁ : ℕ} {k k₁ : Counts} {end : ℕ} {k₂ : Counts} → at ≡ at₁ → k ≡ k₁ → Stands bs h n close at k a end k₂ → Stands bs h n close at₁ k₁ a end k₂
   from {end = end} {k₂ = k₂} e f s = subst (λ (x : ℕ × Counts). Stands bs h n close x.0 x.1 a end k₂) (λ i. (e i, f i)) s
@@ -167,34 +160,34 @@ module _ (c : Condition) (first second : Text) where
 module _ (bs : List ℕ) (h : Header) (p : Syntax) (same : Same bs h p) (narrow : (v : ℕ) → Variable p v → width_of p v ≤ 32) where
   -- wherever the bytes of t stand before a mark, within the limits, they are read
   abbrev Reads : Text → Type 0
-  Reads t = (n close at : ℕ) (k : Counts) (tail : List ℕ) → Mark close → drop at bs ≡ text_bytes t ++ (close ∷ tail)
+  Reads t = (n : ℕ) (close : Mark) (at : ℕ) (k : Counts) (tail : List ℕ) → drop at bs ≡ text_bytes t ++ (mark_byte close ∷ tail)
       → AllGood p t → n + depth t ≤ 8 → k.ifs + ifs t ≤ 32 → accesses k + access_count t ≤ 64
       → Stands bs h n close at k (numbered at k t) (at + length (text_bytes t) + 1) (plus k t)
 
   reads_none : Reads no_more
   unfolding numbered text_bytes
-  reads_none n close at k tail m e g d i a =
-      up_to bs h n close done (omega arith) (plus_none k) (stands-done bs h n close at k (close_here bs at tail close m e))
+  reads_none n close at k tail e g d i a =
+      up_to bs h n close done (omega arith) (plus_none k) (stands-done bs h n close at k (close_here bs at tail close e))
 
   reads-simple : (c : Simple) (rest : Text) → Reads rest → Reads (simple c rest)
   unfolding numbered text_bytes depth ifs reads writes
-  reads-simple c rest go n close at k tail m e g d i a =
-      let b : drop at bs ≡ simple_bytes c ++ (text_bytes rest ++ (close ∷ tail)) = rw append_assoc at e in
+  reads-simple c rest go n close at k tail e g d i a =
+      let b : drop at bs ≡ simple_bytes c ++ (text_bytes rest ++ (mark_byte close ∷ tail)) = rw append_assoc at e in
       let z = simple-length c in
       let at₁ = at + length (simple_bytes c) in
       let k₁ = plus k (simple c no_more) in
-      let f : drop at₁ bs ≡ text_bytes rest ++ (close ∷ tail) = rw z (further bs at _ b (simple_size c) ∙ after-simple c _) in
-      let s = go n close at₁ k₁ tail m f g.1 d (omega arith) (omega arith) in
+      let f : drop at₁ bs ≡ text_bytes rest ++ (mark_byte close ∷ tail) = rw z (further bs at _ b (simple_size c) ∙ after-simple c _) in
+      let s = go n close at₁ k₁ tail f g.1 d (omega arith) (omega arith) in
       let x : at + length (simple_bytes c) ≡ at + simple_size c = omega arith in
       let y = length-append (simple_bytes c) (text_bytes rest) in
       up_to bs h n close _ (omega arith) (plus-simple k c rest)
       (stands_plain bs h n close at k c (simple_here bs at _ c (good_kind p narrow c g.0) b) (sound bs h p same c g.0) (not_many c k (omega arith))
       (numbered at₁ k₁ rest) _ _ (from bs h n close (numbered at₁ k₁ rest) x (plus_one k c) s))
 
-  module _ (c : Condition) (first second rest : Text) (n close at : ℕ) (k : Counts) (tail : List ℕ) (m : Mark close) where
+  module _ (c : Condition) (first second rest : Text) (n : ℕ) (close : Mark) (at : ℕ) (k : Counts) (tail : List ℕ) where
     -- the bytes from the rest on, and from the second arm on
     abbrev Rest : List ℕ
-    Rest = text_bytes rest ++ (close ∷ tail)
+    Rest = text_bytes rest ++ (mark_byte close ∷ tail)
 
     abbrev Second : List ℕ
     Second = text_bytes second ++ (13 ∷ Rest)
@@ -223,20 +216,20 @@ module _ (bs : List ℕ) (h : Header) (p : Syntax) (same : Same bs h p) (narrow 
         let e₂ : drop else bs ≡ Second = past bs (at + 4) (text_bytes first) 12 Second e₁ in
         let z : next ≡ else + length (text_bytes second) + 1 = omega (arith, none-length c first second) in
         let e₃ : drop next bs ≡ Rest = rw z (past bs else (text_bytes second) 13 Rest e₂) in
-        let s₁ = go₁ (n + 1) 12 (at + 4) k₁ Second else_mark e₁ g.1 q.1 (omega arith) (omega arith) in
-        let s₂ = go₂ (n + 1) 13 else (plus k₁ first) Rest end_mark e₂ g.2 q.2 (omega arith) (omega arith) in
-        let s₃ = go₃ n close next k₃ tail m e₃ g.3 q.3 (omega arith) (omega arith) in
+        let s₁ = go₁ (n + 1) Mark.Else (at + 4) k₁ Second e₁ g.1 q.1 (omega arith) (omega arith) in
+        let s₂ = go₂ (n + 1) Mark.EndIf else (plus k₁ first) Rest e₂ g.2 q.2 (omega arith) (omega arith) in
+        let s₃ = go₃ n close next k₃ tail e₃ g.3 q.3 (omega arith) (omega arith) in
         let w = if_length c first second rest in
         up_to bs h n close _ (omega (arith, none-length c first second)) (plus_rest k c first second rest)
         (stands_fork bs h n close at k c (if_here bs at _ c e) (sound_if bs h p same c g.0) q.0 (omega arith)
-        (numbered (at + 4) k₁ first) else (plus k₁ first) (from bs h (n + 1) 12 _ refl (plus_if k c) s₁)
-        (numbered else (plus k₁ first) second) next k₃ (up_to bs h (n + 1) 13 _ (sym z) (plus_arms k c first second) s₂)
+        (numbered (at + 4) k₁ first) else (plus k₁ first) (from bs h (n + 1) Mark.Else _ refl (plus_if k c) s₁)
+        (numbered else (plus k₁ first) second) next k₃ (up_to bs h (n + 1) Mark.EndIf _ (sym z) (plus_arms k c first second) s₂)
         (numbered next k₃ rest) _ _ s₃)
 
   reads_branch : (c : Condition) (first second rest : Text) → Reads first → Reads second → Reads rest → Reads (if_text c first second rest)
   unfolding text_bytes
-  reads_branch c first second rest go₁ go₂ go₃ n close at k tail m e g d i a =
-      whole_if c first second rest n close at k tail m go₁ go₂ go₃ (simp append_assoc at e) g d i a
+  reads_branch c first second rest go₁ go₂ go₃ n close at k tail e g d i a =
+      whole_if c first second rest n close at k tail go₁ go₂ go₃ (simp append_assoc at e) g d i a
 
   pub all_read : (t : Text) → Reads t
   all_read no_more = reads_none

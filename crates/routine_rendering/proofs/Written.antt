@@ -5,10 +5,8 @@ use mathlib.Core.Bool.{Bool, true, false}
 use Prim.Native.Nat.{ℕ, ◌+◌, ◌≤◌}
 use native.Mathlib.Omega.{arith}
 use lib.ListN.{length, drop}
-use lib.Dec.{eqb}
-use borrow.Author.Tests.{eqb-true}
 use Rattle.routine_command.specs.Command.{simple_size, command_at}
-use Rattle.routine_faults.specs.Step.{counts_after, step_of, accesses, counts_after_if}
+use Rattle.routine_faults.specs.Step.{counts_after, same_mark, step_of, accesses, counts_after_if}
 use Rattle.routine.specs.Routine.{Arm, done, plain, if_else, refused, parsed, arm_step, arm}
 use Rattle.routine.specs.Inner.Stands.{Stands}
 use Rattle.routine_rendering.specs.Syntax.{Text, no_more, simple, if_text, Syntax}
@@ -24,8 +22,10 @@ use Rattle.routine_faults.specs.declared.Fault.{Fault}
 use Rattle.routine.proofs.Arms.{unroll}
 use Rattle.routine.proofs.Views.{PlainAt, ForkAt, induction}
 use Rattle.routine.proofs.Counting.{same-ifs}
-use Rattle.routine_rendering.proofs.Commands.{simple-there, if_there, close_there}
+use Rattle.routine_rendering.proofs.Commands.{mark_byte, simple-there, if_there, close_there}
+use Rattle.routine_faults.proofs.Tests.{mark_is}
 use Rattle.routine_rendering.proofs.Operands.{Same, good, good_if}
+use Rattle.routine_command.specs.declared.Mark.{Mark}
 
 -- the commands of an arm without their offsets and counts
 unfoldable pub text : Arm → Text
@@ -42,31 +42,31 @@ counts-after (Simple.Read d a i) k = (omega arith, omega arith)
 counts-after (Simple.Write a i s) k = (omega arith, omega arith)
 
 -- the arm a of p stands from `at` to `end` inside n ifs
-pub record Written (bs : List ℕ) (p : Syntax) (n close at : ℕ) (k : Counts) (a : Arm) (end : ℕ) (k₁ : Counts) : Type 0 where
-  pub bytes : drop at bs ≡ text_bytes (text a) ++ (close ∷ drop end bs)
+pub record Written (bs : List ℕ) (p : Syntax) (n : ℕ) (close : Mark) (at : ℕ) (k : Counts) (a : Arm) (end : ℕ) (k₁ : Counts) : Type 0 where
+  pub bytes : drop at bs ≡ text_bytes (text a) ++ (mark_byte close ∷ drop end bs)
   pub good : AllGood p (text a)
   pub deep : n + depth (text a) ≤ 8
   pub counted : k₁.ifs ≡ k.ifs + ifs (text a)
   pub accessed : accesses k₁ ≡ accesses k + access_count (text a)
 
-module _ (bs : List ℕ) (h : Header) (n close at : ℕ) (k : Counts) where
+module _ (bs : List ℕ) (h : Header) (n : ℕ) (close : Mark) (at : ℕ) (k : Counts) where
   -- an arm ends by its own mark
-  own_mark : (mark : ℕ) (a : Arm) (end : ℕ) (k₁ : Counts) → command_at bs at ≡ Command.Close mark → Stands bs h n close at k a end k₁ → mark ≡ close
+  own_mark : (mark : Mark) (a : Arm) (end : ℕ) (k₁ : Counts) → command_at bs at ≡ Command.Close mark → Stands bs h n close at k a end k₁ → mark ≡ close
   unfolding step_of
-  own_mark mark a end k₁ e s = by (eqb mark close) refl
+  own_mark mark a end k₁ e s = by (same_mark mark close) refl
     where
-      by : (b : Bool) → eqb mark close ≡ b → mark ≡ close
-      by true q = eqb-true _ _ q
+      by : (b : Bool) → same_mark mark close ≡ b → mark ≡ close
+      by true q = mark_is _ _ q
       by false q =
           let u : arm_step (arm bs h) n close at k (step_of bs h n close (Command.Close mark) k) ≡ parsed a end k₁ = rw e at (sym (unroll bs h n close at k) ∙ s.reads) in
           let v : refused Fault.Misplaced at ≡ parsed a end k₁ = rw q at u in
           let z : ◌≡◌ {A = ℕ} 0 1 = cc in absurd (omega arith)
 
 module _ (bs : List ℕ) (f : AreBytes bs) (h : Header) (p : Syntax) (same : Same bs h p) where
-  abbrev Says : (n close at : ℕ) → Counts → Arm → ℕ → Counts → Type 0
+  abbrev Says : (n : ℕ) (close : Mark) (at : ℕ) → Counts → Arm → ℕ → Counts → Type 0
   Says n close at k a end k₁ = n ≤ 8 → Stands bs h n close at k a end k₁ → Written bs p n close at k a end k₁
 
-  on-done : (n close at : ℕ) (k : Counts) (mark : ℕ) → command_at bs at ≡ Command.Close mark → at + 1 ≤ length bs → Says n close at k done (at + 1) k
+  on-done : (n : ℕ) (close : Mark) (at : ℕ) (k : Counts) (mark : Mark) → command_at bs at ≡ Command.Close mark → at + 1 ≤ length bs → Says n close at k done (at + 1) k
   unfolding text text_bytes depth ifs reads writes
   on-done n close at k mark e l d s = record {
     bytes = rw (own_mark bs h n close at k mark done (at + 1) k e s) at (close_there bs at mark e l);
@@ -76,23 +76,23 @@ module _ (bs : List ℕ) (f : AreBytes bs) (h : Header) (p : Syntax) (same : Sam
     accessed = omega arith;
   }
 
-  on-plain : (n close at : ℕ) (k : Counts) (c : Simple) (rest : Arm) (end : ℕ) (k₁ : Counts) → PlainAt bs h n close at k c rest end k₁
+  on-plain : (n : ℕ) (close : Mark) (at : ℕ) (k : Counts) (c : Simple) (rest : Arm) (end : ℕ) (k₁ : Counts) → PlainAt bs h n close at k c rest end k₁
       → Says n close (at + simple_size c) (counts_after c k) rest end k₁ → Says n close at k (plain at c k rest) end k₁
   unfolding text text_bytes depth ifs reads writes
   on-plain n close at k c rest end k₁ v go d s =
       let w = go d v.stands in
       let b = simple-there bs at f c v.command v.room in
       record {
-        bytes = rw (append_assoc (simple_bytes c) (text_bytes (text rest)) (close ∷ drop end bs), ← w.bytes) b.0;
-        good = (good bs h p same c b.1 v.sound, w.good);
+        bytes = rw (append_assoc (simple_bytes c) (text_bytes (text rest)) (mark_byte close ∷ drop end bs), ← w.bytes) b.0;
+        good = (good bs h p same c v.sound, w.good);
         deep = w.deep;
         counted = w.counted ∙ rw (same-ifs c k);
         accessed = omega (arith, w.accessed, counts-after c k);
       }
 
-  on_fork : (n close at : ℕ) (k : Counts) (c : Condition) (first second rest : Arm) (end : ℕ) (k₁ : Counts)
+  on_fork : (n : ℕ) (close : Mark) (at : ℕ) (k : Counts) (c : Condition) (first second rest : Arm) (end : ℕ) (k₁ : Counts)
       → (v : ForkAt bs h n close at k c first second rest end k₁)
-      → Says (n + 1) 12 (at + 4) (counts_after_if k) first v.else v.k₂ → Says (n + 1) 13 v.else v.k₂ second v.next v.k₃
+      → Says (n + 1) Mark.Else (at + 4) (counts_after_if k) first v.else v.k₂ → Says (n + 1) Mark.EndIf v.else v.k₂ second v.next v.k₃
       → Says n close v.next v.k₃ rest end k₁ → Says n close at k (if_else at c k first second rest) end k₁
   unfolding text text_bytes depth ifs reads writes
   on_fork n close at k c first second rest end k₁ v go₁ go₂ go₃ d s =
@@ -103,8 +103,8 @@ module _ (bs : List ℕ) (f : AreBytes bs) (h : Header) (p : Syntax) (same : Sam
       record {
         bytes =
             rw (
-              append_assoc (text_bytes (text first)) (12 ∷ text_bytes (text second) ++ (13 ∷ text_bytes (text rest))) (close ∷ drop end bs),
-              append_assoc (text_bytes (text second)) (13 ∷ text_bytes (text rest)) (close ∷ drop end bs),
+              append_assoc (text_bytes (text first)) (12 ∷ text_bytes (text second) ++ (13 ∷ text_bytes (text rest))) (mark_byte close ∷ drop end bs),
+              append_assoc (text_bytes (text second)) (13 ∷ text_bytes (text rest)) (mark_byte close ∷ drop end bs),
               ← w₃.bytes,
               ← w₂.bytes,
               ← w₁.bytes,
@@ -116,6 +116,6 @@ module _ (bs : List ℕ) (f : AreBytes bs) (h : Header) (p : Syntax) (same : Sam
         accessed = omega (arith, w₁.accessed, w₂.accessed, w₃.accessed);
       }
 
-  pub written : (a : Arm) (n close at : ℕ) (k : Counts) (end : ℕ) (k₁ : Counts) → Stands bs h n close at k a end k₁ → n ≤ 8
+  pub written : (a : Arm) (n : ℕ) (close : Mark) (at : ℕ) (k : Counts) (end : ℕ) (k₁ : Counts) → Stands bs h n close at k a end k₁ → n ≤ 8
       → Written bs p n close at k a end k₁
   written a n close at k end k₁ s d = induction bs h Says on-done on-plain on_fork a n close at k end k₁ s d s

@@ -1,5 +1,5 @@
 -- What is accepted: just the bytes of a well-formed routine.
-use Rattle.std.specs.Prelude.{ℕ, ◌+◌, ◌<◌, ◌≡◌, ◌↔◌, List, length}
+use Rattle.std.specs.Prelude.{ℕ, Ok, ◌+◌, ◌<◌, ◌≡◌, ◌↔◌, List, length}
 use Rattle.slices.specs.Bytes.{entry}
 use Rattle.routine_header.specs.Header.{first_command}
 use Rattle.routine.specs.Routine.{Arm, done, plain, if_else}
@@ -9,7 +9,6 @@ use Rattle.routine_rendering.specs.Render.{simple_bytes, text_bytes, render}
 use Rattle.routine_rendering.specs.WellFormed.{ifs, reads, writes, WellFormed}
 use Rattle.routine_header.specs.declared.Header.{Header}
 use Rattle.routine_faults.specs.declared.Counts.{Counts}
-use Rattle.routine.specs.declared.Checked.{Checked}
 
 -- each entry is a byte
 abbrev pub AreBytes : List ℕ → Type 0
@@ -59,5 +58,5 @@ numbered_commands p = numbered (first_command (head_of p)) no_counts p.commands
 pub record Exactly : Type 0 where
   pub accepted : (bs : List ℕ) → AreBytes bs → Accepted bs ↔ Rendered bs
   pub decoded : (p : Syntax) → WellFormed p → decode (render p) ≡ routine (head_of p) (numbered_commands p) (text_counts p)
-  pub answered : (p : Syntax) → WellFormed p → checked (render p) ≡ Checked.Accepted (head_of p) (text_counts p)
+  pub answered : (p : Syntax) → WellFormed p → checked (render p) ≡ Ok (record { header = head_of p; counts = text_counts p })
   pub once : (p q : Syntax) → WellFormed p → WellFormed q → render p ≡ render q → p ≡ q

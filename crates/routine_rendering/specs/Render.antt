@@ -2,13 +2,30 @@
 use Rattle.std.specs.Prelude.{ℕ, List, [], ◌∷◌, ◌++◌, length}
 use Rattle.slices.specs.Bytes.{half_bytes, word_bytes}
 use Rattle.routine_rendering.specs.Syntax.{Text, no_more, simple, if_text, Syntax}
+use Rattle.routine_command.specs.declared.Conversion.{Conversion}
+use Rattle.routine_command.specs.declared.Operation.{Operation}
 use Rattle.routine_command.specs.declared.Simple.{Simple}
+
+-- the byte of a conversion
+abbrev pub conversion_byte : Conversion → ℕ
+conversion_byte Conversion.Copy = 0x02
+conversion_byte Conversion.Cut = 0x06
+conversion_byte Conversion.ZeroExtend = 0x07
+conversion_byte Conversion.SignExtend = 0x08
+
+-- the byte of a computation
+abbrev pub operation_byte : Operation → ℕ
+operation_byte Operation.Add = 0x03
+operation_byte Operation.Subtract = 0x04
+operation_byte Operation.Multiply = 0x05
+operation_byte Operation.Quotient = 0x0E
+operation_byte Operation.Remainder = 0x0F
 
 -- a command that is no if: its byte and its operands
 unfoldable pub simple_bytes : Simple → List ℕ
 simple_bytes (Simple.Set d c) = 0x01 ∷ d ∷ word_bytes c
-simple_bytes (Simple.Convert op d s) = op ∷ d ∷ s ∷ []
-simple_bytes (Simple.Compute op d s t) = op ∷ d ∷ s ∷ t ∷ []
+simple_bytes (Simple.Convert op d s) = conversion_byte op ∷ d ∷ s ∷ []
+simple_bytes (Simple.Compute op d s t) = operation_byte op ∷ d ∷ s ∷ t ∷ []
 simple_bytes (Simple.Read d array i) = 0x09 ∷ d ∷ array ∷ i ∷ []
 simple_bytes (Simple.Write array i s) = 0x0A ∷ array ∷ i ∷ s ∷ []
 
