@@ -3,7 +3,7 @@ use mathlib.Core.List.{List}
 use Prim.Native.Nat.{ℕ}
 use lib.ListN.{replicate}
 use Rattle.routine_faults.proofs.Fine.{fine}
-use Rattle.routine.proofs.Accepted.{decoded}
+use Rattle.routine.proofs.Decoded.{decoded}
 use Rattle.run_inputs.proofs.Rewording.{reworded}
 use Rattle.run_state.specs.State.{initial}
 use Rattle.run_state.proofs.Laid.{laid-entry}

@@ -1,39 +1,53 @@
 // Whether there is a run.
-ghost use Rattle.std.specs.Prelude.{◌≡◌};
-ghost use Rattle.run.specs.Inner.Admitted.{run_admitted, admitted_room};
+ghost use Rattle.std.specs.Prelude.{◌≡◌, length};
+ghost use Rattle.routine.specs.Decode.{commands_in};
+ghost use Rattle.routine.specs.Inner.Known.{IsRoutineWith};
+ghost use Rattle.run_inputs.specs.Inputs.{listed};
+ghost use Rattle.run.specs.Inner.Admitted.{run_admitted, admitted_inputs, admitted_room};
 
-use crate::{AdmittedRun, Refusal};
-use routine::Checked;
-use routine_faults::Counts;
-use routine_header::Header;
-use run_inputs::{Listed, check_inputs};
+use crate::Refusal;
+use routine::Accepted;
+use run_inputs::check_inputs;
 use slices::Buffer;
 
-// 16: a value for each variable, a trail byte for each if.
-fn admit_room(h: Header, k: Counts, values: usize, trail: usize) -> AdmittedRun
-    ensures { result ≡ admitted_room values trail h k }
+// 9 and 10: one word for each variable and each read, and none too great.
+fn admit_inputs(routine: &[u8], inputs: &[u32], accepted: Accepted) -> Result<(), Refusal>
+    requires { IsRoutineWith routine.now accepted.header accepted.counts }
+    ensures { result ≡ admitted_inputs (length inputs.now) (listed routine.now inputs.now accepted.header (commands_in routine.now) accepted.counts) }
 {
-    if values < h.variables as usize {
-        return AdmittedRun::Refused(Refusal::TooSmall(Buffer::Values));
+    let checked = check_inputs(routine, inputs, accepted.header, accepted.counts);
+    checked.map_err(|refusal| match refusal {
+        run_inputs::Refusal::Miscounted => Refusal::InputCount(inputs.len()),
+        run_inputs::Refusal::TooGreat(n) => Refusal::Input(n),
+    })
+}
+
+// 16: a value for each variable, a trail byte for each if.
+#[tactic(auto, unfolding(crate::specs::Inner::Admitted::admitted_room))]
+fn admit_room(accepted: Accepted, values: usize, trail: usize) -> Result<(), Refusal>
+    ensures { result ≡ admitted_room values trail accepted.header accepted.counts }
+{
+    if values < usize::from(accepted.header.variables) {
+        return Err(Refusal::TooSmall(Buffer::Values));
     }
-    if trail < k.ifs as usize {
-        return AdmittedRun::Refused(Refusal::TooSmall(Buffer::Trail));
+    if trail < usize::from(accepted.counts.ifs) {
+        return Err(Refusal::TooSmall(Buffer::Trail));
     }
-    AdmittedRun::Runs(h, k)
+    Ok(())
 }
 
 // Whether there is a run: 1 to 8, then 9, 10 and 16.
-pub fn admit(routine: &[u8], inputs: &[u32], values: usize, trail: usize) -> AdmittedRun
+#[tactic(auto, using(crate::proofs::Admitting::is_counted, crate::proofs::Admitting::no_routine, crate::proofs::Admitting::inputs_refused, crate::proofs::Admitting::room_refused, crate::proofs::Admitting::roomed))]
+pub fn admit(
+    routine: &[u8],
+    inputs: &[u32],
+    values: usize,
+    trail: usize,
+) -> Result<Accepted, Refusal>
     ensures { result ≡ run_admitted routine.now inputs.now values trail }
 {
-    match routine::check(routine) {
-        Checked::Refused(refusal) => AdmittedRun::Refused(Refusal::Routine(refusal)),
-        Checked::Accepted { header, counts } => match check_inputs(
-            routine, inputs, header, counts,
-        ) {
-            Listed::Accepted => admit_room(header, counts, values, trail),
-            Listed::Miscounted => AdmittedRun::Refused(Refusal::InputCount(inputs.len())),
-            Listed::TooGreat(n) => AdmittedRun::Refused(Refusal::Input(n)),
-        },
-    }
+    let accepted = routine::check(routine).map_err(Refusal::Routine)?;
+    admit_inputs(routine, inputs, accepted)?;
+    admit_room(accepted, values, trail)?;
+    Ok(accepted)
 }

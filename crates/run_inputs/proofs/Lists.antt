@@ -7,10 +7,11 @@ use native.Mathlib.Nat.{add-zero, add-suc}
 use native.Mathlib.Omega.{arith}
 use lib.ListN.{length}
 use lib.Dec.{ltb}
+use Rattle.std.proofs.Common.{Result, Ok, Err}
 use Rattle.slices.specs.Bytes.{entry}
 use Rattle.routine_header.specs.Header.{width}
-use Rattle.run_inputs.specs.Inputs.{variables_from, first_great}
-use Rattle.run_inputs.specs.declared.Words.{Words}
+use Rattle.run_inputs.specs.Inputs.{variables_from, too_great, first_great}
+use Rattle.run_inputs.specs.declared.TooGreat.{TooGreat}
 
 -- ---- one word
 
@@ -19,7 +20,7 @@ module _ (bs ins : List ℕ) (n v : ℕ) (vs : List ℕ) where
   unfolding first_great
   great_next e = rw e
 
-  pub great_here : ltb (entry ins n) (2 ^ width bs v) ≡ false → Words.TooGreat n ≡ first_great bs ins n (v ∷ vs)
+  pub great_here : ltb (entry ins n) (2 ^ width bs v) ≡ false → too_great n ≡ first_great bs ins n (v ∷ vs)
   unfolding first_great
   great_here e = rw e
 
@@ -41,23 +42,23 @@ module _ (bs ins : List ℕ) (p : ℕ) where
     left_more : v < p → first_great bs ins v (v ∷ variables_from (v + 1) (p - (v + 1))) ≡ first_great bs ins 0 (variables_from 0 p)
     left_more k = ap (first_great bs ins v) (sym (more v (p - v) (p - (v + 1)) (omega arith))) ∙ l
 
-    pub given-next : v < p → ltb (entry ins v) (2 ^ width bs v) ≡ true → Left (v + 1)
-    given-next k e = great_next bs ins v v (variables_from (v + 1) (p - (v + 1))) e ∙ left_more k
+    pub given_next : v < p → ltb (entry ins v) (2 ^ width bs v) ≡ true → Left (v + 1)
+    given_next k e = great_next bs ins v v (variables_from (v + 1) (p - (v + 1))) e ∙ left_more k
 
-    pub given_great : v < p → ltb (entry ins v) (2 ^ width bs v) ≡ false → Words.TooGreat v ≡ first_great bs ins 0 (variables_from 0 p)
+    pub given_great : v < p → ltb (entry ins v) (2 ^ width bs v) ≡ false → too_great v ≡ first_great bs ins 0 (variables_from 0 p)
     given_great k e = great_here bs ins v v (variables_from (v + 1) (p - (v + 1))) e ∙ left_more k
 
-    pub given-over : p ≤ v → Words.Fit ≡ first_great bs ins 0 (variables_from 0 p)
+    pub given_over : p ≤ v → Ok tt ≡ first_great bs ins 0 (variables_from 0 p)
     unfolding first_great variables_from
-    given-over k = let z : p - v ≡ 0 = omega arith in rw z at l
+    given_over k = let z : p - v ≡ 0 = omega arith in rw z at l
 
 -- ---- one list after another
 
-abbrev then_great : Words → Words → Words
-then_great Words.Fit y = y
-then_great (Words.TooGreat m) y = Words.TooGreat m
+abbrev then_great : Result (Unit {0}) TooGreat → Result (Unit {0}) TooGreat → Result (Unit {0}) TooGreat
+then_great (Ok fit) y = y
+then_great (Err word) y = Err word
 
-then_cond : (b : Bool) (x y : Words) (m : ℕ) → cond b (then_great x y) (Words.TooGreat m) ≡ then_great (cond b x (Words.TooGreat m)) y
+then_cond : (b : Bool) (x y : Result (Unit {0}) TooGreat) (m : ℕ) → cond b (then_great x y) (too_great m) ≡ then_great (cond b x (too_great m)) y
 then_cond true x y m = refl
 then_cond false x y m = refl
 
@@ -74,14 +75,15 @@ unfolding variables_from
 variables-length zero v = refl
 variables-length (suc n) v = ap suc (variables-length n (v + 1))
 
-module _ (bs ins : List ℕ) (p : ℕ) (ys : List ℕ) (r : Words) (is : r ≡ first_great bs ins 0 (variables_from 0 p)) where
-  both_lists : first_great bs ins 0 (variables_from 0 p ++ ys) ≡ then_great r (first_great bs ins p ys)
-  both_lists =
+module _ (bs ins : List ℕ) (p : ℕ) (ys : List ℕ) where
+  both_lists : (r : Result (Unit {0}) TooGreat) → r ≡ first_great bs ins 0 (variables_from 0 p)
+      → first_great bs ins 0 (variables_from 0 p ++ ys) ≡ then_great r (first_great bs ins p ys)
+  both_lists r is =
       let e : 0 + length (variables_from 0 p) ≡ p = omega (arith, variables-length p 0) in
       rw is (rw (great_append bs ins (variables_from 0 p) ys 0, e))
 
-  pub reads_decide : r ≡ Words.Fit → (q : Words) → q ≡ first_great bs ins p ys → q ≡ first_great bs ins 0 (variables_from 0 p ++ ys)
-  reads_decide a q e = e ∙ sym (both_lists ∙ ap (λ (x : Words). then_great x (first_great bs ins p ys)) a)
+  pub reads_decide : Ok tt ≡ first_great bs ins 0 (variables_from 0 p) → (q : Result (Unit {0}) TooGreat) → q ≡ first_great bs ins p ys → q ≡ first_great bs ins 0 (variables_from 0 p ++ ys)
+  reads_decide is q e = e ∙ sym (both_lists (Ok tt) is)
 
-  pub given_decides : (m : ℕ) → r ≡ Words.TooGreat m → Words.TooGreat m ≡ first_great bs ins 0 (variables_from 0 p ++ ys)
-  given_decides m a = sym (both_lists ∙ ap (λ (x : Words). then_great x (first_great bs ins p ys)) a)
+  pub given_decides : (word : TooGreat) → Err word ≡ first_great bs ins 0 (variables_from 0 p) → Err word ≡ first_great bs ins 0 (variables_from 0 p ++ ys)
+  given_decides word is = sym (both_lists (Err word) is)

@@ -7,6 +7,7 @@ use lib.ListN.{length, set, length-set}
 use lib.Seq.{get_or-set_other}
 use lib.Dec.{eqb}
 use borrow.Author.Tests.{lt-ltb}
+use Rattle.std.proofs.Common.{Ok}
 use Rattle.slices.specs.Bytes.{entry}
 use Rattle.routine_header.specs.Header.{width}
 use Rattle.routine_faults.specs.Inputs.{input_count}
@@ -14,8 +15,6 @@ use Rattle.routine.specs.Routine.{Arm, text_of}
 use Rattle.routine_header.specs.declared.Header.{Header}
 use Rattle.routine_faults.specs.declared.Counts.{Counts}
 use Rattle.run_inputs.specs.Inputs.{variables_from, read_variables, first_great, words_fit, listed}
-use Rattle.run_inputs.specs.declared.Words.{Words}
-use Rattle.run_inputs.specs.declared.Listed.{Listed}
 use Rattle.run_inputs.proofs.Lists.{great_next}
 use Rattle.run_inputs.proofs.Fitting.{one_word, listed_cond}
 
@@ -36,8 +35,8 @@ module _ (bs ins : List ℕ) (v x : ℕ) where
 
   module _ (fits : x < 2 ^ width bs v) where
     -- m variables from u on, and then others, which v is not among
-    words_same : (m u : ℕ) (ys : List ℕ) → v < u + m → first_great bs ins u (variables_from u m ++ ys) ≡ Words.Fit
-        → first_great bs (set ins v x) u (variables_from u m ++ ys) ≡ Words.Fit
+    words_same : (m u : ℕ) (ys : List ℕ) → v < u + m → first_great bs ins u (variables_from u m ++ ys) ≡ Ok tt
+        → first_great bs (set ins v x) u (variables_from u m ++ ys) ≡ Ok tt
     unfolding variables_from
     words_same zero u ys l f = later_same ys u (omega arith) ∙ f
     words_same (suc m) u ys l f =
@@ -45,7 +44,7 @@ module _ (bs ins : List ℕ) (v x : ℕ) where
         let e = below_set ins v u x (2 ^ width bs u) (λ e. subst (λ (i : ℕ). x < 2 ^ width bs i) e fits) p.0 in
         sym (great_next bs (set ins v x) u u (variables_from (u + 1) m ++ ys) (lt-ltb _ _ e)) ∙ words_same m (u + 1) ys (omega arith) p.1
 
-    pub reworded : (h : Header) (a : Arm) (k : Counts) → v < h.variables → listed bs ins h a k ≡ Listed.Accepted → listed bs (set ins v x) h a k ≡ Listed.Accepted
+    pub reworded : (h : Header) (a : Arm) (k : Counts) → v < h.variables → listed bs ins h a k ≡ Ok tt → listed bs (set ins v x) h a k ≡ Ok tt
     unfolding listed words_fit
     reworded h a k l f =
         let p = listed_cond (eqb (length ins) (input_count h k)) _ f in

@@ -1,15 +1,16 @@
 -- The reads of a routine, as a flat walk over its bytes meets them by their command bytes alone. Assumes nothing.
+use Rattle.routine_command.specs.declared.Mark.{Mark}
 use mathlib.Core.Path.{◌≡◌, refl, sym, ap, subst, ◌∙◌}
 use mathlib.Core.List.{List, [], ◌∷◌, ◌++◌, append-nil}
-use mathlib.Core.Bool.{Bool, true, false, cond, ◌||◌}
+use mathlib.Core.Bool.{true, false}
 use Prim.Native.Nat.{ℕ, ◌+◌, ◌^◌, ◌≤◌, ◌<◌}
 use native.Mathlib.Omega.{arith}
 use lib.ListN.{length, length-append}
-use lib.Dec.{ltb, eqb}
-use borrow.Author.Tests.{ne_eqb}
+use lib.Dec.{ltb}
+use Rattle.std.proofs.Common.{Ok, Option, Some, None}
 use Rattle.slices.specs.Bytes.{entry, word}
-use Rattle.routine_header.specs.Header.{width, first_command, between}
-use Rattle.routine_command.specs.Command.{command_size, size_by_op, command_by, command_of, command_at, touches}
+use Rattle.routine_header.specs.Header.{width, first_command}
+use Rattle.routine_command.specs.Command.{command_size, opcode_of, command_from, size_by_op, command_by, command_of, command_at, touches}
 use Rattle.routine_faults.specs.Step.{counts_after}
 use Rattle.routine_faults.specs.Inputs.{given, input_count}
 use Rattle.routine.specs.Routine.{Arm, text_of}
@@ -18,14 +19,14 @@ use Rattle.routine.specs.Inner.Stands.{Stands}
 use Rattle.routine.specs.Inner.Known.{IsRoutineWith}
 use Rattle.routine_header.specs.declared.Header.{Header}
 use Rattle.routine_faults.specs.declared.Counts.{Counts}
+use Rattle.routine_command.specs.declared.Opcode.{Opcode}
 use Rattle.routine_command.specs.declared.Simple.{Simple}
 use Rattle.routine_command.specs.declared.Command.{Command}
 use Rattle.routine_command.proofs.Sizes.{size-pos, size_by, not_cut}
-use Rattle.routine.proofs.Accepted.{decoded, commands_are}
+use Rattle.routine.proofs.Decoded.{decoded, commands_are}
 use Rattle.routine.proofs.Text.{Text, over, closes, forks, steps, text}
 use Rattle.routine.proofs.Views.{induction}
-use Rattle.run_inputs.specs.Inputs.{read_first, read_variables, first_great}
-use Rattle.run_inputs.specs.declared.Words.{Words}
+use Rattle.run_inputs.specs.Inputs.{read_first, read_variables, too_great, first_great}
 use Rattle.run_inputs.proofs.Lists.{great_next, great_here}
 use Rattle.run_inputs.proofs.Fitting.{reads_append}
 
@@ -41,7 +42,7 @@ read_count (Simple.Write a i s) k vs = refl
 reads-length : (cs ds : List Simple) → length (read_variables (cs ++ ds)) ≡ length (read_variables cs) + length (read_variables ds)
 reads-length cs ds = ap length (reads_append cs ds) ∙ length-append (read_variables cs) (read_variables ds)
 
-reads-after : (bs : List ℕ) (h : Header) (a : Arm) (depth close at : ℕ) (k : Counts) (end : ℕ) (k₁ : Counts) → Stands bs h depth close at k a end k₁
+reads-after : (bs : List ℕ) (h : Header) (a : Arm) (depth : ℕ) (close : Mark) (at : ℕ) (k : Counts) (end : ℕ) (k₁ : Counts) → Stands bs h depth close at k a end k₁
     → k₁.reads ≡ k.reads + length (read_variables (text_of a))
 unfolding text_of read_variables
 reads-after bs h =
@@ -53,10 +54,10 @@ reads-after bs h =
 
 -- ---- a command by its byte
 
--- a read has the byte 9, and no other command has
-nine : (op a b c k : ℕ) → op ≡ 9 → command_by op a b c k ≡ Command.Simple (Simple.Read a b c)
+-- a read's byte
+read_by : (op a b c k : ℕ) → opcode_of op ≡ Some Opcode.Read → command_by op a b c k ≡ Command.Simple (Simple.Read a b c)
 unfolding command_by
-nine op a b c k e = rw e
+read_by op a b c k e = rw e refl
 
 -- what a command says of the reads before the others
 abbrev reads_of : Command → List ℕ → List ℕ
@@ -65,23 +66,20 @@ reads_of (Command.Close mark) vs = vs
 reads_of (Command.If c) vs = vs
 reads_of (Command.Simple c) vs = read_first (touches c) vs
 
-none_of : (b₁ b₂ b₃ b₅ b₆ b₇ : Bool) (op a b c k : ℕ) (vs : List ℕ)
-    → reads_of (cond b₁ (Command.Simple (Simple.Set a k)) (cond b₂ (Command.Simple (Simple.Convert op a b)) (cond b₃ (Command.Simple (Simple.Compute op a b c))
-    (cond b₅ (Command.Simple (Simple.Write a b c)) (cond b₆ (Command.If (record { relation = a; s = b; t = c }))
-    (cond b₇ (Command.Close op) Command.Missing)))))) vs ≡ vs
-none_of true b₂ b₃ b₅ b₆ b₇ op a b c k vs = refl
-none_of false true b₃ b₅ b₆ b₇ op a b c k vs = refl
-none_of false false true b₅ b₆ b₇ op a b c k vs = refl
-none_of false false false true b₆ b₇ op a b c k vs = refl
-none_of false false false false true b₇ op a b c k vs = refl
-none_of false false false false false true op a b c k vs = refl
-none_of false false false false false false op a b c k vs = refl
+no_read : (o : Option Opcode) (a b c k : ℕ) (vs : List ℕ) → (o ≡ Some Opcode.Read → ⊥) → reads_of (command_from o a b c k) vs ≡ vs
+no_read None a b c k vs f = refl
+no_read (Some (Opcode.Close mark)) a b c k vs f = refl
+no_read (Some Opcode.Set) a b c k vs f = refl
+no_read (Some (Opcode.Convert op)) a b c k vs f = refl
+no_read (Some (Opcode.Compute op)) a b c k vs f = refl
+no_read (Some Opcode.Read) a b c k vs f = absurd (f refl)
+no_read (Some Opcode.Write) a b c k vs f = refl
+no_read (Some Opcode.If) a b c k vs f = refl
 
-not_nine : (op a b c k : ℕ) (vs : List ℕ) → (op ≡ 9 → ⊥) → reads_of (command_by op a b c k) vs ≡ vs
+-- any other byte
+other_by : (op a b c k : ℕ) (vs : List ℕ) → (opcode_of op ≡ Some Opcode.Read → ⊥) → reads_of (command_by op a b c k) vs ≡ vs
 unfolding command_by
-not_nine op a b c k vs f =
-    rw (ne_eqb op 9 f)
-    (none_of (eqb op 1) (eqb op 2 || between 6 8 op) (between 3 5 op || between 14 15 op) (eqb op 10) (eqb op 11) (eqb op 0 || between 12 13 op) op a b c k vs)
+other_by op a b c k vs f = no_read (opcode_of op) a b c k vs f
 
 -- ---- the walk
 
@@ -120,11 +118,11 @@ onward bs at cs l (steps {cs = rest} c e r t) = found bs at rest (Command.Simple
 
 module _ (bs ins : List ℕ) (cs₀ : List Simple) (n₀ end at n : ℕ) (x : LeftOf bs ins cs₀ n₀ end at n) where
   -- after the last read nothing is left to look at
-  pub scan_over : end ≤ n → Words.Fit ≡ first_great bs ins n₀ (read_variables cs₀)
+  pub scan_over : end ≤ n → Ok tt ≡ first_great bs ins n₀ (read_variables cs₀)
   unfolding first_great
   scan_over l = go (read_variables x.commands) (omega (arith, x.count)) x.same
     where
-      go : (vs : List ℕ) → length vs ≡ 0 → first_great bs ins n vs ≡ first_great bs ins n₀ (read_variables cs₀) → Words.Fit ≡ first_great bs ins n₀ (read_variables cs₀)
+      go : (vs : List ℕ) → length vs ≡ 0 → first_great bs ins n vs ≡ first_great bs ins n₀ (read_variables cs₀) → Ok tt ≡ first_great bs ins n₀ (read_variables cs₀)
       go [] e q = q
       go (v ∷ vs) e q = absurd (omega arith)
 
@@ -135,10 +133,10 @@ module _ (bs ins : List ℕ) (cs₀ : List Simple) (n₀ end at n : ℕ) (x : Le
     pub scan_room : (at + size_by_op op ≤ length bs) × (0 < size_by_op op)
     scan_room = (rw is next.room, size-pos (command_by op 0 0 0 0))
 
-    pub scan_past : (op ≡ 9 → ⊥) → LeftOf bs ins cs₀ n₀ end (at + size_by_op op) n
+    pub scan_past : (opcode_of op ≡ Some Opcode.Read → ⊥) → LeftOf bs ins cs₀ n₀ end (at + size_by_op op) n
     scan_past f =
         let e : read_variables x.commands ≡ read_variables next.rest =
-        next.reads ∙ not_nine (entry bs at) (entry bs (at + 1)) (entry bs (at + 2)) (entry bs (at + 3)) (word bs (at + 2)) (read_variables next.rest) (λ q. f (is ∙ q)) in
+        next.reads ∙ other_by (entry bs at) (entry bs (at + 1)) (entry bs (at + 2)) (entry bs (at + 3)) (word bs (at + 2)) (read_variables next.rest) (λ q. f (ap opcode_of is ∙ q)) in
         record {
           commands = next.rest;
           text = subst (λ (o : ℕ). Text bs (at + size_by_op o) next.rest) (sym is) next.text;
@@ -146,29 +144,32 @@ module _ (bs ins : List ℕ) (cs₀ : List Simple) (n₀ end at n : ℕ) (x : Le
           count = ap (λ (vs : List ℕ). n + length vs) (sym e) ∙ x.count;
         }
 
-    pub read-room : op ≡ 9 → at + 4 ≤ length bs
+    -- a read has four bytes
+    four : opcode_of op ≡ Some Opcode.Read → size_by_op (entry bs at) ≡ 4
     unfolding command_by
-    read-room q = rw (sym is ∙ q) at next.room
+    four q = rw (ap opcode_of (sym is) ∙ q) refl
 
-    module _ (q : op ≡ 9) (v : ℕ) (by : v ≡ entry bs (at + 1)) where
+    pub read_room : opcode_of op ≡ Some Opcode.Read → at + 4 ≤ length bs
+    read_room q = rw (four q) at next.room
+
+    module _ (q : opcode_of op ≡ Some Opcode.Read) (v : ℕ) (by : v ≡ entry bs (at + 1)) where
       read_here : read_variables x.commands ≡ v ∷ read_variables next.rest
       read_here =
           next.reads
           ∙ ap (λ (c : Command). reads_of c (read_variables next.rest))
-          (nine (entry bs at) (entry bs (at + 1)) (entry bs (at + 2)) (entry bs (at + 3)) (word bs (at + 2)) (sym is ∙ q))
+          (read_by (entry bs at) (entry bs (at + 1)) (entry bs (at + 2)) (entry bs (at + 3)) (word bs (at + 2)) (ap opcode_of (sym is) ∙ q))
           ∙ ap (λ (u : ℕ). u ∷ read_variables next.rest) (sym by)
 
       pub scan_fits : ltb (entry ins n) (2 ^ width bs v) ≡ true → LeftOf bs ins cs₀ n₀ end (at + 4) (n + 1)
-      unfolding command_by
       scan_fits e =
           record {
             commands = next.rest;
-            text = rw (sym is ∙ q) at next.text;
+            text = rw (four q) at next.text;
             same = great_next bs ins n v (read_variables next.rest) e ∙ ap (first_great bs ins n) (sym read_here) ∙ x.same;
             count = omega (arith, ap length read_here, x.count);
           }
 
-      pub scan_great : ltb (entry ins n) (2 ^ width bs v) ≡ false → Words.TooGreat n ≡ first_great bs ins n₀ (read_variables cs₀)
+      pub scan_great : ltb (entry ins n) (2 ^ width bs v) ≡ false → too_great n ≡ first_great bs ins n₀ (read_variables cs₀)
       scan_great e = great_here bs ins n v (read_variables next.rest) e ∙ ap (first_great bs ins n) (sym read_here) ∙ x.same
 
 -- ---- the reads of a routine
@@ -180,10 +181,10 @@ module _ (bs ins : List ℕ) (h : Header) (k : Counts) (c : IsRoutineWith bs h k
   pub scan_start : (end at n : ℕ) → end ≡ input_count h k → at ≡ first_command h → n ≡ given h → LeftOf bs ins (text_of (commands_in bs)) n end at n
   scan_start end at n p q e =
       let s = (decoded bs h c.commands k c.decodes).stands in
-      let t = text bs h 0 0 (first_command h) _ c.commands (length bs) k s [] (over refl) in
+      let t = text bs h 0 Mark.End (first_command h) _ c.commands (length bs) k s [] (over refl) in
       rw (← commands-decoded) (record {
         commands = text_of c.commands;
         text = rw q (rw (append-nil (text_of c.commands)) at t);
         same = refl;
-        count = omega (arith, p, e, reads-after bs h c.commands 0 0 (first_command h) _ (length bs) k s);
+        count = omega (arith, p, e, reads-after bs h c.commands 0 Mark.End (first_command h) _ (length bs) k s);
       })

@@ -16,19 +16,20 @@ use Rattle.routine.specs.Decode.{routine, decode}
 use Rattle.routine.specs.Access.{ifs_before}
 use Rattle.run_state.specs.Run.{Event, took, came, run_of}
 use Rattle.run_state.proofs.Ordered.{Ordered, ordered}
-use Rattle.run_state.specs.Course.{keeps, course_to, course}
+use Rattle.run_state.specs.Course.{keeps, landing, course_to, course}
 use Rattle.run_state.specs.Goes.{goes_way, Comes}
 use Rattle.run_state.specs.declared.Course.{Course}
+use Rattle.run_state.specs.declared.Landing.{Landing}
 
 module _ (ds : List ℕ) (access before : ℕ) where
   -- an if that the course went on from
-  kept : (b : Bool) (number array : ℕ) (index : Whole) (x : Course) → cond b x (Course.Astray number) ≡ Course.Arrived array index
-      → (b ≡ true) × (x ≡ Course.Arrived array index)
+  kept : (b : Bool) (number array : ℕ) (index : Whole) (x : Course) → cond b x (Course.Astray number) ≡ Course.Arrived (landing array index)
+      → (b ≡ true) × (x ≡ Course.Arrived (landing array index))
   kept true number array index x e = (refl, e)
   kept false number array index x e = let z : ◌≡◌ {A = ℕ} 0 1 = cc in absurd (omega arith)
 
   -- a course that arrived came to the access
-  comes : (es : List Event) (array : ℕ) (index : Whole) → course ds access before es ≡ Course.Arrived array index → Comes access array index es
+  comes : (es : List Event) (array : ℕ) (index : Whole) → course ds access before es ≡ Course.Arrived (landing array index) → Comes access array index es
   unfolding course_to
   comes [] array index e = let z : ◌≡◌ {A = ℕ} 0 1 = cc in absurd (omega arith)
   comes (took number arm ∷ es) array index e =
@@ -36,12 +37,11 @@ module _ (ds : List ℕ) (access before : ℕ) where
       record { before = took number arm ∷ x.before; after = x.after; there = ap (λ l. took number arm ∷ l) x.there }
   comes (came number array₁ index₁ ∷ es) array index e = pick (comes es array index) (eqb number access) refl e
     where
-      pick : (course ds access before es ≡ Course.Arrived array index → Comes access array index es) → (b : Bool) → eqb number access ≡ b
-          → cond b (Course.Arrived array₁ index₁) (course ds access before es) ≡ Course.Arrived array index → Comes access array index (came number array₁ index₁ ∷ es)
+      pick : (course ds access before es ≡ Course.Arrived (landing array index) → Comes access array index es) → (b : Bool) → eqb number access ≡ b
+          → cond b (Course.Arrived (landing array₁ index₁)) (course ds access before es) ≡ Course.Arrived (landing array index) → Comes access array index (came number array₁ index₁ ∷ es)
       pick go true n q =
-          let a : array₁ ≡ array = cc in
-          let i : index₁ ≡ index = cc in
-          rw (eqb-true number access n, a, i) (record { before = []; after = es; there = refl })
+          let z : landing array₁ index₁ ≡ landing array index = cc in
+          rw (eqb-true number access n, ap (λ (l : Landing). l.array) z, ap (λ (l : Landing). l.index) z) (record { before = []; after = es; there = refl })
       pick go false n q =
           let x = go q in
           record { before = came number array₁ index₁ ∷ x.before; after = x.after; there = ap (λ l. came number array₁ index₁ ∷ l) x.there }
@@ -54,7 +54,7 @@ module _ (ds : List ℕ) (access before : ℕ) where
   later n m (came number array index ∷ es) l o = later (number + 1) m es (omega (arith, o.0)) o.1
 
   -- a course that arrived went the way
-  goes : (n m : ℕ) (es : List Event) (array : ℕ) (index : Whole) → Ordered access before n m es → course ds access before es ≡ Course.Arrived array index
+  goes : (n m : ℕ) (es : List Event) (array : ℕ) (index : Whole) → Ordered access before n m es → course ds access before es ≡ Course.Arrived (landing array index)
       → goes_way ds before es ≡ true
   unfolding course_to goes_way
   goes n m [] array index o e = refl
@@ -64,8 +64,8 @@ module _ (ds : List ℕ) (access before : ℕ) where
   goes n m (came number array₁ index₁ ∷ es) array index o e =
       pick (λ q. goes (number + 1) m es array index o.1 q) (λ l. later (number + 1) m es l o.1) (eqb number access) refl e
     where
-      pick : (course ds access before es ≡ Course.Arrived array index → goes_way ds before es ≡ true) → (access < number + 1 → goes_way ds before es ≡ true) → (b : Bool)
-          → eqb number access ≡ b → cond b (Course.Arrived array₁ index₁) (course ds access before es) ≡ Course.Arrived array index → goes_way ds before es ≡ true
+      pick : (course ds access before es ≡ Course.Arrived (landing array index) → goes_way ds before es ≡ true) → (access < number + 1 → goes_way ds before es ≡ true) → (b : Bool)
+          → eqb number access ≡ b → cond b (Course.Arrived (landing array₁ index₁)) (course ds access before es) ≡ Course.Arrived (landing array index) → goes_way ds before es ≡ true
       pick go past true n q = let z = eqb-true number access n in past (omega arith)
       pick go past false n q = go q
 
@@ -79,14 +79,14 @@ module _ (ds : List ℕ) (access before : ℕ) where
 
   -- a run that goes the way and comes to the access has a course that arrived there
   arrives : (n m : ℕ) (es : List Event) (array : ℕ) (index : Whole) (fs : List Event) → Ordered access before n m (es ++ came access array index ∷ fs)
-      → goes_way ds before (es ++ came access array index ∷ fs) ≡ true → course ds access before (es ++ came access array index ∷ fs) ≡ Course.Arrived array index
+      → goes_way ds before (es ++ came access array index ∷ fs) ≡ true → course ds access before (es ++ came access array index ∷ fs) ≡ Course.Arrived (landing array index)
   unfolding course_to goes_way
   arrives n m [] array index fs o e = rw (eq-eqb access access refl) refl
   arrives n m (took number arm ∷ es) array index fs o e = pick (arrives n m es array index fs o.1) (keeps ds before number arm) e
     where
-      pick : (goes_way ds before (es ++ came access array index ∷ fs) ≡ true → course ds access before (es ++ came access array index ∷ fs) ≡ Course.Arrived array index)
+      pick : (goes_way ds before (es ++ came access array index ∷ fs) ≡ true → course ds access before (es ++ came access array index ∷ fs) ≡ Course.Arrived (landing array index))
           → (b : Bool) → b && goes_way ds before (es ++ came access array index ∷ fs) ≡ true
-          → cond b (course ds access before (es ++ came access array index ∷ fs)) (Course.Astray number) ≡ Course.Arrived array index
+          → cond b (course ds access before (es ++ came access array index ∷ fs)) (Course.Astray number) ≡ Course.Arrived (landing array index)
       pick go true q = go q
       pick go false q = let y : ◌≡◌ {A = ℕ} 0 1 = cc in absurd (omega arith)
   arrives n m (came number array₁ index₁ ∷ es) array index fs o e =
@@ -105,7 +105,7 @@ module _ (bs ins ds : List ℕ) (h : Header) (a : Arm) (k : Counts) (d : decode 
   in_order = ordered bs ins h a k d access l
 
   pub arrival : (array : ℕ) (index : Whole)
-      → (course ds access before es ≡ Course.Arrived array index) ↔ ((goes_way ds before es ≡ true) × Comes access array index es)
+      → (course ds access before es ≡ Course.Arrived (landing array index)) ↔ ((goes_way ds before es ≡ true) × Comes access array index es)
   arrival array index = (
     (λ e. (goes ds access before 0 (accesses k) es array index in_order e, comes ds access before es array index e)),
     (λ p.

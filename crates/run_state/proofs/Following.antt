@@ -1,13 +1,18 @@
 -- What is left of an arm while it is followed. Assumes nothing.
+use Rattle.routine_command.specs.declared.Mark.{Mark}
 use mathlib.Core.Path.{◌≡◌, refl, sym, ap, subst, ◌∙◌}
 use mathlib.Core.List.{List, []}
 use mathlib.Core.Bool.{Bool, true, false, cond}
 use Prim.Native.Nat.{ℕ, ◌+◌, ◌≤◌, ◌<◌}
 use native.Mathlib.Omega.{arith}
 use lib.ListN.{length}
+use Rattle.std.proofs.Common.{Option, None, Some}
+use Rattle.run_state.specs.declared.Stop.{Stop}
+use Rattle.std.specs.Prelude.{is_some}
 use Rattle.routine_header.specs.declared.Header.{Header}
 use Rattle.routine_command.specs.Command.{touches, simple_size, command_at}
-use Rattle.routine_faults.specs.Step.{counts_after, counts_after_if}
+use Rattle.routine_faults.specs.Step.{too_many, counts_after, counts_after_if}
+use Rattle.routine_faults.specs.Inner.Sound.{Sound}
 use Rattle.routine_command.specs.declared.Condition.{Condition}
 use Rattle.routine_faults.specs.declared.Counts.{Counts}
 use Rattle.routine_command.specs.declared.Simple.{Simple}
@@ -20,10 +25,8 @@ use Rattle.routine.proofs.Views.{by_if}
 use Rattle.routine.proofs.Walking as walking
 use Rattle.routine.proofs.Standing.{simple_known, if_ends}
 use Rattle.run_state.specs.State.{executed}
-use Rattle.run_state.specs.declared.Outcome.{Outcome}
 use Rattle.run_state.specs.declared.State.{State}
 use Rattle.run_state.specs.Run.{Event, Execution, unless_stopped, run_on, events_by, events_at, run_arm, run_if}
-use Rattle.run_state.specs.Inner.Walker.{is_over}
 use Rattle.run_state.specs.Course.{course_to}
 use Rattle.run_state.specs.Inner.Walker.{settled, is_done, way_at, step_on, Follows, FollowsArm, FollowsIf}
 use Rattle.run_state.specs.declared.Course.{Course}
@@ -40,7 +43,7 @@ data Seen : Type 0 where
 abbrev seen : Course → State → Seen
 seen (Course.Astray number) s = told (Course.Astray number)
 seen Course.Passing s = passing s
-seen (Course.Arrived array index) s = told (Course.Arrived array index)
+seen (Course.Arrived there) s = told (Course.Arrived there)
 
 abbrev course_of : Seen → Course
 course_of (told c) = c
@@ -53,12 +56,12 @@ state_of s (passing t) = t
 course_seen : (c : Course) (s : State) → course_of (seen c s) ≡ c
 course_seen (Course.Astray number) s = refl
 course_seen Course.Passing s = refl
-course_seen (Course.Arrived array index) s = refl
+course_seen (Course.Arrived there) s = refl
 
 state_seen : (c : Course) (s t : State) → settled c ≡ false → state_of t (seen c s) ≡ s
 state_seen (Course.Astray number) s t e = let z : ◌≡◌ {A = ℕ} 0 1 = cc in absurd (omega arith)
 state_seen Course.Passing s t e = refl
-state_seen (Course.Arrived array index) s t e = let z : ◌≡◌ {A = ℕ} 0 1 = cc in absurd (omega arith)
+state_seen (Course.Arrived there) s t e = let z : ◌≡◌ {A = ℕ} 0 1 = cc in absurd (omega arith)
 
 same-course : (c d : Course) (s t : State) → seen c s ≡ seen d t → c ≡ d
 same-course c d s t e = sym (course_seen c s) ∙ ap course_of e ∙ course_seen d t
@@ -69,16 +72,16 @@ same-state c d s t e f =
 
 -- states that are the same where the course is passing
 alike : (c : Course) (s t : State) → (settled c ≡ false → s ≡ t)
-    → (seen c s ≡ seen c t) × (cond (settled c) true (is_over s.outcome) ≡ cond (settled c) true (is_over t.outcome))
+    → (seen c s ≡ seen c t) × (cond (settled c) true (is_some s.stop) ≡ cond (settled c) true (is_some t.stop))
 alike (Course.Astray number) s t f = (refl, refl)
-alike Course.Passing s t f = (ap passing (f refl), ap (λ (x : State). is_over x.outcome) (f refl))
-alike (Course.Arrived array index) s t f = (refl, refl)
+alike Course.Passing s t f = (ap passing (f refl), ap (λ (x : State). is_some x.stop) (f refl))
+alike (Course.Arrived there) s t f = (refl, refl)
 
 -- a walk that is not done is passing and was not stopped
 pub going : (c : Course) (b : Bool) → cond (settled c) true b ≡ false → (c ≡ Course.Passing) × (b ≡ false)
 going (Course.Astray number) b e = let z : ◌≡◌ {A = ℕ} 0 1 = cc in absurd (omega arith)
 going Course.Passing b e = (refl, e)
-going (Course.Arrived array index) b e = let z : ◌≡◌ {A = ℕ} 0 1 = cc in absurd (omega arith)
+going (Course.Arrived there) b e = let z : ◌≡◌ {A = ℕ} 0 1 = cc in absurd (omega arith)
 
 pub either : {A : Type 0} (r : Way) → is_done r ≡ true → is_done r ≡ false → A
 either r e f = let z : ◌≡◌ {A = ℕ} 0 1 = cc in absurd (omega arith)
@@ -89,31 +92,31 @@ module _ (ds : List ℕ) (goal : Goal) where
   abbrev seen_of : Execution → Seen
   seen_of x = seen (course_to ds goal x.events) x.state
 
-  on : (o : Outcome) (es : List Event) (s : State) (go : State → Execution) → course_to ds goal es ≡ Course.Passing → is_over o ≡ false
+  on : (o : Option Stop) (es : List Event) (s : State) (go : State → Execution) → course_to ds goal es ≡ Course.Passing → is_some o ≡ false
       → seen_of (go s) ≡ seen_of (unless_stopped o es s go)
-  on Outcome.Going es s go e f = rw (course_to_append ds goal es (go s).events, e)
-  on (Outcome.Stopped number index side) es s go e f = let z : ◌≡◌ {A = ℕ} 0 1 = cc in absurd (omega arith)
+  on None es s go e f = rw (course_to_append ds goal es (go s).events, e)
+  on (Some access) es s go e f = let z : ◌≡◌ {A = ℕ} 0 1 = cc in absurd (omega arith)
 
-  off : (o : Outcome) (es : List Event) (s : State) (go : State → Execution) (c : Course) → c ≡ course_to ds goal es → cond (settled c) true (is_over o) ≡ true
+  off : (o : Option Stop) (es : List Event) (s : State) (go : State → Execution) (c : Course) → c ≡ course_to ds goal es → cond (settled c) true (is_some o) ≡ true
       → seen c s ≡ seen_of (unless_stopped o es s go)
-  off Outcome.Going es s go (Course.Astray number) e f = rw (course_to_append ds goal es (go s).events, ← e)
-  off Outcome.Going es s go Course.Passing e f = let z : ◌≡◌ {A = ℕ} 0 1 = cc in absurd (omega arith)
-  off Outcome.Going es s go (Course.Arrived array index) e f = rw (course_to_append ds goal es (go s).events, ← e)
-  off (Outcome.Stopped number index side) es s go c e f = ap (λ (z : Course). seen z s) e
+  off None es s go (Course.Astray number) e f = rw (course_to_append ds goal es (go s).events, ← e)
+  off None es s go Course.Passing e f = let z : ◌≡◌ {A = ℕ} 0 1 = cc in absurd (omega arith)
+  off None es s go (Course.Arrived there) e f = rw (course_to_append ds goal es (go s).events, ← e)
+  off (Some access) es s go c e f = ap (λ (z : Course). seen z s) e
 
   -- after an execution that the walk r has followed
   module _ (x : Execution) (go : State → Execution) (r : Way) (by : r.course ≡ course_to ds goal x.events) (is : settled r.course ≡ false → r.state ≡ x.state) where
     then_on : is_done r ≡ false → seen_of (go r.state) ≡ seen_of (run_on x go)
     then_on e =
-        let p = going r.course (is_over r.state.outcome) e in
+        let p = going r.course (is_some r.state.stop) e in
         let q : r.state ≡ x.state = is (ap settled p.0) in
         ap (λ (s : State). seen_of (go s)) q
-        ∙ on x.state.outcome x.events x.state go (sym by ∙ p.0) (ap (λ (s : State). is_over s.outcome) (sym q) ∙ p.1)
+        ∙ on x.state.stop x.events x.state go (sym by ∙ p.0) (ap (λ (s : State). is_some s.stop) (sym q) ∙ p.1)
 
     then_off : is_done r ≡ true → seen r.course r.state ≡ seen_of (run_on x go)
     then_off e =
         let p = alike r.course r.state x.state is in
-        p.0 ∙ off x.state.outcome x.events x.state go r.course by (sym p.1 ∙ e)
+        p.0 ∙ off x.state.stop x.events x.state go r.course by (sym p.1 ∙ e)
 
   arrived : (x : Execution) (end : ℕ) (k : Counts) (r : Way) → seen r.course r.state ≡ seen_of x → (is_done r ≡ false → r.next ≡ end) → (is_done r ≡ false → r.counts ≡ k)
       → Follows ds goal x end k r
@@ -140,7 +143,7 @@ step_is bs ins goal h c at k s n k₁ s₁ x e f g q = rw (e, f, g, q)
 
 -- ---- the walk over an arm
 
-module _ (bs ins ds : List ℕ) (goal : Goal) (h : Header) (depth close : ℕ) where
+module _ (bs ins ds : List ℕ) (goal : Goal) (h : Header) (depth : ℕ) (close : Mark) where
   -- what an arm means from a state, and that the counts are those of the walk
   abbrev Meant : Arm → State × Counts → Seen
   Meant a s = seen_of ds goal (run_arm bs ins h a s.0)
@@ -169,8 +172,19 @@ module _ (bs ins ds : List ℕ) (goal : Goal) (h : Header) (depth close : ℕ) w
         let l = g.goes w₀.counts a.arm a.end a.after refl a.stands in
         rw l.tied (record { arm = l.rest; end = a.end; after = a.after; stands = l.stands })
 
+    -- a command that is no if, which stands here: its operands, its counts, its room
+    module _ (a : SomeArm bs h depth close w₀.next w₀.counts) (r : Command) (is : r ≡ command_at bs w.next) (c : Simple) (q : r ≡ Command.Simple c) where
+      pub sound_here : Sound bs h c
+      sound_here = (simple_known bs h depth close w.next w.counts (here a) r is c q).0
+
+      pub few_here : too_many c w.counts ≡ false
+      few_here = (simple_known bs h depth close w.next w.counts (here a) r is c q).1
+
+      pub room_here : w.next + simple_size c ≤ length bs
+      room_here = (simple_known bs h depth close w.next w.counts (here a) r is c q).2
+
     module _ (r : Command) (is : r ≡ command_at bs w.next) where
-      pub closed : (m : ℕ) → r ≡ Command.Close m
+      pub closed : (m : Mark) → r ≡ Command.Close m
           → FollowsArm bs ins ds goal h depth close w₀ (way_at (w.next + 1) w.counts w.state Course.Passing)
       unfolding Going run_arm course_to
       closed m q = record {
@@ -224,7 +238,7 @@ module _ (bs ins ds : List ℕ) (goal : Goal) (h : Header) (depth close : ℕ) w
       -- an if, after which the walk is at t
       module _ (c : Condition) (q : r ≡ Command.If c) (t : Way) (f : FollowsIf bs ins ds goal h depth c w t) where
         arrives : (k : Counts) → w.counts ≡ k → (first second : Arm) (else : ℕ) (k₂ : Counts) (next : ℕ) (k₃ : Counts)
-            → Stands bs h (depth + 1) 12 (w.next + 4) (counts_after_if k) first else k₂ → Stands bs h (depth + 1) 13 else k₂ second next k₃
+            → Stands bs h (depth + 1) Mark.Else (w.next + 4) (counts_after_if k) first else k₂ → Stands bs h (depth + 1) Mark.EndIf else k₂ second next k₃
             → Follows ds goal (run_if bs c k (run_arm bs ins h first) (run_arm bs ins h second) w.state) next k₃ t
         arrives k e first second else k₂ next k₃ x y = rw (← e) (f.tells first else k₂ second next k₃ (rw e x) y)
 
@@ -251,7 +265,7 @@ module _ (bs ins ds : List ℕ) (goal : Goal) (h : Header) (depth close : ℕ) w
         }
 
 -- the bytes left fall over an if
-module _ (bs : List ℕ) (h : Header) (depth close : ℕ) (w : Way) (a : SomeArm bs h depth close w.next w.counts) (r : Command) (is : r ≡ command_at bs w.next)
+module _ (bs : List ℕ) (h : Header) (depth : ℕ) (close : Mark) (w : Way) (a : SomeArm bs h depth close w.next w.counts) (r : Command) (is : r ≡ command_at bs w.next)
     (ins : List ℕ) (goal : Goal) (t : Way) where
   pub if_room : (c : Condition) → r ≡ Command.If c → (ds : List ℕ) → FollowsIf bs ins ds goal h depth c w t → is_done t ≡ false
       → (w.next < t.next) × (t.next ≤ length bs)

@@ -1,4 +1,6 @@
 -- The operands of a command that passed 4 and 5 are variables, of widths 1 to 32. Assumes nothing.
+use Rattle.routine_command.specs.declared.Conversion.{Conversion}
+use Rattle.routine_command.specs.declared.Operation.{Operation}
 use mathlib.Core.Path.{◌≡◌}
 use mathlib.Core.List.{List}
 use Prim.Native.Nat.{ℕ, ◌≤◌, ◌<◌}
@@ -16,14 +18,14 @@ module _ (bs : List ℕ) (h : Header) (f : Fine bs h) where
   variable_below v l = omega (arith, f.few)
 
   module _ (x : Simple) (e : Sound bs h x) where
-    pub convert_operands : (op d s : ℕ) → x ≡ Simple.Convert op d s
+    pub convert_operands : (op : Conversion) (d s : ℕ) → x ≡ Simple.Convert op d s
         → (d < 32) × (s < 32) × (width bs d ≤ 32) × (1 ≤ width bs s) × (width bs s ≤ 32)
     convert_operands op d s q =
         let p = convert_fine bs h op d s (rw q at e) in
         let w = f.widths s p.1 in
         (variable_below d p.0, variable_below s p.1, (f.widths d p.0).1, w.0, w.1)
 
-    pub compute_operands : (op d s t : ℕ) → x ≡ Simple.Compute op d s t → (d < 32) × (s < 32) × (t < 32) × (width bs d ≤ 32)
+    pub compute_operands : (op : Operation) (d s t : ℕ) → x ≡ Simple.Compute op d s t → (d < 32) × (s < 32) × (t < 32) × (width bs d ≤ 32)
     compute_operands op d s t q =
         let p = compute_fine bs h op d s t (rw q at e) in
         (variable_below d p.0, variable_below s p.1, variable_below t p.2, (f.widths d p.0).1)

@@ -1,5 +1,6 @@
 -- What a run comes to stands in the order of the text: the accesses come with growing numbers, and an if that it comes to after an access does not stand
 -- before this one. Assumes nothing.
+use Rattle.routine_command.specs.declared.Mark.{Mark}
 use mathlib.Core.Path.{◌≡◌, refl}
 use mathlib.Core.List.{List, [], ◌∷◌, ◌++◌}
 use mathlib.Core.Bool.{Bool, true, false, cond}
@@ -8,7 +9,8 @@ use native.Mathlib.Omega.{arith}
 use lib.ListN.{length}
 use lib.Dec.{ltb}
 use borrow.Author.Tests.{ltb-true, ltb-false}
-use Rattle.bitvec.specs.declared.Whole.{Whole}
+use Rattle.std.proofs.Common.{Option, None, Some}
+use Rattle.run_state.specs.declared.Stop.{Stop}
 use Rattle.routine_header.specs.Header.{first_command}
 use Rattle.routine_header.specs.declared.Header.{Header}
 use Rattle.routine_command.specs.Command.{touches}
@@ -21,23 +23,21 @@ use Rattle.routine.specs.Routine.{Arm}
 use Rattle.routine.specs.Decode.{routine, decode, no_counts}
 use Rattle.routine.specs.Access.{ifs_before}
 use Rattle.routine.specs.Inner.Stands.{Stands}
-use Rattle.routine.proofs.Accepted.{decoded}
+use Rattle.routine.proofs.Decoded.{decoded}
 use Rattle.routine.proofs.Numbering.{EachIf, Before, ifs-before}
 use Rattle.routine.proofs.Views.{induction}
 use Rattle.run_state.specs.State.{initial, with_arm, holds, executed}
-use Rattle.run_state.specs.declared.Outcome.{Outcome}
-use Rattle.run_state.specs.declared.Side.{Side}
 use Rattle.run_state.specs.declared.State.{State}
 use Rattle.run_state.specs.Run.{Event, took, came, Execution, unless_stopped, run_on, events_by, events_at, run_arm, run_of, events_then}
 
 -- a run stopped, or it goes on
-pub run_then_by : (Q : Execution → Type 0) (x : Execution) (go : State → Execution) → (x.state.outcome ≡ Outcome.Going → Q (events_then x.events (go x.state)))
-    → ((access : ℕ) (index : Whole) (side : Side) → x.state.outcome ≡ Outcome.Stopped access index side → Q x) → Q (run_on x go)
-run_then_by Q x go p q = pick x.state.outcome refl
+pub run_then_by : (Q : Execution → Type 0) (x : Execution) (go : State → Execution) → (x.state.stop ≡ None → Q (events_then x.events (go x.state)))
+    → ((access : Stop) → x.state.stop ≡ Some access → Q x) → Q (run_on x go)
+run_then_by Q x go p q = pick x.state.stop refl
   where
-    pick : (u : Outcome) → x.state.outcome ≡ u → Q (unless_stopped u x.events x.state go)
-    pick Outcome.Going e = p e
-    pick (Outcome.Stopped access index side) e = q access index side e
+    pick : (u : Option Stop) → x.state.stop ≡ u → Q (unless_stopped u x.events x.state go)
+    pick None e = p e
+    pick (Some access) e = q access e
 
 -- ---- the numbers of the accesses: an arm has those from the counts before it up to the counts after it
 
@@ -48,7 +48,7 @@ after_grows (Simple.Compute op d s t) k = omega arith
 after_grows (Simple.Read d a i) k = omega arith
 after_grows (Simple.Write a i s) k = omega arith
 
-pub accesses_grow : (bs : List ℕ) (h : Header) (a : Arm) (depth close at : ℕ) (k : Counts) (end : ℕ) (k₁ : Counts) → Stands bs h depth close at k a end k₁
+pub accesses_grow : (bs : List ℕ) (h : Header) (a : Arm) (depth : ℕ) (close : Mark) (at : ℕ) (k : Counts) (end : ℕ) (k₁ : Counts) → Stands bs h depth close at k a end k₁
     → accesses k ≤ accesses k₁
 accesses_grow bs h =
     induction bs h (λ depth close at k a end k₁. accesses k ≤ accesses k₁)
@@ -87,7 +87,7 @@ module _ (access before : ℕ) where
   ordered_then n m l x go f o p =
       run_then_by (λ (z : Execution). Ordered n l z.events) x go
       (λ e. ordered_append n m l x.events (go x.state).events o (p x.state))
-      (λ a i s e. longer n m l x.events f o)
+      (λ a e. longer n m l x.events f o)
 
   ordered_simple : (bs : List ℕ) (t : Touch) (k : Counts) (s : State) → Ordered (accesses k) (accesses (counts_after_by t k)) (events_by bs t k s)
   ordered_simple bs Touch.Nothing k s = omega arith
@@ -107,7 +107,7 @@ module _ (access before : ℕ) where
       pick false e = ltb-false k.ifs before e
 
   module _ (bs ins : List ℕ) (h : Header) where
-    ordered_arm : (a : Arm) (depth close at : ℕ) (k : Counts) (end : ℕ) (k₁ : Counts) → Stands bs h depth close at k a end k₁
+    ordered_arm : (a : Arm) (depth : ℕ) (close : Mark) (at : ℕ) (k : Counts) (end : ℕ) (k₁ : Counts) → Stands bs h depth close at k a end k₁
         → EachIf (Before before access) a → (s : State) → Ordered (accesses k) (accesses k₁) (run_arm bs ins h a s).events
     unfolding run_arm
     ordered_arm =
@@ -118,8 +118,8 @@ module _ (access before : ℕ) where
         ordered_then (accesses k) (accesses (counts_after c k)) (accesses k₁) (record { events = events_at bs c k s; state = executed bs ins h c k s }) (run_arm bs ins h rest)
         (accesses_grow bs h rest depth close _ (counts_after c k) end k₁ v.stands) (ordered_simple bs (touches c) k s) (go f))
         (λ depth close at k c first second rest end k₁ v go₁ go₂ go₃ f s.
-        let g₁ = accesses_grow bs h first (depth + 1) 12 (at + 4) (counts_after_if k) v.else v.k₂ v.stands-first in
-        let g₂ = accesses_grow bs h second (depth + 1) 13 v.else v.k₂ v.next v.k₃ v.stands-second in
+        let g₁ = accesses_grow bs h first (depth + 1) Mark.Else (at + 4) (counts_after_if k) v.else v.k₂ v.stands-first in
+        let g₂ = accesses_grow bs h second (depth + 1) Mark.EndIf v.else v.k₂ v.next v.k₃ v.stands-second in
         let x = run_arm bs ins h first (with_arm s k.ifs 0) in
         let y = run_arm bs ins h second (with_arm s k.ifs 1) in
         ordered_then (accesses k) (accesses v.k₃) (accesses k₁)
@@ -135,5 +135,5 @@ pub ordered : (bs ins : List ℕ) (h : Header) (a : Arm) (k : Counts) → decode
     → Ordered access (ifs_before a access) 0 (accesses k) (run_of bs ins h a).events
 unfolding run_of
 ordered bs ins h a k e access l =
-    ordered_arm access (ifs_before a access) bs ins h a 0 0 (first_command h) no_counts (length bs) k (decoded bs h a k e).stands (ifs-before bs h a k e access l)
+    ordered_arm access (ifs_before a access) bs ins h a 0 Mark.End (first_command h) no_counts (length bs) k (decoded bs h a k e).stands (ifs-before bs h a k e access l)
     (initial ins (given h))

@@ -4,6 +4,8 @@ use mathlib.Core.List.{List, [], ◌∷◌, ◌++◌}
 use mathlib.Core.Bool.{Bool, true, false, cond}
 use Prim.Native.Nat.{ℕ}
 use native.Mathlib.Omega.{arith}
+use Rattle.std.proofs.Common.{Option, None, Some}
+use Rattle.run_state.specs.declared.Stop.{Stop}
 use Rattle.bitvec.specs.declared.Whole.{Whole}
 use Rattle.routine_header.specs.Header.{array_size}
 use Rattle.routine_header.specs.declared.Header.{Header}
@@ -12,53 +14,51 @@ use Rattle.routine_faults.specs.Inputs.{given}
 use Rattle.routine_faults.specs.declared.Counts.{Counts}
 use Rattle.routine_command.specs.declared.Simple.{Simple}
 use Rattle.routine.specs.Routine.{Arm, done, plain, if_else}
-use Rattle.run_state.specs.State.{initial, with_arm, holds, index_of, lies, arrive, executed}
-use Rattle.run_state.specs.declared.Lies.{Lies}
-use Rattle.run_state.specs.declared.Outcome.{Outcome}
+use Rattle.run_state.specs.State.{initial, with_arm, holds, index_of, stop_at, lies, arrive, executed}
 use Rattle.run_state.specs.declared.Side.{Side}
 use Rattle.run_state.specs.declared.State.{State}
 use Rattle.run_state.specs.Run.{Event, took, came, Execution, events_then, unless_stopped, run_on, events_at, run_arm, run_of}
 
 module _ (bs : List ℕ) (h : Header) where
   -- among the events of a run with this outcome, each access with an index outside is the last, and stopped the run
-  abbrev pub Ends : List Event → Outcome → Type 0
+  abbrev pub Ends : List Event → Option Stop → Type 0
   Ends [] o = Unit {0}
   Ends (took number arm ∷ es) o = Ends es o
   Ends (came access array index ∷ es) o =
-      ((side : Side) → lies (array_size bs h array) index ≡ Lies.Outside side → (es ≡ []) × (o ≡ Outcome.Stopped access index side)) × Ends es o
+      ((side : Side) → lies (array_size bs h array) index ≡ Some side → (es ≡ []) × (o ≡ Some (stop_at access index side))) × Ends es o
 
   -- such an access, wherever it stands
-  pub ends_at : (es : List Event) (access array : ℕ) (index : Whole) (fs : List Event) (o : Outcome) → Ends (es ++ came access array index ∷ fs) o
-      → (side : Side) → lies (array_size bs h array) index ≡ Lies.Outside side → (fs ≡ []) × (o ≡ Outcome.Stopped access index side)
+  pub ends_at : (es : List Event) (access array : ℕ) (index : Whole) (fs : List Event) (o : Option Stop) → Ends (es ++ came access array index ∷ fs) o
+      → (side : Side) → lies (array_size bs h array) index ≡ Some side → (fs ≡ []) × (o ≡ Some (stop_at access index side))
   ends_at [] access array index fs o e = e.0
   ends_at (took _ _ ∷ es) access array index fs o e = ends_at es access array index fs o e
   ends_at (came _ _ _ ∷ es) access array index fs o e = ends_at es access array index fs o e.1
 
   -- a run that goes on came to none
-  ends_append : (es fs : List Event) (o : Outcome) → Ends es Outcome.Going → Ends fs o → Ends (es ++ fs) o
+  ends_append : (es fs : List Event) (o : Option Stop) → Ends es None → Ends fs o → Ends (es ++ fs) o
   ends_append [] fs o e f = f
   ends_append (took _ _ ∷ es) fs o e f = ends_append es fs o e f
   ends_append (came _ _ _ ∷ es) fs o e f =
       ((λ side l. let z = (e.0 side l).1 in let n : ◌≡◌ {A = ℕ} 0 1 = cc in absurd (omega arith)), ends_append es fs o e.1 f)
 
   abbrev EndsIn : Execution → Type 0
-  EndsIn x = Ends x.events x.state.outcome
+  EndsIn x = Ends x.events x.state.stop
 
   ends_then : (x : Execution) (go : State → Execution) → EndsIn x → ((s : State) → EndsIn (go s)) → EndsIn (run_on x go)
-  ends_then x go e f = pick x.state.outcome e
+  ends_then x go e f = pick x.state.stop e
     where
-      pick : (o : Outcome) → Ends x.events o → EndsIn (unless_stopped o x.events x.state go)
-      pick Outcome.Going g = ends_append x.events (go x.state).events (go x.state).state.outcome g (f x.state)
-      pick (Outcome.Stopped access index side) g = e
+      pick : (o : Option Stop) → Ends x.events o → EndsIn (unless_stopped o x.events x.state go)
+      pick None g = ends_append x.events (go x.state).events (go x.state).state.stop g (f x.state)
+      pick (Some access) g = e
 
   -- one access
-  ends-access : (s next : State) (access array : ℕ) (index : Whole) (l : Lies) → lies (array_size bs h array) index ≡ l
-      → Ends (came access array index ∷ []) (arrive s access index l next).outcome
-  ends-access s next access array index Lies.Inside e = ((λ side q. let n : ◌≡◌ {A = ℕ} 0 1 = cc in absurd (omega arith)), tt)
-  ends-access s next access array index (Lies.Outside side) e = ((λ side₁ q. (refl, cc)), tt)
+  ends-access : (s next : State) (access array : ℕ) (index : Whole) (l : Option Side) → lies (array_size bs h array) index ≡ l
+      → Ends (came access array index ∷ []) (arrive s access index l next).stop
+  ends-access s next access array index None e = ((λ side q. let n : ◌≡◌ {A = ℕ} 0 1 = cc in absurd (omega arith)), tt)
+  ends-access s next access array index (Some side) e = ((λ side₁ q. (refl, cc)), tt)
 
   module _ (ins : List ℕ) where
-    ends-simple : (c : Simple) (k : Counts) (s : State) → Ends (events_at bs c k s) (executed bs ins h c k s).outcome
+    ends-simple : (c : Simple) (k : Counts) (s : State) → Ends (events_at bs c k s) (executed bs ins h c k s).stop
     unfolding executed
     ends-simple (Simple.Set d c) k s = tt
     ends-simple (Simple.Convert op d a) k s = tt

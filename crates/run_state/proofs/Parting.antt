@@ -1,9 +1,11 @@
 -- An if while it is followed: its two arms, which of them is taken, and that what the taken arm comes to is what the if comes to. Assumes nothing.
+use Rattle.routine_command.specs.declared.Mark.{Mark}
 use mathlib.Core.Path.{◌≡◌, refl, sym, ap, ◌∙◌}
 use mathlib.Core.List.{List, [], ◌∷◌}
 use mathlib.Core.Bool.{Bool, true, false, cond, true≢false}
 use Prim.Native.Nat.{ℕ, ◌+◌, ◌*◌, ◌-◌, ◌≤◌, ◌<◌}
 use native.Mathlib.Omega.{arith}
+use Rattle.std.specs.Prelude.{is_some}
 use Rattle.bitvec.specs.Relation.{relates}
 use Rattle.routine_header.specs.Header.{width}
 use Rattle.routine_header.specs.declared.Header.{Header}
@@ -18,7 +20,6 @@ use Rattle.routine.proofs.Standing.{second_at}
 use Rattle.run_state.specs.State.{value, with_arm, holds}
 use Rattle.run_state.specs.declared.State.{State}
 use Rattle.run_state.specs.Run.{Execution, took, run_arm, run_if, events_then}
-use Rattle.run_state.specs.Inner.Walker.{is_over}
 use Rattle.run_state.specs.Course.{keeps_to, course_to}
 use Rattle.run_state.specs.Inner.Walker.{settled, is_done, way_at, arm_at, Follows, FollowsArm, FollowsIf}
 use Rattle.run_state.specs.declared.Course.{Course}
@@ -28,8 +29,8 @@ use Rattle.run_state.proofs.Following.{going, either}
 
 -- after the first arm was followed
 pub second-after : (bs : List ℕ) (h : Header) (depth at : ℕ) (k : Counts) → SomeIf bs h depth at (counts_after_if k) → (inside : Counts) → inside ≡ counts_after_if k
-    → (ins ds : List ℕ) (goal : Goal) (s : State) (r : Way) → FollowsArm bs ins ds goal h (depth + 1) 12 (way_at (at + 4) inside s Course.Passing) r
-    → is_done r ≡ false → SomeArm bs h (depth + 1) 13 r.next r.counts
+    → (ins ds : List ℕ) (goal : Goal) (s : State) (r : Way) → FollowsArm bs ins ds goal h (depth + 1) Mark.Else (way_at (at + 4) inside s Course.Passing) r
+    → is_done r ≡ false → SomeArm bs h (depth + 1) Mark.EndIf r.next r.counts
 second-after bs h depth at k i inside e ins ds goal s r x f =
     let y = x.tells i.first i.else i.between (rw e i.stands-first) in
     second_at bs h depth at k i r.next r.counts (y.next f) (y.counts f)
@@ -107,8 +108,8 @@ module _ (bs ins ds : List ℕ) (goal : Goal) (h : Header) (depth : ℕ) (c : Co
         }
 
     module _ (z : arm ≡ 0) (t : s ≡ with_arm w.state w.counts.ifs 0) (r : Way)
-        (x : FollowsArm bs ins ds goal h (depth + 1) 12 (way_at (w.next + 4) inside s Course.Passing) r) where
-      first-tells : (first second : Arm) (else : ℕ) (k₁ : Counts) → Stands bs h (depth + 1) 12 (w.next + 4) (counts_after_if w.counts) first else k₁
+        (x : FollowsArm bs ins ds goal h (depth + 1) Mark.Else (way_at (w.next + 4) inside s Course.Passing) r) where
+      first-tells : (first second : Arm) (else : ℕ) (k₁ : Counts) → Stands bs h (depth + 1) Mark.Else (w.next + 4) (counts_after_if w.counts) first else k₁
           → Follows ds goal (run_if bs c w.counts (run_arm bs ins h first) (run_arm bs ins h second) w.state) else k₁ r
       unfolding arm_at
       first-tells first second else k₁ p =
@@ -123,18 +124,18 @@ module _ (bs ins ds : List ℕ) (goal : Goal) (h : Header) (depth : ℕ) (c : Co
             record { course = a.course; state = a.state; next = either r o; counts = either r o };
       }
 
-      pub first-passed : is_done r ≡ false → (past : Passed) → Passes bs h (depth + 1) 13 r.next r.counts past
+      pub first-passed : is_done r ≡ false → (past : Passed) → Passes bs h (depth + 1) Mark.EndIf r.next r.counts past
           → FollowsIf bs ins ds goal h depth c w (way_at past.next past.counts r.state Course.Passing)
       first-passed o past y = record {
         tells = λ first else k₁ second end k₂ p q.
             let a = first-tells first second else k₁ p in
-            let u = going r.course (is_over r.state.outcome) o in
+            let u = going r.course (is_some r.state.stop) o in
             let d = y.tells second end k₂ (rw (a.next o, a.counts o) q) in
             record { course = sym u.0 ∙ a.course; state = λ _. a.state (ap settled u.0); next = λ _. d.0; counts = λ _. d.1 };
       }
 
-    pub second_followed : (arm ≡ 0 → ⊥) → s ≡ with_arm w.state w.counts.ifs 1 → (past : Passed) → Passes bs h (depth + 1) 12 (w.next + 4) inside past
-        → (r : Way) → FollowsArm bs ins ds goal h (depth + 1) 13 (way_at past.next past.counts s Course.Passing) r → FollowsIf bs ins ds goal h depth c w r
+    pub second_followed : (arm ≡ 0 → ⊥) → s ≡ with_arm w.state w.counts.ifs 1 → (past : Passed) → Passes bs h (depth + 1) Mark.Else (w.next + 4) inside past
+        → (r : Way) → FollowsArm bs ins ds goal h (depth + 1) Mark.EndIf (way_at past.next past.counts s Course.Passing) r → FollowsIf bs ins ds goal h depth c w r
     unfolding arm_at
     second_followed z t past y r x = record {
       tells = λ first else k₁ second end k₂ p q.

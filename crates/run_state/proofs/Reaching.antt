@@ -1,8 +1,11 @@
 -- A command that is no if, while an arm is followed: what it is to the walk is what its events and its state say. Assumes nothing.
+use Rattle.routine_command.specs.declared.Mark.{Mark}
 use mathlib.Core.Path.{◌≡◌, refl, sym, ap, subst, ◌∙◌}
 use mathlib.Core.List.{List, [], ◌∷◌}
 use mathlib.Core.Bool.{Bool, true, false, cond, true≢false}
 use Prim.Native.Nat.{ℕ, ◌+◌}
+use Rattle.std.proofs.Common.{Option, None, Some}
+use Rattle.std.specs.Prelude.{is_some}
 use Rattle.bitvec.specs.declared.Whole.{Whole}
 use Rattle.routine_header.specs.Header.{array_size}
 use Rattle.routine_header.specs.declared.Header.{Header}
@@ -13,16 +16,16 @@ use Rattle.routine_faults.specs.Step.{accesses, counts_after}
 use Rattle.routine_faults.specs.declared.Counts.{Counts}
 use Rattle.run_state.specs.State.{value, assigned, stop, index_of, lies, arrive, moved, executed}
 use Rattle.run_state.specs.Inner.Moves.{operands_of, value_after}
-use Rattle.run_state.specs.declared.Lies.{Lies}
 use Rattle.run_state.specs.declared.Side.{Side}
 use Rattle.run_state.specs.declared.Operands.{Operands}
 use Rattle.run_state.specs.declared.State.{State}
 use Rattle.run_state.proofs.Moving.{moves}
 use Rattle.run_state.specs.Run.{came, events_at}
-use Rattle.run_state.specs.Course.{is_goal, course_to}
-use Rattle.run_state.specs.Inner.Walker.{is_over, is_done, way_at, lying_at, reached_by, step_on, FollowsArm}
+use Rattle.run_state.specs.Course.{is_goal, landing, course_to}
+use Rattle.run_state.specs.Inner.Walker.{is_done, way_at, lying_at, reached_by, step_on, FollowsArm}
 use Rattle.run_state.specs.declared.Course.{Course}
 use Rattle.run_state.specs.declared.Goal.{Goal}
+use Rattle.run_state.specs.declared.Landing.{Landing}
 use Rattle.run_state.specs.declared.Reached.{Reached}
 use Rattle.run_state.specs.declared.Way.{Way}
 use Rattle.run_state.proofs.Following.{Going, step_is, stepped, step-done, either}
@@ -31,14 +34,14 @@ use Rattle.run_state.proofs.Following.{Going, step_is, stepped, step-done, eithe
 abbrev Told : (n : ℕ) → (s next : State) → Course → State → Reached → Type 0
 Told n s next x y Reached.Goes = (x ≡ Course.Passing) × (y ≡ next)
 Told n s next x y (Reached.Stops index side) = (x ≡ Course.Passing) × (y ≡ stop s n index side)
-Told n s next x y (Reached.Arrives array index) = x ≡ Course.Arrived array index
+Told n s next x y (Reached.Arrives there) = x ≡ Course.Arrived there
 
-access-tells : (goal : Goal) (n array : ℕ) (index : Whole) (s next : State) (b : Bool) → is_goal goal n ≡ b → (l : Lies)
-    → Told n s next (course_to [] goal (came n array index ∷ [])) (arrive s n index l next) (cond b (Reached.Arrives array index) (lying_at index l))
+access-tells : (goal : Goal) (n array : ℕ) (index : Whole) (s next : State) (b : Bool) → is_goal goal n ≡ b → (l : Option Side)
+    → Told n s next (course_to [] goal (came n array index ∷ [])) (arrive s n index l next) (cond b (Reached.Arrives (landing array index)) (lying_at index l))
 unfolding course_to
 access-tells goal n array index s next true e l = rw e
-access-tells goal n array index s next false e Lies.Inside = (rw e, refl)
-access-tells goal n array index s next false e (Lies.Outside side) = (rw e, refl)
+access-tells goal n array index s next false e None = (rw e, refl)
+access-tells goal n array index s next false e (Some side) = (rw e, refl)
 
 module _ (bs ins : List ℕ) (goal : Goal) (h : Header) (k : Counts) (s : State) where
   tells : (c : Simple) → Told (accesses k) s (moved bs ins h c k s) (course_to [] goal (events_at bs c k s)) (executed bs ins h c k s)
@@ -52,7 +55,7 @@ module _ (bs ins : List ℕ) (goal : Goal) (h : Header) (k : Counts) (s : State)
   tells (Simple.Write array i a) =
       access-tells goal (accesses k) array (index_of bs s i) s (moved bs ins h (Simple.Write array i a) k s) (is_goal goal (accesses k)) refl (lies (array_size bs h array) (index_of bs s i))
 
-module _ (bs ins ds : List ℕ) (goal : Goal) (h : Header) (depth close : ℕ) (w₀ : Way) (at : ℕ) (k : Counts) (s : State)
+module _ (bs ins ds : List ℕ) (goal : Goal) (h : Header) (depth : ℕ) (close : Mark) (w₀ : Way) (at : ℕ) (k : Counts) (s : State)
     (g : Going bs ins ds goal h depth close w₀ (way_at at k s Course.Passing)) (r : Command) (is : r ≡ command_at bs at) (c : Simple) (q : r ≡ Command.Simple c)
     (o : Operands) (p : o ≡ operands_of c) (t : Reached) (by : t ≡ reached_by bs h goal k (value s o.i) (touches c)) where
   abbrev TellsOf : Reached → Type 0
@@ -62,7 +65,7 @@ module _ (bs ins ds : List ℕ) (goal : Goal) (h : Header) (depth close : ℕ) (
   told u e = subst TellsOf (sym (by ∙ ap (λ (x : Operands). reached_by bs h goal k (value s x.i) (touches c)) p) ∙ e) (tells bs ins goal h k s c)
 
   -- the run goes on, and a variable took a value
-  pub goes_on : t ≡ Reached.Goes → is_over s.outcome ≡ false → (n : ℕ) (k₁ : Counts) (x : ℕ) → n ≡ simple_size c → k₁ ≡ counts_after c k
+  pub goes_on : t ≡ Reached.Goes → is_some s.stop ≡ false → (n : ℕ) (k₁ : Counts) (x : ℕ) → n ≡ simple_size c → k₁ ≡ counts_after c k
       → x ≡ value_after bs ins h c k (value s o.a) (value s o.b) → Going bs ins ds goal h depth close w₀ (way_at (at + n) k₁ (assigned s o.d x) Course.Passing)
   goes_on e f n k₁ x en ek ex =
       let u = told Reached.Goes e in
@@ -87,17 +90,17 @@ module _ (bs ins ds : List ℕ) (goal : Goal) (h : Header) (depth close : ℕ) (
   stops index side e n en y ey =
       let u = told (Reached.Stops index side) e in
       let m : y ≡ stop s (accesses k) index side = ey ∙ ap (λ (x : ℕ). stop s x index side) en in
-      let d : is_over y.outcome ≡ true = ap (λ (x : State). is_over x.outcome) m in
+      let d : is_some y.stop ≡ true = ap (λ (x : State). is_some x.stop) m in
       ended (way_at (at + simple_size c) (counts_after c k) y Course.Passing) y Course.Passing
       (step_is bs ins goal h c at k s (simple_size c) (counts_after c k) y Course.Passing refl refl (m ∙ sym u.1) (sym u.0)) d d refl refl
 
   -- an access is the goal
-  pub arrives : (array : ℕ) (index : Whole) → t ≡ Reached.Arrives array index
-      → FollowsArm bs ins ds goal h depth close w₀ (way_at at k s (Course.Arrived array index))
-  arrives array index e =
-      let v : Way = way_at (at + simple_size c) (counts_after c k) (executed bs ins h c k s) (Course.Arrived array index) in
+  pub arrives : (there : Landing) → t ≡ Reached.Arrives there
+      → FollowsArm bs ins ds goal h depth close w₀ (way_at at k s (Course.Arrived there))
+  arrives there e =
+      let v : Way = way_at (at + simple_size c) (counts_after c k) (executed bs ins h c k s) (Course.Arrived there) in
       let z = step-done bs ins ds goal h depth close w₀ (way_at at k s Course.Passing) g r is c q v
-      (step_is bs ins goal h c at k s (simple_size c) (counts_after c k) (executed bs ins h c k s) (Course.Arrived array index) refl refl refl (sym (told (Reached.Arrives array index) e))) refl in
+      (step_is bs ins goal h c at k s (simple_size c) (counts_after c k) (executed bs ins h c k s) (Course.Arrived there) refl refl refl (sym (told (Reached.Arrives there) e))) refl in
       record {
         tells = λ a end k₁ b.
             record { course = (z.tells a end k₁ b).course; state = λ i. absurd (true≢false i); next = λ i. absurd (true≢false i); counts = λ i. absurd (true≢false i) };

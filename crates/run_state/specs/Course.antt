@@ -1,9 +1,11 @@
 -- The course of a run, as far as a named access or to its end: by the decisions, or not.
 use Rattle.std.specs.Prelude.{ℕ, List, [], ◌∷◌, Bool, true, false, cond, not, ◌||◌, ltb, eqb}
 use Rattle.slices.specs.Bytes.{entry}
+use Rattle.bitvec.specs.declared.Whole.{Whole}
 use Rattle.run_state.specs.Run.{Event, took, came}
 use Rattle.run_state.specs.declared.Course.{Course}
 use Rattle.run_state.specs.declared.Goal.{Goal}
+use Rattle.run_state.specs.declared.Landing.{Landing}
 
 -- the arm taken (0 first, 1 else) is by the decision (2 is free)
 abbrev pub follows : (decision arm : ℕ) → Bool
@@ -23,11 +25,15 @@ abbrev pub is_goal : Goal → (number : ℕ) → Bool
 is_goal Goal.End number = false
 is_goal (Goal.Access access before) number = eqb number access
 
+-- where an access lands
+abbrev pub landing : (array : ℕ) → Whole → Landing
+landing array index = record { array = array; index = index }
+
 -- the course as far as the goal, by what the run comes to in order
 unfoldable pub course_to : (ds : List ℕ) → Goal → List Event → Course
 course_to ds goal [] = Course.Passing
 course_to ds goal (took number arm ∷ es) = cond (keeps_to ds goal number arm) (course_to ds goal es) (Course.Astray number)
-course_to ds goal (came number array index ∷ es) = cond (is_goal goal number) (Course.Arrived array index) (course_to ds goal es)
+course_to ds goal (came number array index ∷ es) = cond (is_goal goal number) (Course.Arrived (landing array index)) (course_to ds goal es)
 
 -- the course as far as an access, before which `before` ifs stand
 abbrev pub course : (ds : List ℕ) → (access before : ℕ) → List Event → Course

@@ -1,5 +1,5 @@
 -- The run of a routine: what it comes to, in order, and the state that it leaves.
-use Rattle.std.specs.Prelude.{ℕ, List, [], ◌∷◌, ◌++◌, cond}
+use Rattle.std.specs.Prelude.{ℕ, List, [], ◌∷◌, ◌++◌, cond, Option, None, Some}
 use Rattle.bitvec.specs.declared.Whole.{Whole}
 use Rattle.routine_command.specs.Command.{touches}
 use Rattle.routine_faults.specs.Step.{accesses}
@@ -11,7 +11,7 @@ use Rattle.routine_command.specs.declared.Condition.{Condition}
 use Rattle.routine_command.specs.declared.Simple.{Simple}
 use Rattle.routine_command.specs.declared.Touch.{Touch}
 use Rattle.run_state.specs.State.{initial, with_arm, holds, index_of, executed}
-use Rattle.run_state.specs.declared.Outcome.{Outcome}
+use Rattle.run_state.specs.declared.Stop.{Stop}
 use Rattle.run_state.specs.declared.State.{State}
 
 -- what a run comes to: an if, with the arm taken there (0 first, 1 else); or an access, with its array and its index
@@ -29,13 +29,13 @@ abbrev pub events_then : List Event → Execution → Execution
 events_then es x = record { events = es ++ x.events; state = x.state }
 
 -- goes on from a state, unless the run stopped there
-abbrev pub unless_stopped : Outcome → List Event → State → (State → Execution) → Execution
-unless_stopped Outcome.Going es s go = events_then es (go s)
-unless_stopped (Outcome.Stopped access index side) es s go = record { events = es; state = s }
+abbrev pub unless_stopped : Option Stop → List Event → State → (State → Execution) → Execution
+unless_stopped None es s go = events_then es (go s)
+unless_stopped (Some access) es s go = record { events = es; state = s }
 
 -- goes on after an execution
 abbrev pub run_on : Execution → (State → Execution) → Execution
-run_on x go = unless_stopped x.state.outcome x.events x.state go
+run_on x go = unless_stopped x.state.stop x.events x.state go
 
 -- what a run comes to, by what a command does with an array
 abbrev pub events_by : List ℕ → Touch → Counts → State → List Event

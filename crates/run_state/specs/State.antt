@@ -1,5 +1,7 @@
 -- The state of a run, and how it moves on by one command.
-use Rattle.std.specs.Prelude.{ℕ, zero, suc, List, Bool, cond, set, replicate, leb, eqb}
+use Rattle.routine_command.specs.declared.Conversion.{Conversion}
+use Rattle.routine_command.specs.declared.Operation.{Operation}
+use Rattle.std.specs.Prelude.{ℕ, zero, suc, List, Bool, cond, set, replicate, leb, Option, None, Some}
 use Rattle.slices.specs.Bytes.{entry}
 use Rattle.bitvec.specs.Word.{add, subtract, multiply, quotient, remainder, cut, zero_extend}
 use Rattle.bitvec.specs.Signed.{signed, sign_extend}
@@ -16,8 +18,7 @@ use Rattle.routine_command.specs.declared.Simple.{Simple}
 use Rattle.routine_command.specs.declared.Touch.{Touch}
 use Rattle.run_state.specs.declared.Side.{Side}
 use Rattle.run_state.specs.declared.Side.TheVariants.{Below, Above}
-use Rattle.run_state.specs.declared.Lies.{Lies}
-use Rattle.run_state.specs.declared.Outcome.{Outcome}
+use Rattle.run_state.specs.declared.Stop.{Stop}
 use Rattle.run_state.specs.declared.State.{State}
 
 -- the first n entries of xs, laid over those of ys
@@ -27,7 +28,7 @@ over (suc n) xs ys = set (over n xs ys) n (entry xs n)
 
 -- the beginning: the n variables have their input words, the entries behind them are no variable's, and no if was come to
 unfoldable pub initial : (ins : List ℕ) → (n : ℕ) → State
-initial ins n = record { values = over n ins (replicate 32 0); trail = replicate 32 2; outcome = Outcome.Going }
+initial ins n = record { values = over n ins (replicate 32 0); trail = replicate 32 2; stop = None }
 
 -- the value of a variable
 abbrev pub value : State → ℕ → ℕ
@@ -35,34 +36,34 @@ value s v = entry s.values v
 
 -- the state with another value for a variable
 abbrev pub assigned : State → ℕ → ℕ → State
-assigned s v x = record { values = set s.values v x; trail = s.trail; outcome = s.outcome }
+assigned s v x = record { values = set s.values v x; trail = s.trail; stop = s.stop }
 
 -- the state after an arm was taken at an if: 0 first arm, 1 else
 abbrev pub with_arm : State → (number arm : ℕ) → State
-with_arm s number arm = record { values = s.values; trail = set s.trail number arm; outcome = s.outcome }
+with_arm s number arm = record { values = s.values; trail = set s.trail number arm; stop = s.stop }
+
+-- the access that stopped a run
+abbrev pub stop_at : (access : ℕ) → Whole → Side → Stop
+stop_at access index side = record { access = access; index = index; side = side }
 
 -- the state that an access stopped
 abbrev pub stop : State → (access : ℕ) → Whole → Side → State
-stop s access index side = record { values = s.values; trail = s.trail; outcome = Outcome.Stopped access index side }
+stop s access index side = record { values = s.values; trail = s.trail; stop = Some (stop_at access index side) }
 
--- 0x02 copy, 0x06 cut, 0x07 zero-extend, 0x08 sign-extend: from w bits to v bits
-unfoldable pub converted : (op v w a : ℕ) → ℕ
-converted op v w a =
-    cond (eqb op 0x02) a
-    (cond (eqb op 0x06) (cut v a)
-    (cond (eqb op 0x07) (zero_extend a)
-    (cond (eqb op 0x08) (sign_extend v w a)
-    0)))
+-- a copy, cut, extended by zeros or by the sign: from w bits to v bits
+unfoldable pub converted : Conversion → (v w a : ℕ) → ℕ
+converted Conversion.Copy v w a = a
+converted Conversion.Cut v w a = cut v a
+converted Conversion.ZeroExtend v w a = zero_extend a
+converted Conversion.SignExtend v w a = sign_extend v w a
 
--- 0x03 add, 0x04 subtract, 0x05 multiply, 0x0E quotient, 0x0F remainder
-unfoldable pub computed : (op w a b : ℕ) → ℕ
-computed op w a b =
-    cond (eqb op 0x03) (add w a b)
-    (cond (eqb op 0x04) (subtract w a b)
-    (cond (eqb op 0x05) (multiply w a b)
-    (cond (eqb op 0x0E) (quotient w a b)
-    (cond (eqb op 0x0F) (remainder w a b)
-    0))))
+-- the sum, the difference, the product, the quotient or the remainder
+unfoldable pub computed : Operation → (w a b : ℕ) → ℕ
+computed Operation.Add w a b = add w a b
+computed Operation.Subtract w a b = subtract w a b
+computed Operation.Multiply w a b = multiply w a b
+computed Operation.Quotient w a b = quotient w a b
+computed Operation.Remainder w a b = remainder w a b
 
 -- the condition of an if holds
 unfoldable pub holds : List ℕ → Condition → State → Bool
@@ -72,15 +73,15 @@ holds bs c s = relates c.relation (width bs c.s) (value s c.s) (value s c.t)
 unfoldable pub index_of : List ℕ → State → (i : ℕ) → Whole
 index_of bs s i = signed (width bs i) (value s i)
 
--- below 0, at or above the size, or inside
-unfoldable pub lies : (size : ℕ) → Whole → Lies
-lies size (Whole.Negative n) = Lies.Outside Below
-lies size (Whole.Natural n) = cond (leb size n) (Lies.Outside Above) Lies.Inside
+-- the side on which an index lies outside: below 0, or at or above the size; none where it lies inside
+unfoldable pub lies : (size : ℕ) → Whole → Option Side
+lies size (Whole.Negative n) = Some Below
+lies size (Whole.Natural n) = cond (leb size n) (Some Above) None
 
 -- an access outside stops the run, and one inside leaves the state `next`
-abbrev pub arrive : State → (access : ℕ) → Whole → Lies → (next : State) → State
-arrive s access index Lies.Inside next = next
-arrive s access index (Lies.Outside side) next = stop s access index side
+abbrev pub arrive : State → (access : ℕ) → Whole → Option Side → (next : State) → State
+arrive s access index None next = next
+arrive s access index (Some side) next = stop s access index side
 
 -- an access, of the number that the counts before it give
 abbrev pub accessed : List ℕ → Header → (array i : ℕ) → Counts → State → (next : State) → State

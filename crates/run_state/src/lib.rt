@@ -10,36 +10,27 @@ use bitvec::Whole;
 use routine_faults::Counts;
 
 // Where an index lies outside its array: below 0, or at or above the size.
-#[derive(Clone, Copy)]
+#[derive(Clone, Copy, PartialEq, Eq)]
 pub enum Side {
     Below,
     Above,
 }
 
-// Where an index lies.
+// The access that stopped a run: its number, its index, and the side on which that lies outside.
 #[derive(Clone, Copy)]
-pub enum Lies {
-    Inside,
-    Outside(Side),
+pub struct Stop {
+    pub access: u32,
+    pub index: Whole,
+    pub side: Side,
 }
 
-// A run is going, or an access stopped it.
-#[derive(Clone, Copy)]
-pub enum Outcome {
-    Going,
-    Stopped {
-        access: u32,
-        index: Whole,
-        side: Side,
-    },
-}
-
-// The state of a run: the variables' values, the arm taken at each if (0 first, 1 else, 2 not come to), and whether it is over.
+// The state of a run: the variables' values, the arm taken at each if (0 first, 1 else, 2 not come to), and the access that stopped it, if one did.
+// Nothing is allocated: a routine has at most 32 variables and 32 ifs.
 #[derive(Clone, Copy)]
 pub struct State {
     pub values: [u32; 32],
     pub trail: [u8; 32],
-    pub outcome: Outcome,
+    pub stop: Option<Stop>,
 }
 
 // The variables of a command that is no if: d takes a value, a and b give theirs, and i holds the index. Variable 0 stands where a command has none; a
@@ -52,11 +43,19 @@ pub struct Operands {
     pub i: u8,
 }
 
-// How far a run is followed: to its end, or as far as the access of a number, before which so many ifs stand.
+// How far a run is followed: to its end, or as far as the access of a number, before which so many ifs stand. An enum of its own, since a
+// `None` would not tell that a run is followed to its end.
 #[derive(Clone, Copy)]
 pub enum Goal {
     End,
     Access { number: u8, before: u8 },
+}
+
+// Where an access lands: the number of the array, and the index in it.
+#[derive(Clone, Copy)]
+pub struct Landing {
+    pub array: u8,
+    pub index: Whole,
 }
 
 // What a run did as far as the goal.
@@ -67,7 +66,7 @@ pub enum Course {
     // it came to no access of that number yet
     Passing,
     // it came to the access
-    Arrived { array: u8, index: Whole },
+    Arrived(Landing),
 }
 
 // What a command is to a run that is followed: the run goes on, an access stops it, or an access is the goal.
@@ -75,7 +74,7 @@ pub enum Course {
 pub enum Reached {
     Goes,
     Stops { index: Whole, side: Side },
-    Arrives { array: u8, index: Whole },
+    Arrives(Landing),
 }
 
 // A run that is followed, at the end of an arm or an if: the offset and the counts there, the state, and the course so far. Where the course is settled

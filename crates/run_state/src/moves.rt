@@ -8,28 +8,28 @@ ghost use Rattle.run_state.specs.Inner.Moves.{operands_of, value_after};
 
 use crate::Operands;
 use bitvec::{signed, word};
-use routine_command::Simple;
+use routine_command::{Conversion, Operation, Simple};
 use routine_faults::Counts;
 use routine_faults::words::input_number;
 use routine_header::{Header, width_of};
 use slices::entry_at;
 
 // The word a of w bits as one of v bits: cut, extended by zeros or by its sign, or copied.
-fn converted_by(op: u8, v: u8, w: u8, a: u32) -> u32
+#[tactic(auto, unfolding(crate::specs::State::converted))]
+fn converted_by(op: Conversion, v: u8, w: u8, a: u32) -> u32
     requires { (v ≤ 32) × (1 ≤ w) × (w ≤ 32) }
     ensures { result ≡ converted op v w a }
 {
     match op {
-        0x02 => a,
-        0x06 => word::cut_to(v, a),
-        0x07 => word::zero_extended(a),
-        0x08 => signed::sign_extended(v, w, a),
-        _ => 0,
+        Conversion::Copy => a,
+        Conversion::Cut => word::cut_to(v, a),
+        Conversion::ZeroExtend => word::zero_extended(a),
+        Conversion::SignExtend => signed::sign_extended(v, w, a),
     }
 }
 
 // The value of variable s as it goes into variable d.
-fn converted_in(bytes: &[u8], op: u8, d: u8, s: u8, a: u32) -> u32
+fn converted_in(bytes: &[u8], op: Conversion, d: u8, s: u8, a: u32) -> u32
     requires { (width bytes.now d ≤ 32) × (1 ≤ width bytes.now s) × (width bytes.now s ≤ 32) }
     ensures { result ≡ converted op (width bytes.now d) (width bytes.now s) a }
 {
@@ -37,17 +37,17 @@ fn converted_in(bytes: &[u8], op: u8, d: u8, s: u8, a: u32) -> u32
 }
 
 // The sum, the difference, the product, the quotient or the remainder.
-fn computed_by(op: u8, w: u8, a: u32, b: u32) -> u32
+#[tactic(auto, unfolding(crate::specs::State::computed))]
+fn computed_by(op: Operation, w: u8, a: u32, b: u32) -> u32
     requires { w ≤ 32 }
     ensures { result ≡ computed op w a b }
 {
     match op {
-        0x03 => word::add(w, a, b),
-        0x04 => word::subtract(w, a, b),
-        0x05 => word::multiply(w, a, b),
-        0x0E => word::quotient(w, a, b),
-        0x0F => word::remainder(w, a, b),
-        _ => 0,
+        Operation::Add => word::add(w, a, b),
+        Operation::Subtract => word::subtract(w, a, b),
+        Operation::Multiply => word::multiply(w, a, b),
+        Operation::Quotient => word::quotient(w, a, b),
+        Operation::Remainder => word::remainder(w, a, b),
     }
 }
 

@@ -11,6 +11,7 @@ use routine::seeking::ifs_before;
 use routine_header::Header;
 
 // The state that the run of a whole routine leaves. No decision matters to it.
+#[tactic(auto, using(crate::proofs::Laws::course_end))]
 pub fn run_to_end(routine: &[u8], inputs: &[u32], h: Header) -> State
     requires { IsRoutine routine.now h }
     ensures { result ≡ (run_of routine.now inputs.now h (commands_in routine.now)).state }

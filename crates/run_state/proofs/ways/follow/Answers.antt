@@ -1,5 +1,5 @@
 use native.Mathlib.Omega.{arith}
-use Rattle.run_state.proofs.Wholes.{header_fine, commands_stand, begun-going, followed_whole}
+use Rattle.run_state.proofs.Wholes.{header_fine, commands_stand, begun_going}
 use Rattle.run_state.proofs.ways.follow.Goals as goal
 
 -- The run of a whole routine, followed from its first command. Assumes nothing.
@@ -8,8 +8,4 @@ initial-begun-requires c = let f = header_fine _ _ c.requires in omega (arith, c
 
 pub follow_arm-requires : goal.follow_arm-requires
 follow_arm-requires c =
-    rw c.no_counts-nothing_yet.ensures (commands_stand _ _ c.requires _ c.first_command-first.ensures, header_fine _ _ c.requires, begun-going _ _ _ c.initial-begun.ensures)
-
-pub returns : goal.returns
-returns c = let w = (followed_whole _ _ c.requires _ _ _ _ _ _ c.first_command-first.ensures (rw c.given_of.ensures at c.initial-begun.ensures)
-    (rw c.no_counts-nothing_yet.ensures at c.follow_arm.ensures)) in record { course_value = w.0; state_value = w.1 }
+    rw c.no_counts-nothing_yet.ensures (commands_stand _ _ c.requires _ c.first_command-first.ensures, header_fine _ _ c.requires, begun_going _ _ _ c.initial-begun.ensures)
