@@ -32,13 +32,11 @@ pub fn write_choice(
     let mut i = at;
     let mut k = start;
     let mut g = first;
-    let mut j = 0;
-    while j < a.len() {
+    for j in 0..a.len() {
         mux_gate(words, starts, i, k, g, c, a[j], b[j]);
         i += 16;
         k += 4;
         g += 1;
-        j += 1;
     }
 }
 

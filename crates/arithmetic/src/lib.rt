@@ -10,7 +10,7 @@ pub mod sums;
 
 use netlist::Net;
 
-// The places of an array of bits: one more than the widest number has.
+// The places of an array of bits: one more than the widest number has. Nothing is allocated, so that its length stands beside it where less is used.
 pub const PLACES: usize = 33;
 
 // What a circuit makes of numbers: the state, and the bits of a result.

@@ -84,14 +84,12 @@ fn write_equal(
     let mut k = start;
     let mut g = first;
     let mut e = 2;
-    let mut j = 0;
-    while j < a.len() {
+    for j in 0..a.len() {
         write_same(words, starts, i, k, g, a[j], b[j], e);
         e = 2 * g + 2;
         i += 26;
         k += 7;
         g += 2;
-        j += 1;
     }
 }
 

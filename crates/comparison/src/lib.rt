@@ -25,6 +25,7 @@ pub fn turned(t: Test) -> Test
 }
 
 // Relation number rel, from 0 to 9: =, ≠, <u, ≤u, >u, ≥u, <s, ≤s, >s, ≥s. No other holds.
+// A number and no enum, and one match by it, as in the relations of words: the definition speaks of every number.
 pub fn relation(
     words: &mut [u32],
     starts: &mut [u32],

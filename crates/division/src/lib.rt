@@ -67,15 +67,13 @@ fn write_division(
     let mut i = at;
     let mut k = start;
     let mut g = first;
-    let mut j = 0;
-    while j < s.len() {
-        up[0] = s[s.len() - 1 - j];
+    for j in (0..s.len()).rev() {
+        up[0] = s[j];
         write_step(words, starts, i, k, g, &up[..v], &divisor[..v]);
         up = rising(2 * (g + 3 * size), 2, 1);
         i += 72 * size;
         k += 18 * size;
         g += 4 * size;
-        j += 1;
     }
 }
 
@@ -107,11 +105,9 @@ pub fn quotient_bits(g: u32, w: usize) -> [u32; PLACES]
     let mut r = [3u32; PLACES];
     let step = 8 * (w as u32 + 1);
     let mut x = 2 * (g + 3 * w as u32 + 2);
-    let mut j = 0;
-    while j < w {
-        r[w - 1 - j] = x;
+    for j in (0..w).rev() {
+        r[j] = x;
         x += step;
-        j += 1;
     }
     r
 }

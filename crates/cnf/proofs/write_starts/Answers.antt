@@ -1,25 +1,23 @@
-use mathlib.Core.Path.{◌∙◌, ◌≡◌, refl}
-use Prim.Native.Nat.{◌+◌, ◌-◌}
-use native.Mathlib.Nat.{add-zero, sub-zero}
-use native.Mathlib.Omega.{arith}
-use lib.ListN.{length-set}
-use borrow.Author.Rules.{rules}
-use Rattle.cnf.proofs.Appending.{spaced-turn}
+use Rattle.std.proofs.Common.{◌∙◌, ◌≡◌, ◌++◌, ◌+◌, ◌-◌, ◌∷◌, [], add-one, ap, arith, refl, rules, set, sym, take}
+use Rattle.std.proofs.Math.Seq.{take_all, take-suc-set}
+use Rattle.cnf.proofs.Appending.{length-spaced, put_sets, spaced-more}
 use Rattle.cnf.specs.Inner.Append.{spaced}
 use Rattle.cnf.proofs.write_starts.Goals as goal
 
-pub loop-j-init : goal.loop-j-init
-loop-j-init c = (search rules, search rules, refl, rw (add-zero, sub-zero))
+pub loop-start-init : goal.loop-start-init
+unfolding spaced
+loop-start-init c = (search rules, refl)
 
-pub loop-j-preserved : goal.loop-j-preserved
-loop-j-preserved c =
-    (search rules, search rules, length-set c.loop-j.starts (c.args.k + c.loop-j.j) c.loop-j.x ∙ c.loop-j.invariant.2, spaced-turn c.loop-j.starts _ c.loop-j.x c.loop-j.j _ (omega arith) ∙ c.loop-j.invariant.3)
-
-pub shape_of-starts : goal.shape_of-starts
-shape_of-starts c = c.loop-j.invariant.2
+pub loop-start-preserved : goal.loop-start-preserved
+loop-start-preserved c =
+    let e : take (c.loop-start.start-index + 1) (set c.loop-start.start-items c.loop-start.start-index c.loop-start.x) ≡ take c.loop-start.start-index c.loop-start.start-items ++ c.loop-start.x ∷ [] =
+    rw add-one (take-suc-set c.loop-start.start-items c.loop-start.start-index c.loop-start.x (omega arith)) in
+    (omega arith, e ∙ (λ i. c.loop-start.invariant.1 i ++ c.loop-start.invariant.0 i ∷ []) ∙ sym (spaced-more c.args.at c.loop-start.start-index))
 
 pub returns : goal.returns
-unfolding spaced
 returns c =
-    let e : c.args.n - c.loop-j.j ≡ 0 = omega arith in
-    rw e at c.loop-j.invariant.3
+    let n = length-spaced c.args.at c.args.n in
+    let e : c.loop-start.start-index ≡ c.args.n = omega arith in
+    put_sets c.args.starts.now c.args.k (c.args.k + c.args.n - c.args.k) c.loop-start.start-items (spaced c.args.at c.args.n)
+    (sym (take_all c.loop-start.start-index c.loop-start.start-items (omega arith)) ∙ c.loop-start.invariant.1 ∙ ap (spaced c.args.at) e)
+    (omega arith) (omega arith)

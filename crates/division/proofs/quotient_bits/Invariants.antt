@@ -1,5 +1,5 @@
 use mathlib.Core.Path.{◌≡◌}
-use Prim.Native.Nat.{◌*◌, ◌+◌, ◌-◌, ◌≤◌, suc}
+use Prim.Native.Nat.{◌*◌, ◌+◌, ◌-◌, suc}
 use Rattle.arithmetic.proofs.Laws.{upper}
 use Rattle.arithmetic.specs.Bits.{places, tabulate}
 use Rattle.division.specs.Division.{quotient_bit, step_start}
@@ -8,7 +8,4 @@ use Rattle.division.proofs.quotient_bits.Given as goal
 
 abbrev pub invariant-loop-j : goal.invariant-loop-j
 invariant-loop-j l =
-    (l.j ≤ l.w) × (l.r ≡ tabulate (upper (extend (quotient_bit l.g l.w) l.w 3) (l.w - l.j)) places) × (l.x ≡ 2 * (step_start l.g (suc l.w) l.j + 3 * l.w + 2))
-
-abbrev pub decreases-loop-j : goal.decreases-loop-j
-decreases-loop-j l = l.w - l.j
+    (l.r ≡ tabulate (upper (extend (quotient_bit l.g l.w) l.w 3) l.j) places) × (l.x ≡ 2 * (step_start l.g (suc l.w) (l.w - l.j) + 3 * l.w + 2))

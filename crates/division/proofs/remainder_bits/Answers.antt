@@ -13,14 +13,5 @@ below w h = steps-within (4 * suc w) (w - 1) w (omega arith)
 pub overflow_mul-size-2 : goal.overflow_mul-size-2
 overflow_mul-size-2 c = omega (arith, below c.args.w c.requires.1, c.requires.0)
 
-pub overflow_add-g : goal.overflow_add-g
-overflow_add-g c = omega (arith, below c.args.w c.requires.1, c.requires.0)
-
-pub overflow_add-g-2 : goal.overflow_add-g-2
-overflow_add-g-2 c = omega (arith, below c.args.w c.requires.1, c.requires.0)
-
-pub input_bits-requires : goal.input_bits-requires
-input_bits-requires c = omega (arith, below c.args.w c.requires.1, c.requires.0)
-
 pub returns : goal.returns
 returns c = c.input_bits.ensures ∙ tabulate_cong _ _ places (λ j. last_chosen c.args.g c.args.w j c.requires.1)

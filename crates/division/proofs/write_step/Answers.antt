@@ -1,21 +1,11 @@
-use mathlib.Core.Path.{◌≡◌, refl, sym}
+use mathlib.Core.Path.{◌≡◌, refl}
 use native.Mathlib.Omega.{arith}
 use lib.ListN.{length, take}
-use Rattle.cnf.proofs.Appending.{lent-kept, lent-within}
 use Rattle.arithmetic.proofs.Adder.{last_carry}
 use Rattle.division.proofs.Division.{step-written}
 use Rattle.arithmetic.proofs.Laws.{sized-bits, sized-length}
 use Rattle.arithmetic.specs.Bits.{lit_at}
 use Rattle.division.proofs.write_step.Goals as goal
-
-pub slice_bounds-write_choice-end : goal.slice_bounds-write_choice-end
-slice_bounds-write_choice-end c = sym (sized-length _ c.sum_bits-difference.ensures (length c.args.r.now) (omega arith))
-
-pub write_choice-requires : goal.write_choice-requires
-write_choice-requires c =
-    let v = length c.args.r.now in
-    let x : length (take v c.sum_bits-difference.result) ≡ v = sized-length _ c.sum_bits-difference.ensures v (omega arith) in
-    simp x (record { lent = lent-kept c.write_sum.ensures (lent-within c.requires.lent (omega arith) (omega arith)); a_bound = omega arith; b_len = refl })
 
 pub returns : goal.returns
 returns c =

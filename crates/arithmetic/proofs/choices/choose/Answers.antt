@@ -1,13 +1,7 @@
 use mathlib.Core.Path.{◌∙◌, sym}
-use native.Mathlib.Omega.{arith}
-use lib.ListN.{length}
-use Rattle.cnf.proofs.Appending.{lent_of}
-use Rattle.netlist.proofs.Emitting.{emitted_counted, emitted-written, ready-clauses}
+use Rattle.netlist.proofs.Emitting.{emitted_counted, emitted-written}
 use Rattle.arithmetic.proofs.Choose.{chooser-sized}
 use Rattle.arithmetic.proofs.choices.choose.Goals as goal
-
-pub write_choice-requires : goal.write_choice-requires
-write_choice-requires c = record { lent = lent_of _ _ _ _ (ready-clauses (length c.args.a.now) c.requires.ready (omega arith) (omega arith)) (sym c.fits.ensures ∙ c.if-fits.true); a_bound = c.requires.ready.next; b_len = c.requires.b_len }
 
 pub returns-then-fits : goal.returns-then-fits
 returns-then-fits c = record {

@@ -1,13 +1,7 @@
-use Rattle.arithmetic.specs.Bits.{places}
-use mathlib.Core.Path.{◌≡◌}
-use Prim.Native.Nat.{ℕ, ◌≤◌, ◌<◌, ◌-◌, ◌/◌, ◌^◌}
-use lib.ListN.{length, get_or}
+use Rattle.std.proofs.Common.{◌≡◌, ◌<◌, ◌/◌, ◌^◌, ℕ, get_or}
 use Rattle.arithmetic.specs.Extend.{const_bit}
 use Rattle.arithmetic.proofs.constants.const_bits.Given as goal
 
-abbrev pub invariant-loop-j : goal.invariant-loop-j
-invariant-loop-j l =
-    (l.j ≤ places) × (l.x ≡ l.c / 2 ^ l.j) × (length l.r ≡ places) × ((i : ℕ) → i < l.j → get_or l.r i 0 ≡ const_bit l.c i)
-
-abbrev pub decreases-loop-j : goal.decreases-loop-j
-decreases-loop-j l = places - l.j
+abbrev pub invariant-loop-bit : goal.invariant-loop-bit
+invariant-loop-bit l =
+    (l.x ≡ l.c / 2 ^ l.bit-index) × ((i : ℕ) → i < l.bit-index → get_or l.bit-items i 0 ≡ const_bit l.c i)

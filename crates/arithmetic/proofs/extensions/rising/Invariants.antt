@@ -1,13 +1,6 @@
-use mathlib.Core.Path.{◌≡◌}
-use Prim.Native.Nat.{ℕ, ◌*◌, ◌+◌, ◌-◌, ◌<◌, ◌≤◌}
-use lib.ListN.{get_or, length}
-use Rattle.arithmetic.specs.Bits.{places}
-use Rattle.arithmetic.specs.Extend.{rising_bit}
+use Rattle.std.proofs.Common.{◌≡◌, ◌<◌, ◌*◌, ◌+◌, ℕ, get_or}
 use Rattle.arithmetic.proofs.extensions.rising.Given as goal
 
-abbrev pub invariant-loop-j : goal.invariant-loop-j
-invariant-loop-j l =
-    (l.k ≤ l.j) × (l.j ≤ places) × (l.x ≡ l.l + l.d * (l.j - l.k)) × (l.x ≤ l.l + 6 * l.j) × (length l.r ≡ places) × ((i : ℕ) → i < l.j → get_or l.r i 0 ≡ rising_bit l.l l.d l.k i)
-
-abbrev pub decreases-loop-j : goal.decreases-loop-j
-decreases-loop-j l = places - l.j
+abbrev pub invariant-loop-bit : goal.invariant-loop-bit
+invariant-loop-bit l =
+    (l.x ≡ l.l + l.d * l.bit-index) × ((i : ℕ) → i < l.bit-index → get_or l.bit-items i 0 ≡ l.l + l.d * i)

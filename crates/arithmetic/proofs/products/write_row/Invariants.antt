@@ -1,5 +1,5 @@
 use mathlib.Core.Path.{◌≡◌}
-use Prim.Native.Nat.{◌*◌, ◌+◌, ◌-◌, ◌≤◌}
+use Prim.Native.Nat.{◌*◌, ◌+◌}
 use Rattle.cnf.specs.Inner.Append.{Written}
 use Rattle.netlist.specs.Node.{netlist_clauses}
 use Rattle.arithmetic.specs.Bits.{lit_at}
@@ -8,8 +8,5 @@ use Rattle.arithmetic.proofs.products.write_row.Given as goal
 
 abbrev pub invariant-loop-j : goal.invariant-loop-j
 invariant-loop-j l =
-    (l.j ≤ l.m) × Written l.initial.words l.initial.starts l.at l.start (netlist_clauses l.first (row (lit_at l.s) l.t l.j)) l.words l.starts
+    Written l.initial.words l.initial.starts l.at l.start (netlist_clauses l.first (row (lit_at l.s) l.t l.j)) l.words l.starts
     × (l.i ≡ l.at + 10 * l.j) × (l.k ≡ l.start + 3 * l.j) × (l.g ≡ l.first + l.j)
-
-abbrev pub decreases-loop-j : goal.decreases-loop-j
-decreases-loop-j l = l.m - l.j

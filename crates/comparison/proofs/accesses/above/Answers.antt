@@ -1,8 +1,8 @@
-use mathlib.Core.Path.{ap, refl, sym}
+use mathlib.Core.Path.{ap, refl}
 use native.Mathlib.Omega.{arith}
 use lib.ListN.{length, take}
 use borrow.Author.Tests.{le-ltb, lt-ltb}
-use Rattle.arithmetic.proofs.Laws.{sized-bits, sized-length}
+use Rattle.arithmetic.proofs.Laws.{sized-bits}
 use Rattle.arithmetic.specs.Bits.{lit_at}
 use Rattle.arithmetic.specs.Circuit.{opposite}
 use Rattle.arithmetic.specs.Extend.{const_bit}
@@ -12,12 +12,6 @@ use Rattle.comparison.proofs.accesses.above.Goals as goal
 
 pub returns-then-high-gt0 : goal.returns-then-high-gt0
 returns-then-high-gt0 c = simp (lt-ltb _ _ c.if-high-gt0.true) (record { emitted = emitted-none _ _ _; lit = refl })
-
-pub slice_bounds-at_least_signed-end : goal.slice_bounds-at_least_signed-end
-slice_bounds-at_least_signed-end c = sym (sized-length _ c.const_bits-bits.ensures _ (omega (arith, c.requires.index_nonzero)))
-
-pub at_least_signed-requires : goal.at_least_signed-requires
-at_least_signed-requires c = record { ready = c.requires.ready; b_len = sized-length _ c.const_bits-bits.ensures _ (omega (arith, c.requires.index_nonzero)); a_nonzero = (c.requires.index_nonzero.0, omega (arith, c.requires.index_nonzero)) }
 
 pub returns : goal.returns
 returns c =

@@ -8,4 +8,4 @@ pub returns : goal.returns
 unfolding netlist_clauses node_clauses
 returns c =
     rw (← c.opposite-na.ensures, ← c.opposite-nb.ensures, ← c.opposite-nc.ensures)
-    (written_threes 4 (worded_then (worded_then (worded_then c.words3.ensures c.words3-2.ensures (omega arith)) c.words3-3.ensures (omega arith)) c.words3-4.ensures (omega arith)) c.write_starts.ensures refl refl)
+    (written_threes 4 (worded_then (worded_then (worded_then c.clause_words.ensures c.clause_words-2.ensures (omega arith)) c.clause_words-3.ensures (omega arith)) c.clause_words-4.ensures (omega arith)) c.write_starts.ensures refl refl)
