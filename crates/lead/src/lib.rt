@@ -1,18 +1,16 @@
 // The lead of a claim: an access, a side and a decision for each if. Whether a routine has such a claim: 1 to 8, then 11 and 12.
 #![tactic(auto)]
 
-ghost use Rattle.std.specs.Prelude.{◌≡◌};
-ghost use Rattle.lead.specs.Lead.{first_odd, admitted_lead};
+ghost use Rattle.std.specs.Prelude.{◌≡◌, nat_lt, position};
+ghost use Rattle.lead.specs.Lead.{admitted_lead};
 ghost use Rattle.lead.specs.Inner.Admitted.{claim_admitted};
 
-use routine::Checked;
 use routine_faults::Counts;
 use routine_faults::steps::accesses_of;
 use routine_header::Header;
-use slices::wide;
 
-// What a claim names: an access, and a side (0 below, 1 above).
-#[derive(Clone, Copy)]
+// What a claim names: an access, and a side (0 below, 1 above). Numbers, as C and the bytes of a report give them: what is out of range is refused by 12.
+#[derive(Clone, Copy, PartialEq, Eq)]
 pub struct Target {
     pub access: u8,
     pub side: u8,
@@ -28,65 +26,39 @@ pub enum Refusal {
     OutOfRange(usize),
 }
 
-// What 11 and 12 say of a lead.
-#[derive(Clone, Copy)]
-pub enum AdmittedLead {
-    Refused(Refusal),
-    Passes,
-}
-
-// Whether there is such a claim.
-#[derive(Clone, Copy)]
-pub enum AdmittedClaim {
-    Refused(Refusal),
-    Translates(Header),
-}
-
-// The number of the first decision above 2, or how many there are.
-fn odd_decision(decisions: &[u8]) -> usize
-    ensures { result ≡ first_odd decisions.now }
+// The number of the first decision above 2, if there is one.
+fn odd_decision(decisions: &[u8]) -> Option<usize>
+    ensures { result ≡ position (λ d. nat_lt 2 d) decisions.now }
 {
-    let mut i: usize = 0;
-    let mut left = decisions.len();
-    while 0 < left {
-        if 2 < decisions[i] {
-            return i;
-        }
-        i += 1;
-        left -= 1;
-    }
-    i
+    decisions.iter().position(|d| 2 < *d)
 }
 
 // 11, then 12, for a routine with these counts.
-pub fn admit_lead(k: Counts, t: Target, decisions: &[u8]) -> AdmittedLead
+#[tactic(auto, using(crate::proofs::Leads::odd_at, crate::proofs::Leads::none_odd), unfolding(crate::specs::Lead::admitted_lead))]
+pub fn admit_lead(k: Counts, t: Target, decisions: &[u8]) -> Result<(), Refusal>
     ensures { result ≡ admitted_lead t decisions.now k }
 {
-    if decisions.len() != k.ifs as usize {
-        return AdmittedLead::Refused(Refusal::DecisionCount(decisions.len()));
+    if decisions.len() != usize::from(k.ifs) {
+        return Err(Refusal::DecisionCount(decisions.len()));
     }
-    if accesses_of(k) <= wide(t.access) {
-        return AdmittedLead::Refused(Refusal::OutOfRange(0));
+    if accesses_of(k) <= u32::from(t.access) {
+        return Err(Refusal::OutOfRange(0));
     }
     if 1 < t.side {
-        return AdmittedLead::Refused(Refusal::OutOfRange(1));
+        return Err(Refusal::OutOfRange(1));
     }
-    let odd = odd_decision(decisions);
-    if odd != decisions.len() {
-        return AdmittedLead::Refused(Refusal::OutOfRange(2 + odd));
+    match odd_decision(decisions) {
+        Some(odd) => Err(Refusal::OutOfRange(2 + odd)),
+        None => Ok(()),
     }
-    AdmittedLead::Passes
 }
 
 // Whether there is a claim to translate.
-pub fn admit(routine: &[u8], t: Target, decisions: &[u8]) -> AdmittedClaim
+#[tactic(auto, using(crate::proofs::Leads::no_routine, crate::proofs::Leads::lead_refused, crate::proofs::Leads::lead_passes))]
+pub fn admit(routine: &[u8], t: Target, decisions: &[u8]) -> Result<Header, Refusal>
     ensures { result ≡ claim_admitted routine.now t decisions.now }
 {
-    match routine::check(routine) {
-        Checked::Refused(refusal) => AdmittedClaim::Refused(Refusal::Routine(refusal)),
-        Checked::Accepted { header, counts } => match admit_lead(counts, t, decisions) {
-            AdmittedLead::Refused(refusal) => AdmittedClaim::Refused(refusal),
-            AdmittedLead::Passes => AdmittedClaim::Translates(header),
-        },
-    }
+    let accepted = routine::check(routine).map_err(Refusal::Routine)?;
+    admit_lead(accepted.counts, t, decisions)?;
+    Ok(accepted.header)
 }
