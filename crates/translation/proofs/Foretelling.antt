@@ -1,4 +1,5 @@
 -- What `space` tells decides what a translation answers. Assumes nothing.
+use Rattle.std.specs.Prelude.{Result, Ok, Err}
 use mathlib.Core.Path.{◌≡◌, refl, ap, ◌∙◌}
 use mathlib.Core.List.{List}
 use mathlib.Core.Bool.{Bool, true, false, cond, not, ◌||◌}
@@ -8,15 +9,20 @@ use lib.ListN.{length}
 use lib.Dec.{ltb, leb}
 use borrow.Author.Tests.{ltb-true, ltb-false, le-leb, lt-leb}
 use Rattle.slices.specs.Lent.{usable}
+use Rattle.routine_header.specs.declared.Header.{Header}
+use Rattle.lead.specs.Inner.Admitted.{claim_admitted}
+use Rattle.lead.specs.declared.Refusal as lead
 use Rattle.lead.specs.Lead.{ClaimAdmission, refused, translates, claim_admission}
 use Rattle.lead.specs.declared.Target.{Target}
 use Rattle.translation_command.specs.Command.{Encoding}
 use Rattle.translation_meaning.specs.Translation.{translation_of, translation_size}
 use Rattle.translation_space.specs.Space.{space_answer_by, space_answer}
-use Rattle.translation_space.specs.declared.Spaced.{Spaced}
 use Rattle.translation.specs.Answer.{TranslationAnswer, fitted, translation_answer_by, translation_answer, TranslationAnswers}
+use Rattle.translation_meaning.specs.declared.Size.{Size}
+use Rattle.translation.specs.declared.Refusal.{Refusal}
+use Rattle.translation.specs.Inner.Fitted.{Fitted}
 use Rattle.translation.specs.Foretold.{too_small, foretold_by, Foretold}
-use Rattle.translation.specs.declared.Translated.{Translated}
+use Rattle.translation.proofs.Admitting.{refuses, fits}
 
 -- what is used of a buffer does not suffice exactly when it is too small
 small_is : (lent : List ℕ) (n : ℕ) → too_small lent n ≡ not (leb n (usable lent))
@@ -38,7 +44,7 @@ chosen true true a b c = refl
 chosen true false a b c = refl
 chosen false q a b c = refl
 
-fits_as_told : (words starts : List ℕ) (x : Encoding) → (fitted words starts x).translated ≡ foretold_by words starts (Spaced.Told (translation_size x))
+fits_as_told : (words starts : List ℕ) (x : Encoding) → (fitted words starts x).translated ≡ foretold_by words starts (Ok (translation_size x))
 fits_as_told words starts x =
     rw (small_is words (translation_size x).words, small_is starts (translation_size x).clauses)
     (chosen (leb (translation_size x).words (usable words)) (leb (translation_size x).clauses (usable starts)) _ _ _)
@@ -49,6 +55,15 @@ module _ (bs : List ℕ) (t : Target) (ds words starts : List ℕ) where
   as_told_by (translates h a k) = fits_as_told words starts (translation_of bs t ds h a)
 
   -- whatever a translation answers was foretold
-  pub foretold : {words₁ starts₁ : List ℕ} {r : Translated} → TranslationAnswers bs t ds words starts words₁ starts₁ r → Foretold bs t ds words starts r
+  foretold : {words₁ starts₁ : List ℕ} {r : Result Size Refusal} → TranslationAnswers bs t ds words starts words₁ starts₁ r → Foretold bs t ds words starts r
   unfolding translation_answer space_answer
   foretold x = record { equal = ap (λ (y : TranslationAnswer). y.translated) x.equal ∙ as_told_by (claim_admission bs t ds) }
+
+  -- a refusal of the claim
+  pub refusal_foretold : (refusal : lead.Refusal) → claim_admitted bs t ds ≡ Err refusal → Foretold bs t ds words starts (Err (Refusal.Lead refusal))
+  refusal_foretold refusal e = foretold (refuses bs t ds words starts refusal e)
+
+  -- what fits in the buffers, and what does not
+  pub fit_foretold : (h : Header) → claim_admitted bs t ds ≡ Ok h → (x : Result Size Refusal) (words₁ starts₁ : List ℕ)
+      → Fitted bs h t ds words starts words₁ starts₁ x → Foretold bs t ds words starts x
+  fit_foretold h e x words₁ starts₁ f = foretold (fits bs t ds words starts h e x words₁ starts₁ f)

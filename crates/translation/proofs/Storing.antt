@@ -1,4 +1,5 @@
 -- Counted first, then written: the three answers. Assumes nothing.
+use Rattle.std.specs.Prelude.{Ok, Err}
 use mathlib.Core.Path.{◌≡◌, refl, sym, ap, ◌∙◌}
 use mathlib.Core.List.{List, [], ◌∷◌, ◌++◌}
 use Prim.Native.Nat.{ℕ, suc, ◌+◌, ◌≤◌, ◌<◌}
@@ -21,7 +22,6 @@ use Rattle.translation.specs.Inner.Fitted.{Fitted}
 use Rattle.translation.specs.declared.Refusal.{Refusal}
 use Rattle.translation_meaning.specs.declared.Size.{Size}
 use Rattle.lead.specs.declared.Target.{Target}
-use Rattle.translation.specs.declared.Translated.{Translated}
 
 -- ---- an overlay within the first k entries
 
@@ -46,15 +46,15 @@ module _ (bs : List ℕ) (h : Header) (t : Target) (ds words starts : List ℕ) 
   clauses_are : (a : Arm) (k : Counts) → decode bs ≡ routine h a k → need.clauses ≡ (translation_size (translation_of bs t ds h a)).clauses
   clauses_are a k d = ap (λ (s : Size). s.clauses) (n.size a k d)
 
-  pub words-short : w < need.words → Fitted bs h t ds words starts words starts (Translated.Refused (Refusal.TooSmall Buffer.Words))
-  words-short l = record { tells = λ a k d. rw (lt-leb (translation_size (translation_of bs t ds h a)).words (usable words) (omega (arith, words_are a k d))) }
+  pub words_short : w < need.words → Fitted bs h t ds words starts words starts (Err (Refusal.TooSmall Buffer.Words))
+  words_short l = record { tells = λ a k d. rw (lt-leb (translation_size (translation_of bs t ds h a)).words (usable words) (omega (arith, words_are a k d))) }
 
-  pub starts-short : need.words ≤ w → c < need.clauses → Fitted bs h t ds words starts words starts (Translated.Refused (Refusal.TooSmall Buffer.Starts))
-  starts-short l q = record { tells = λ a k d. rw (le-leb (translation_size (translation_of bs t ds h a)).words (usable words) (omega (arith, words_are a k d)), lt-leb (translation_size (translation_of bs t ds h a)).clauses (usable starts) (omega (arith, clauses_are a k d))) }
+  pub starts_short : need.words ≤ w → c < need.clauses → Fitted bs h t ds words starts words starts (Err (Refusal.TooSmall Buffer.Starts))
+  starts_short l q = record { tells = λ a k d. rw (le-leb (translation_size (translation_of bs t ds h a)).words (usable words) (omega (arith, words_are a k d)), lt-leb (translation_size (translation_of bs t ds h a)).clauses (usable starts) (omega (arith, clauses_are a k d))) }
 
   module _ (l : need.words ≤ w) (q : need.clauses ≤ c) (words₁ starts₁ : List ℕ) (made : Size)
       (m : ClaimEncoded bs h t ds (take w words) (take c starts) words₁ starts₁ made) where
-    pub both_fit : Fitted bs h t ds words starts (words₁ ++ drop w words) (starts₁ ++ drop c starts) (Translated.Clauses made)
+    pub both_fit : Fitted bs h t ds words starts (words₁ ++ drop w words) (starts₁ ++ drop c starts) (Ok made)
     both_fit = record {
       tells = λ a k d.
           let x = translation_of bs t ds h a in
@@ -66,5 +66,5 @@ module _ (bs : List ℕ) (h : Header) (t : Target) (ds words starts : List ℕ) 
           let ss : starts₁ ++ drop c starts ≡ sets starts 0 (offsets 0 (clauses_of_all x)) =
           ap (λ (y : List ℕ). y ++ drop c starts) p.starts ∙ sets_part (offsets 0 (clauses_of_all x)) starts c (omega arith) lc in
           rw (le-leb (translation_size (translation_of bs t ds h a)).words (usable words) (omega (arith, words_are a k d)), le-leb (translation_size (translation_of bs t ds h a)).clauses (usable starts) (omega (arith, clauses_are a k d)))
-          (λ j. record { translated = Translated.Clauses (m.size a k d j); words = ww j; starts = ss j });
+          (λ j. record { translated = Ok (m.size a k d j); words = ww j; starts = ss j });
     }

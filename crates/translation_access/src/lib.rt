@@ -35,7 +35,7 @@ pub fn pass_access(
     Test { net: n2, lit }
 }
 
-// The named access: the literal says that the index lies on the side.
+// The named access: the literal says that the index lies on the side. The side is its number, and one match by it: the definition is of every number.
 pub fn claim_access(
     words: &mut [u32],
     starts: &mut [u32],

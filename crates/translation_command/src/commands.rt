@@ -17,11 +17,10 @@ use arithmetic::constants::const_bits;
 use arithmetic::input_words::{input_bits, take_inputs};
 use lead::Target;
 use netlist::Net;
-use routine_command::Simple;
+use routine_command::{Conversion, Operation, Simple};
 use routine_faults::Counts;
 use routine_faults::steps::accesses_of;
 use routine_header::{Header, size_of_array, width_of};
-use slices::wide;
 use translation_access::{claim_access, pass_access};
 use translation_state::literals::{is_made, place_of, store_bits, with_arrival};
 use translation_state::{Claim, Reach};
@@ -38,7 +37,7 @@ fn encode_set(lits: &mut [u32], bytes: &[u8], h: Header, d: u8, c: u32)
 }
 
 // Copy, cut, and the extensions.
-fn encode_convert(lits: &mut [u32], bytes: &[u8], h: Header, op: u8, d: u8, a: u8)
+fn encode_convert(lits: &mut [u32], bytes: &[u8], h: Header, op: Conversion, d: u8, a: u8)
     requires lits_len { length lits.old ≡ all_places h }
     requires sound { Sound bytes.now h (Simple.Convert op d a) × Fine bytes.now h }
     ensures { lits.new ≡ bits_set bytes.now lits.old d (conversion op (bits_in bytes.now lits.old a) (width bytes.now a)) }
@@ -58,7 +57,7 @@ fn encode_compute(
     n: Net,
     bytes: &[u8],
     h: Header,
-    op: u8,
+    op: Operation,
     d: u8,
     a: u8,
     b: u8,
@@ -101,13 +100,13 @@ fn encode_access(
     let from = place_of(i);
     let to = from + width_of(bytes, i) as usize;
     let size = size_of_array(bytes, h, array);
-    if accesses_of(k) == wide(t.access) {
+    if accesses_of(k) == u32::from(t.access) {
         let r = claim_access(words, starts, n, &lits[from..to], size, t.side);
         let net = r.net;
-        let claim = Claim::Made {
+        let claim = Some(Claim {
             arrival,
             side: r.lit,
-        };
+        });
         let reach = Reach { arrival, claim };
         return Encoded { net, reach };
     }

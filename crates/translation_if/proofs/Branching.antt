@@ -1,15 +1,17 @@
 -- The beginning and the end of an if, from what their parts made. Assumes nothing.
+use Rattle.std.proofs.Common.{None}
 use mathlib.Core.Path.{◌≡◌, refl, sym, ap, subst, ◌∙◌}
 use mathlib.Core.List.{List, [], ◌∷◌, ◌++◌}
 use mathlib.Core.Bool.{Bool, true, false, cond}
-use Prim.Native.Nat.{ℕ, zero, suc, ◌+◌, ◌*◌, ◌<◌, ◌≤◌}
+use Prim.Native.Nat.{ℕ, zero, suc, ◌+◌, ◌*◌, ◌-◌, ◌<◌, ◌≤◌}
 use native.Mathlib.Omega.{arith}
 use native.Mathlib.Numerals.{add-one}
-use lib.ListN.{length, take, drop, set, get_or, length-append, length-set}
+use lib.ListN.{length, take, drop, set, get_or, length-append}
 use lib.Seq.{sets, drop-set-lt, get_or-take, get_or-drop}
 use lib.Dec.{eqb}
 use Rattle.routine_header.specs.Header.{width}
-use Rattle.routine_faults.specs.Inner.Sound.{Fine}
+use Rattle.routine_faults.specs.Inner.Sound.{SoundIf, Fine}
+use Rattle.routine_faults.proofs.Fine.{condition_fine}
 use Rattle.routine_header.specs.declared.Header.{Header}
 use Rattle.routine_command.specs.declared.Condition.{Condition}
 use borrow.Author.Tests.{eq-eqb, ne_eqb}
@@ -19,7 +21,7 @@ use Rattle.netlist.specs.declared.Node.TheVariants.{And, Mux}
 use Rattle.netlist.specs.Inner.Emit.{Emitted, Ready}
 use Rattle.netlist.specs.declared.Net.{Net}
 use Rattle.netlist.proofs.Emitting.{emitted-none, emitted_then, ready-after}
-use Rattle.arithmetic.specs.Bits.{Bits, bits_at, tabulate}
+use Rattle.arithmetic.specs.Bits.{Bits, bits_at, lit_at, tabulate}
 use Rattle.arithmetic.specs.Circuit.{Predicate}
 use Rattle.arithmetic.specs.Inner.Results.{Decides}
 use Rattle.arithmetic.specs.Join.{join, joiner, join_bit}
@@ -27,14 +29,14 @@ use Rattle.arithmetic.specs.declared.Test.{Test}
 use Rattle.arithmetic.proofs.Values.{length-tabulate}
 use Rattle.arithmetic.proofs.Join.{join-lit, join-turn, length-joiner}
 use Rattle.comparison.specs.Relation.{relation}
+use Rattle.comparison.proofs.Compare.{decides_as}
 use Rattle.comparison.proofs.Relating.{relation-short}
-use Rattle.translation_state.specs.Wires.{Wires, place_of}
+use Rattle.translation_state.specs.Wires.{Wires, all_places, place_of}
 use Rattle.translation_if.specs.If.{arm_arrival, condition_of, join_groups, join_arms}
 use Rattle.translation_command.specs.Inner.Encodes.{Encodes}
 use Rattle.translation_if.specs.Inner.BeginsIf.{BeginsIf}
-use Rattle.translation_state.specs.declared.Claim.{Claim}
 use Rattle.translation_state.proofs.Overlay.{set_own, sets_after, table_more}
-use Rattle.translation_state.proofs.Ranges.{ranged}
+use Rattle.translation_state.proofs.Ranges.{part-bits, part_length, ranged, ranged_as}
 
 -- ---- the beginning
 
@@ -43,10 +45,35 @@ pub arm-few : (other : Bool) (g arrival c : ℕ) → length (arm_arrival other g
 arm-few true g arrival c = omega arith
 arm-few false g arrival c = omega arith
 
--- after the condition there is room for both
-pub condition-ready : {W U W₁ U₁ : List ℕ} {n : Net} {t : Test} (r w : ℕ) (a b : Bits) → Decides W U n (relation r n.next a b w) W₁ U₁ t → w ≤ 32 → Ready n 8192
-    → Ready t.net 2
-condition-ready {n = n} r w a b p l q = ready-after 2 p.emitted q (omega (arith, relation-short r n.next a b w))
+-- the condition, from the places of its two variables
+module _ (bs : List ℕ) (h : Header) (c : Condition) (lits : List ℕ) (sound : SoundIf bs h c) (fine : Fine bs h) (long : length lits ≡ all_places h) {a b w : ℕ}
+    (ea : a ≡ place_of c.s) (eb : b ≡ place_of c.t) (ew : w ≡ width bs c.s)
+    {W U W₁ U₁ : List ℕ} {n : Net} {t : Test}
+    (p : Decides W U n
+    (relation c.relation n.next (lit_at (take (a + w - a) (drop a lits))) (lit_at (take (b + w - b) (drop b lits))) (length (take (a + w - a) (drop a lits)))) W₁ U₁ t) where
+  in_range : (c.relation < 10) × (c.s < h.variables) × (c.t < h.variables) × (width bs c.s ≡ width bs c.t)
+  in_range = condition_fine bs h c sound
+
+  wide : length (take (a + w - a) (drop a lits)) ≡ w
+  wide = part_length bs h c.s a w fine in_range.1 ea ew lits long
+
+  pub condition_made : (s : Wires) → s.lits ≡ lits → Decides W U n (condition_of bs n.next c s) W₁ U₁ t
+  condition_made s is =
+      let x = part-bits bs h c.s a w fine in_range.1 ea ew lits long in
+      let y = part-bits bs h c.t b w fine in_range.2 eb (ew ∙ in_range.3) lits long in
+      rw is (decides_as (λ i. relation c.relation n.next (x i) (y i) ((wide ∙ ew) i)) p)
+
+  -- after it there is room for both arrivals
+  pub condition_ready : Ready n 8192 → Ready t.net 2
+  condition_ready q =
+      let r = ranged_as bs h c.s a w fine in_range.1 ea ew in
+      ready-after 2 p.emitted q
+      (omega (
+        arith,
+        wide,
+        r,
+        relation-short c.relation n.next (lit_at (take (a + w - a) (drop a lits))) (lit_at (take (b + w - b) (drop b lits))) (length (take (a + w - a) (drop a lits))),
+      ))
 
 -- the condition, and then both arrivals
 module _ {W U W₁ U₁ W₂ U₂ W₃ U₃ : List ℕ} {n : Net} {t a b : Test} (bs : List ℕ) (c : Condition) (d : ℕ) (s : Wires) (fails : ℕ)
@@ -90,7 +117,7 @@ pub group_ready : {W U W₁ U₁ : List ℕ} {n n₁ : Net} (c : ℕ) (a b : Bit
 group_ready c a b w j p r h = ready-after 1 p r (omega (arith, length-joiner c a b j))
 
 -- one place more of a group: the literals are l, in which the places from j on are x still
-module _ {W U W₁ U₁ : List ℕ} {n n₁ : Net} {l : List ℕ} (x y : List ℕ) (place w c j : ℕ) (h : j < w) (k : length l ≡ length x)
+module _ {W U W₁ U₁ : List ℕ} {n n₁ : Net} {l : List ℕ} (x y : List ℕ) (place w c j : ℕ) (h : j < w)
     (p : Emitted W U n (joiner c (bits_at x place w) (bits_at y place w) j) W₁ U₁ n₁)
     (e : l ≡ sets x place (tabulate (join_bit n.next c (bits_at x place w) (bits_at y place w)) j)) where
   abbrev a : Bits
@@ -110,11 +137,9 @@ module _ {W U W₁ U₁ : List ℕ} {n n₁ : Net} {l : List ℕ} (x y : List �
 
   -- the literals are the same: no gate
   pub same_group : get_or l (place + j) 0 ≡ get_or y (place + j) 0
-      → (j + 1 ≤ w) × (length l ≡ length x) × Emitted W U n (joiner c a b (j + 1)) W₁ U₁ n₁ × (l ≡ sets x place (tabulate f (j + 1)))
+      → Emitted W U n (joiner c a b (j + 1)) W₁ U₁ n₁ × (l ≡ sets x place (tabulate f (j + 1)))
   same_group q =
       let z = eq-eqb _ _ q in (
-        omega arith,
-        k,
         join-turn c a b j _ _ p mine its (rw z (emitted-none _ _ _)),
         sym (set_own l (place + j))
             ∙ table_more x f place j (get_or l (place + j) 0) e
@@ -124,12 +149,10 @@ module _ {W U W₁ U₁ : List ℕ} {n n₁ : Net} {l : List ℕ} (x y : List �
   -- they differ: a MUX
   pub other_group : {W₂ U₂ : List ℕ} {n₂ : Net} → (get_or l (place + j) 0 ≡ get_or y (place + j) 0 → ⊥)
       → Emitted W₁ U₁ n₁ (Mux c (get_or l (place + j) 0) (get_or y (place + j) 0) ∷ []) W₂ U₂ n₂
-      → (j + 1 ≤ w) × (length (set l (place + j) (2 * n₁.next)) ≡ length x) × Emitted W U n (joiner c a b (j + 1)) W₂ U₂ n₂
+      → Emitted W U n (joiner c a b (j + 1)) W₂ U₂ n₂
       × (set l (place + j) (2 * n₁.next) ≡ sets x place (tabulate f (j + 1)))
   other_group q m =
       let z = ne_eqb _ _ q in (
-        omega arith,
-        length-set l (place + j) (2 * n₁.next) ∙ k,
         join-turn c a b j _ _ p mine its (rw z m),
         table_more x f place j (2 * n₁.next) e
             (ap (λ (t : Bool). cond t (get_or l (place + j) 0) (pos n₁.next)) (sym z) ∙ join-lit c a b j _ _ p mine its),
@@ -148,6 +171,10 @@ module _ (bs : List ℕ) (h : Header) (fine : Fine bs h) (g c : ℕ) (x y : List
         length-joiner c (bits_at x (place_of v) (width bs v)) (bits_at y (place_of v) (width bs v)) (width bs v),
         r.few,
       ))
+
+  -- after all groups there is room for arrival
+  pub joined_ready : {W U W₁ U₁ : List ℕ} {n n₁ : Net} → Emitted W U n (join_groups bs g c x y h.variables).nodes W₁ U₁ n₁ → Ready n 8192 → Ready n₁ 1
+  joined_ready p q = ready-after 1 p q (omega (arith, join-few h.variables (omega arith), fine.few))
 
 -- an overlay leaves what stands after it
 drop_sets : (vs l : List ℕ) (i k : ℕ) → i + length vs ≤ k → drop k (sets l i vs) ≡ drop k l
@@ -197,11 +224,11 @@ pub arms_joined : {W U W₁ U₁ W₂ U₂ : List ℕ} {n n₁ n₂ : Net} (bs :
     → Emitted W U n (join_groups bs n.next c x.lits y.lits h.variables).nodes W₁ U₁ n₁
     → l ≡ (join_groups bs n.next c x.lits y.lits h.variables).lits
     → a ≡ opp x.arrival → b ≡ opp y.arrival → Emitted W₁ U₁ n₁ (And a b ∷ []) W₂ U₂ n₂
-    → Encodes W U n (join_arms bs h n.next c x y) W₂ U₂ l (record { net = n₂; reach = record { arrival = 2 * n₁.next + 1; claim = Claim.Open } })
+    → Encodes W U n (join_arms bs h n.next c x y) W₂ U₂ l (record { net = n₂; reach = record { arrival = 2 * n₁.next + 1; claim = None } })
 unfolding join_arms
 arms_joined {W} {U} {W₂ = W₂} {U₂ = U₂} {n} {n₂ = n₂} bs h c x y l a b p s e f q = record {
   emitted =
       subst (λ (ns : List Node). Emitted W U n ((join_groups bs n.next c x.lits y.lits h.variables).nodes ++ ns) W₂ U₂ n₂) (λ i. And (e i) (f i) ∷ [])
       (emitted_then p q);
-  wires = λ i. record { lits = s i; arrival = neg (p.next i); claim = Claim.Open };
+  wires = λ i. record { lits = s i; arrival = neg (p.next i); claim = None };
 }

@@ -1,5 +1,5 @@
 -- The beginning of an if, the condition and the arms' arrivals, and its end, where the arms are joined.
-use Rattle.std.specs.Prelude.{ℕ, zero, suc, ◌+◌, List, [], ◌∷◌, ◌++◌, Bool, cond, length, eqb}
+use Rattle.std.specs.Prelude.{ℕ, zero, suc, ◌+◌, List, [], ◌∷◌, ◌++◌, Bool, cond, length, eqb, None}
 use Rattle.std.proofs.lemmas.List.Edits.{sets}
 use Rattle.routine_header.specs.Header.{width}
 use Rattle.routine_header.specs.declared.Header.{Header}
@@ -13,7 +13,6 @@ use Rattle.arithmetic.specs.Join.{join}
 use Rattle.comparison.specs.Relation.{relation}
 use Rattle.translation_state.specs.Wires.{Wires, bits_of, place_of}
 use Rattle.translation_command.specs.Command.{Encoding}
-use Rattle.translation_state.specs.declared.Claim.{Claim}
 
 -- the condition of an if
 abbrev pub condition_of : List ℕ → (g : ℕ) → Condition → Wires → Predicate
@@ -67,5 +66,5 @@ join_arms bs h g c x y =
     let j : Joint = join_groups bs g c x.lits y.lits h.variables in
     record {
       nodes = j.nodes ++ (And (opp x.arrival) (opp y.arrival) ∷ []);
-      wires = record { lits = j.lits; arrival = neg (g + length j.nodes); claim = Claim.Open };
+      wires = record { lits = j.lits; arrival = neg (g + length j.nodes); claim = None };
     }

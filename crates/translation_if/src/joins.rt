@@ -13,8 +13,8 @@ ghost use Rattle.translation_command.specs.Inner.Encodes.{Encodes};
 use netlist::{Net, Node, emit, emit_mux, opposite};
 use routine_header::{Header, width_of};
 use translation_command::Encoded;
+use translation_state::Reach;
 use translation_state::literals::place_of;
-use translation_state::{Claim, Reach};
 
 // A group of bits joined: the first arm's where the condition c holds, else the other's.
 fn join_group(
@@ -33,17 +33,13 @@ fn join_group(
     ensures lits_after { lits.new ≡ sets lits.old place (tabulate (join n.next c (bits_at lits.old place w) (bits_at other.now place w) w).bits w) }
 {
     let mut net = n;
-    let mut j = 0;
-    while j < w {
+    for j in 0..w {
         let at = place + j;
         let x = lits[at];
         let y = other[at];
-        if x == y {
-            j += 1;
-        } else {
+        if x != y {
             lits[at] = 2 * net.next;
             net = emit_mux(words, starts, net, c, x, y);
-            j += 1;
         }
     }
     net
@@ -67,11 +63,9 @@ fn join_groups(
     ensures lits_after { lits.new ≡ (join_groups bytes.now n.next c lits.old other.now h.variables).lits }
 {
     let mut net = n;
-    let mut v = 0;
-    while v < h.variables {
-        let w = width_of(bytes, v) as usize;
+    for v in 0..h.variables {
+        let w = usize::from(width_of(bytes, v));
         net = join_group(words, starts, lits, net, c, other, place_of(v), w);
-        v += 1;
     }
     net
 }
@@ -99,7 +93,11 @@ pub fn join_arms(
     let b = opposite(y.arrival);
     let arrival = 2 * n1.next + 1;
     let net = emit(words, starts, n1, Node::And(a, b));
-    let claim = Claim::Open;
-    let reach = Reach { arrival, claim };
-    Encoded { net, reach }
+    Encoded {
+        net,
+        reach: Reach {
+            arrival,
+            claim: None,
+        },
+    }
 }

@@ -66,7 +66,7 @@ pub fn begin_if(
     requires sound_if { SoundIf bytes.now h c × Fine bytes.now h }
     ensures { BeginsIf bytes.now words.old starts.old n c d (wires_of lits.now s) words.new starts.new result }
 {
-    let w = width_of(bytes, c.s) as usize;
+    let w = usize::from(width_of(bytes, c.s));
     let a = place_of(c.s);
     let b = place_of(c.t);
     let test = relation(
@@ -77,15 +77,12 @@ pub fn begin_if(
         &lits[a..a + w],
         &lits[b..b + w],
     );
-    let n1 = test.net;
     let holds = test.lit;
-    let x = arm_arrival(words, starts, n1, d == 1, s.arrival, holds);
-    let n2 = x.net;
+    let x = arm_arrival(words, starts, test.net, d == 1, s.arrival, holds);
     let fails = opposite(holds);
-    let y = arm_arrival(words, starts, n2, d == 0, s.arrival, fails);
-    let net = y.net;
+    let y = arm_arrival(words, starts, x.net, d == 0, s.arrival, fails);
     IfBegun {
-        net,
+        net: y.net,
         condition: holds,
         first: x.lit,
         second: y.lit,

@@ -1,4 +1,6 @@
 -- An arm, where it is come to: its translation tallies with its run. Assumes nothing.
+use Rattle.routine_command.specs.declared.Mark.{Mark}
+use Rattle.std.proofs.Common.{None}
 use mathlib.Core.Path.{◌≡◌, refl, ap}
 use mathlib.Core.List.{List, [], ◌∷◌}
 use mathlib.Core.Bool.{true, cond}
@@ -25,7 +27,6 @@ use Rattle.translation_command.specs.Command.{Encoding, simple}
 use Rattle.translation_state.specs.Wires.{Wires, is_made}
 use Rattle.translation_meaning.specs.Walk.{encode_on, encode_if, encode_arm}
 use Rattle.translation_meaning.specs.Faithful.{bits_of_list}
-use Rattle.translation_state.specs.declared.Claim.{Claim}
 use Rattle.lead.specs.declared.Target.{Target}
 use Rattle.translation_meaning.proofs.Claimed.{simple-claims, fork_claims, arm-claims}
 use Rattle.translation_meaning.proofs.Dead.{Deadens, arm_dead}
@@ -48,7 +49,7 @@ module _ (bs ins : List ℕ) (h : Header) (fine : Fine bs h) (t : Target) (ds : 
       then_by (λ (z : Encoding). Models I ρ g z.nodes → Models I ρ g x.nodes) g x go (λ e m. m)
       (λ e m. (models_append I ρ g x.nodes (go (g + length x.nodes) x.wires).nodes m).0)
 
-  models_next : (g : ℕ) (x : Encoding) (go : ℕ → Wires → Encoding) → x.wires.claim ≡ Claim.Open → Models I ρ g (encode_on g x go).nodes
+  models_next : (g : ℕ) (x : Encoding) (go : ℕ → Wires → Encoding) → x.wires.claim ≡ None → Models I ρ g (encode_on g x go).nodes
       → Models I ρ (g + length x.nodes) (go (g + length x.nodes) x.wires).nodes
   models_next g x go q =
       then_by (λ (z : Encoding). Models I ρ g z.nodes → Models I ρ (g + length x.nodes) (go (g + length x.nodes) x.wires).nodes) g x go
@@ -57,7 +58,7 @@ module _ (bs ins : List ℕ) (h : Header) (fine : Fine bs h) (t : Target) (ds : 
 
   -- an encoding that tallies, and what goes on after it
   goes_on : (g : ℕ) (x : Encoding) (go : ℕ → Wires → Encoding) (y : Execution) (on : State → Execution)
-      → (Models I ρ g x.nodes → Tallies bs h fine t ds before ρ x y) → (x.wires.claim ≡ Claim.Open → Runs bs ins h fine t ds before ρ o go on)
+      → (Models I ρ g x.nodes → Tallies bs h fine t ds before ρ x y) → (x.wires.claim ≡ None → Runs bs ins h fine t ds before ρ o go on)
       → ((g₁ : ℕ) (s : Wires) → Deadens I ρ o bs h t ds g₁ s (go g₁ s))
       → (is_made x.wires.claim ≡ true → (r : State) → Elsewhere (course ds t.access before (on r).events))
       → Models I ρ g (encode_on g x go).nodes → Tallies bs h fine t ds before ρ (encode_on g x go) (run_on y on)
@@ -68,7 +69,7 @@ module _ (bs ins : List ℕ) (h : Header) (fine : Fine bs h) (t : Target) (ds : 
       (λ q. apart q y.state)
 
   -- an arm that does not stand after the named access, before which `before` ifs stand
-  pub arm_alive : t.side ≤ 1 → ((n : ℕ) → entry ds n ≤ 2) → (a : Arm) (depth close at : ℕ) (k : Counts) (end : ℕ) (k₁ : Counts)
+  pub arm_alive : t.side ≤ 1 → ((n : ℕ) → entry ds n ≤ 2) → (a : Arm) (depth : ℕ) (close : Mark) (at : ℕ) (k : Counts) (end : ℕ) (k₁ : Counts)
       → Stands bs h depth close at k a end k₁ → Fit bs ins h a → EachIf (Before before t.access) a → accesses k ≤ t.access
       → Runs bs ins h fine t ds before ρ o (encode_arm bs h t ds a) (run_arm bs ins h a)
   unfolding encode_arm run_arm course_to
@@ -83,10 +84,10 @@ module _ (bs ins : List ℕ) (h : Header) (fine : Fine bs h) (t : Target) (ds : 
       (λ e. go f.1 n (p.unnamed (ap is_made e) ahead)) (arm_dead I ρ o bs h t ds rest)
       (λ q. misses bs ins h ds t.access before rest depth close (at + simple_size c) (counts_after c k) end k₁ v.stands (p.named q).1) m)
       (λ depth close at k c first second rest end k₁ v go₁ go₂ go₃ f n ahead g s r m a.
-      let l₁ = accesses_grow bs h first (depth + 1) 12 (at + 4) (counts_after_if k) v.else v.k₂ v.stands-first in
-      let l₂ = accesses_grow bs h second (depth + 1) 13 v.else v.k₂ v.next v.k₃ v.stands-second in
-      let p₁ = arm-claims t bs h ds first (depth + 1) 12 (at + 4) (counts_after_if k) v.else v.k₂ v.stands-first in
-      let p₂ = arm-claims t bs h ds second (depth + 1) 13 v.else v.k₂ v.next v.k₃ v.stands-second in
+      let l₁ = accesses_grow bs h first (depth + 1) Mark.Else (at + 4) (counts_after_if k) v.else v.k₂ v.stands-first in
+      let l₂ = accesses_grow bs h second (depth + 1) Mark.EndIf v.else v.k₂ v.next v.k₃ v.stands-second in
+      let p₁ = arm-claims t bs h ds first (depth + 1) Mark.Else (at + 4) (counts_after_if k) v.else v.k₂ v.stands-first in
+      let p₂ = arm-claims t bs h ds second (depth + 1) Mark.EndIf v.else v.k₂ v.next v.k₃ v.stands-second in
       let x₁ = encode_arm bs h t ds first in
       let x₂ = encode_arm bs h t ds second in
       let arms : Arms bs ins h fine t ds before ρ o x₁ x₂ (run_arm bs ins h first) (run_arm bs ins h second) = record {
@@ -95,7 +96,7 @@ module _ (bs ins : List ℕ) (h : Header) (fine : Fine bs h) (t : Target) (ds : 
         dead₁ = arm_dead I ρ o bs h t ds first;
         dead₂ = arm_dead I ρ o bs h t ds second;
         places = arm-length bs h t ds first;
-        apart = λ g₁ s₁ e q. misses bs ins h ds t.access before second (depth + 1) 13 v.else v.k₂ v.next v.k₃ v.stands-second ((p₁ g₁ s₁ e).named q).1;
+        apart = λ g₁ s₁ e q. misses bs ins h ds t.access before second (depth + 1) Mark.EndIf v.else v.k₂ v.next v.k₃ v.stands-second ((p₁ g₁ s₁ e).named q).1;
       } in
       let p = fork_claims t bs h ds x₁ x₂ k v.k₂ v.k₃ p₁ p₂ l₁ l₂ (entry ds k.ifs) g c s a.unclaimed in
       goes_on g (encode_if bs h (entry ds k.ifs) g c s x₁ x₂) (encode_arm bs h t ds rest)

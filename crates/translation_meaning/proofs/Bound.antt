@@ -1,4 +1,7 @@
 -- How many variables a translation takes at most. Assumes nothing.
+use Rattle.routine_command.specs.declared.Operation.{Operation}
+use Rattle.routine_command.specs.declared.Mark.{Mark}
+use Rattle.std.proofs.Common.{Option, None, Some}
 use Rattle.cnf.specs.Clause.{flatten}
 use Rattle.cnf.proofs.Appending.{flatten_append}
 use Rattle.netlist.specs.Node.{node_clauses, netlist_clauses}
@@ -29,7 +32,7 @@ use Rattle.routine_faults.specs.declared.Counts.{Counts}
 use Rattle.routine_faults.specs.Inputs.{given, input_number}
 use Rattle.routine_command.specs.declared.Simple.{Simple}
 use Rattle.routine.proofs.Views.{induction}
-use Rattle.routine.proofs.Accepted.{decoded}
+use Rattle.routine.proofs.Decoded.{decoded}
 use Rattle.routine_faults.proofs.Fine.{fine, compute_fine, read_fine, write_fine, condition_fine}
 use Rattle.routine.proofs.Counting.{few-ifs}
 use Rattle.routine.proofs.Extent.{width_at_most, ifs_in, all_ifs, few-commands}
@@ -128,15 +131,14 @@ module _ (bs : List ℕ) (h : Header) (w : ℕ) (narrow : (v : ℕ) → v < h.va
 
     -- ---- commands
 
-    compute_few : (op g : ℕ) (a b : Bits) (v : ℕ) → v ≤ w → length (computation op g a b v).nodes ≤ m
+    compute_few : (op : Operation) (g : ℕ) (a b : Bits) (v : ℕ) → v ≤ w → length (computation op g a b v).nodes ≤ m
     compute_few op g a b v l =
-        by_computation (λ z n. length z.nodes ≤ m) op g a b v 0 0
+        by_computation (λ z n. length z.nodes ≤ m) g a b v 0 0 op
         (omega (arith, length-adder g a b 3 v, big.access))
         (omega (arith, length-adder g a (opp_bits b) 2 v, big.access))
         (omega (arith, rows_short g a b v v (omega arith), big.product v l))
         (omega (arith, (steps-sized g a b v v).nodes, big.division v l))
         (omega (arith, (steps-sized g a b v v).nodes, big.division v l))
-        (omega arith)
 
     -- an access, and what goes on after it
     at_access : (g array i : ℕ) (k : Counts) (s : Wires) (go : ℕ → Wires → Encoding) → i < h.variables
@@ -226,7 +228,7 @@ module _ (bs : List ℕ) (h : Header) (w : ℕ) (narrow : (v : ℕ) → v < h.va
         omega (arith, length-append x.nodes y.nodes, l, f (g + length x.nodes) x.wires))
 
     -- an arm that stands
-    arm-few : (ds : List ℕ) (a : Arm) (depth close at : ℕ) (k : Counts) (end : ℕ) (k₁ : Counts) → Stands bs h depth close at k a end k₁
+    arm-few : (ds : List ℕ) (a : Arm) (depth : ℕ) (close : Mark) (at : ℕ) (k : Counts) (end : ℕ) (k₁ : Counts) → Stands bs h depth close at k a end k₁
         → Few (allowed m (32 * w + 1) a) (encode_arm bs h t ds a)
     unfolding encode_arm allowed
     arm-few ds =
@@ -242,7 +244,7 @@ module _ (bs : List ℕ) (h : Header) (w : ℕ) (narrow : (v : ℕ) → v < h.va
         go₃)
 
   -- an arm takes at most 4 w (w + 1) variables for each command, and 32 w + 1 more for each if
-  pub arm_bound : 1 ≤ w → Fine bs h → (t : Target) (ds : List ℕ) (a : Arm) (depth close at : ℕ) (k : Counts) (end : ℕ) (k₁ : Counts)
+  pub arm_bound : 1 ≤ w → Fine bs h → (t : Target) (ds : List ℕ) (a : Arm) (depth : ℕ) (close : Mark) (at : ℕ) (k : Counts) (end : ℕ) (k₁ : Counts)
       → Stands bs h depth close at k a end k₁ → (g : ℕ) (s : Wires)
       → length (encode_arm bs h t ds a g s).nodes ≤ 4 * w * (w + 1) * command_count a + (32 * w + 1) * ifs_in a
   arm_bound l f t ds a depth close at k end k₁ st g s =
@@ -269,7 +271,7 @@ whole_bound bs t ds h a k e w l narrow =
     let p = given-short bs h w narrow (given h) (omega arith) in
     let n : given h ≤ 32 = f.few in
     let q : length x.nodes ≤ 4 * w * (w + 1) * command_count a + (32 * w + 1) * k.ifs =
-    rw (← all_ifs bs h a k e) (arm_bound bs h w narrow l f t ds a 0 0 _ _ _ k d.stands (2 + length ns) s) in
+    rw (← all_ifs bs h a k e) (arm_bound bs h w narrow l f t ds a 0 Mark.End _ _ _ k d.stands (2 + length ns) s) in
     omega (arith, length-append ns x.nodes, p, mul-le-mul_left w n, q)
 
 -- after these there is room for all commands of a routine, and for 2 ^ 25 variables more
@@ -279,14 +281,14 @@ pub roomy : (bs : List ℕ) (t : Target) (ds : List ℕ) (h : Header) (a : Arm) 
 roomy bs t ds h a k e n words clauses next g s =
     let d = decoded bs h a k e in
     let f = fine bs h d.header in
-    let b = arm_bound bs h 32 (λ v l. (f.widths v l).1) (omega arith) f t ds a 0 0 _ _ _ k d.stands g s in
+    let b = arm_bound bs h 32 (λ v l. (f.widths v l).1) (omega arith) f t ds a 0 Mark.End _ _ _ k d.stands g s in
     record { words = words; clauses = clauses; next = omega (arith, next, b, few-commands bs h a k e, all_ifs bs h a k e, few-ifs bs h a k e) }
 
 -- ---- clauses and words
 
-last-few : (c : Claim) → (length (last_clauses c) ≤ 2) × (length (flatten (last_clauses c)) ≤ 4)
-last-few Claim.Open = (omega arith, omega arith)
-last-few (Claim.Made arrival side) = (omega arith, omega arith)
+last-few : (c : Option Claim) → (length (last_clauses c) ≤ 2) × (length (flatten (last_clauses c)) ≤ 4)
+last-few None = (omega arith, omega arith)
+last-few (Some made) = (omega arith, omega arith)
 
 module _ (bs : List ℕ) (t : Target) (ds : List ℕ) (h : Header) (a : Arm) where
   -- at most 6 clauses for each variable: variable 1 has one, which leaves room for the last two

@@ -1,4 +1,6 @@
 -- Where the claim is made: in an arm that has the named access, and in no other. Assumes nothing.
+use Rattle.routine_command.specs.declared.Mark.{Mark}
+use Rattle.std.proofs.Common.{Option, None, Some}
 use mathlib.Core.Path.{◌≡◌, refl, sym, ap, ◌∙◌}
 use mathlib.Core.List.{List}
 use mathlib.Core.Bool.{true, false}
@@ -25,19 +27,19 @@ use Rattle.run_state.proofs.Ordered.{after_grows, accesses_grow}
 use Rattle.routine_faults.proofs.Tests.{not_both}
 use Rattle.translation_meaning.proofs.Stretches.{then_by, access_by_lem, fork_by, first_from, first_wires, first_of, second_from, second_wires, second_of}
 
-pub open_of : (c : Claim) → is_made c ≡ false → c ≡ Claim.Open
-open_of Claim.Open e = refl
-open_of (Claim.Made arrival side) e = let z : ◌≡◌ {A = ℕ} 0 1 = cc in absurd (omega arith)
+pub open_of : (c : Option Claim) → is_made c ≡ false → c ≡ None
+open_of None e = refl
+open_of (Some made) e = let z : ◌≡◌ {A = ℕ} 0 1 = cc in absurd (omega arith)
 
 -- the claim's two fields
-pub record MadeBy (c : Claim) : Type 0 where
+pub record MadeBy (c : Option Claim) : Type 0 where
   pub arrival : ℕ
   pub side : ℕ
-  pub is : c ≡ Claim.Made arrival side
+  pub is : c ≡ Some (record { arrival = arrival; side = side })
 
-pub made_by : (c : Claim) → is_made c ≡ true → MadeBy c
-made_by Claim.Open e = let z : ◌≡◌ {A = ℕ} 0 1 = cc in absurd (omega arith)
-made_by (Claim.Made arrival side) e = record { arrival = arrival; side = side; is = refl }
+pub made_by : (c : Option Claim) → is_made c ≡ true → MadeBy c
+made_by None e = let z : ◌≡◌ {A = ℕ} 0 1 = cc in absurd (omega arith)
+made_by (Some made) e = record { arrival = made.arrival; side = made.side; is = refl }
 
 module _ (t : Target) where
   -- an encoding between the counts k and k₁ made the claim exactly where it has the named access
@@ -46,11 +48,11 @@ module _ (t : Target) where
     pub unnamed : is_made x.wires.claim ≡ false → accesses k ≤ t.access → accesses k₁ ≤ t.access
 
   -- no access, and no claim
-  claims-none : (k : Counts) (x : Encoding) → x.wires.claim ≡ Claim.Open → Claims k k x
+  claims-none : (k : Counts) (x : Encoding) → x.wires.claim ≡ None → Claims k k x
   claims-none k x e = record { named = λ f. not_both (is_made x.wires.claim) f (ap is_made e); unnamed = λ f l. l }
 
   module _ (bs : List ℕ) (h : Header) (ds : List ℕ) where
-    pub simple-claims : (g : ℕ) (c : Simple) (k : Counts) (s : Wires) → s.claim ≡ Claim.Open → Claims k (counts_after c k) (simple bs h t g c k s)
+    pub simple-claims : (g : ℕ) (c : Simple) (k : Counts) (s : Wires) → s.claim ≡ None → Claims k (counts_after c k) (simple bs h t g c k s)
     unfolding simple
     simple-claims g (Simple.Set d c) k s o = claims-none k (simple bs h t g (Simple.Set d c) k s) o
     simple-claims g (Simple.Convert op d a) k s o = claims-none k (simple bs h t g (Simple.Convert op d a) k s) o
@@ -70,11 +72,11 @@ module _ (t : Target) where
 
     -- what an arm says, from any wires without a claim
     abbrev Arms : Counts → Counts → (ℕ → Wires → Encoding) → Type 0
-    Arms k k₁ go = (g : ℕ) (s : Wires) → s.claim ≡ Claim.Open → Claims k k₁ (go g s)
+    Arms k k₁ go = (g : ℕ) (s : Wires) → s.claim ≡ None → Claims k k₁ (go g s)
 
     module _ (first second : ℕ → Wires → Encoding) (k k₂ k₃ : Counts) (one : Arms (counts_after_if k) k₂ first) (two : Arms k₂ k₃ second)
         (l₁ : accesses k ≤ accesses k₂) (l₂ : accesses k₂ ≤ accesses k₃) where
-      pub fork_claims : (d g : ℕ) (c : Condition) (s : Wires) → s.claim ≡ Claim.Open → Claims k k₃ (encode_if bs h d g c s first second)
+      pub fork_claims : (d g : ℕ) (c : Condition) (s : Wires) → s.claim ≡ None → Claims k k₃ (encode_if bs h d g c s first second)
       unfolding join_arms
       fork_claims d g c s o =
           let p = one (first_from bs h d g c s first second) (first_wires bs h d g c s first second) o in
@@ -109,7 +111,7 @@ module _ (t : Target) where
           unnamed = λ r z. q.unnamed r (p.unnamed e z);
         })
 
-    pub arm-claims : (a : Arm) (depth close at : ℕ) (k : Counts) (end : ℕ) (k₁ : Counts) → Stands bs h depth close at k a end k₁ → Arms k k₁ (encode_arm bs h t ds a)
+    pub arm-claims : (a : Arm) (depth : ℕ) (close : Mark) (at : ℕ) (k : Counts) (end : ℕ) (k₁ : Counts) → Stands bs h depth close at k a end k₁ → Arms k k₁ (encode_arm bs h t ds a)
     unfolding encode_arm
     arm-claims =
         induction bs h (λ depth close at k a end k₁. Arms k k₁ (encode_arm bs h t ds a))
@@ -117,8 +119,8 @@ module _ (t : Target) where
         (λ depth close at k c rest end k₁ v go g s o. goes_on k (counts_after c k) k₁ (encode_arm bs h t ds rest) go (after_grows c k)
         (accesses_grow bs h rest depth close _ (counts_after c k) end k₁ v.stands) g (simple bs h t g c k s) (simple-claims g c k s o))
         (λ depth close at k c first second rest end k₁ v go₁ go₂ go₃ g s o.
-        let l₁ = accesses_grow bs h first (depth + 1) 12 (at + 4) (counts_after_if k) v.else v.k₂ v.stands-first in
-        let l₂ = accesses_grow bs h second (depth + 1) 13 v.else v.k₂ v.next v.k₃ v.stands-second in
+        let l₁ = accesses_grow bs h first (depth + 1) Mark.Else (at + 4) (counts_after_if k) v.else v.k₂ v.stands-first in
+        let l₂ = accesses_grow bs h second (depth + 1) Mark.EndIf v.else v.k₂ v.next v.k₃ v.stands-second in
         let l₃ = accesses_grow bs h rest depth close v.next v.k₃ end k₁ v.stands in
         goes_on k v.k₃ k₁ (encode_arm bs h t ds rest) go₃ (omega arith) l₃ g
         (encode_if bs h (entry ds k.ifs) g c s (encode_arm bs h t ds first) (encode_arm bs h t ds second))
@@ -127,15 +129,17 @@ module _ (t : Target) where
     -- ---- the claim's arrival is the last one
 
     abbrev Settled : Wires → Type 0
-    Settled w = (arrival side : ℕ) → w.claim ≡ Claim.Made arrival side → arrival ≡ w.arrival
+    Settled w = (arrival side : ℕ) → w.claim ≡ Some (record { arrival = arrival; side = side }) → arrival ≡ w.arrival
 
-    settled_open : (w : Wires) → w.claim ≡ Claim.Open → Settled w
+    settled_open : (w : Wires) → w.claim ≡ None → Settled w
     settled_open w o arrival side e = not_both true refl (ap is_made (sym e ∙ o))
 
     settled-claim : (s : Wires) (l : ℕ) → Settled (claiming s l)
-    settled-claim s l arrival side e = cc
+    settled-claim s l arrival side e =
+        let q : ◌≡◌ {A = Claim} (record { arrival = arrival; side = side }) (record { arrival = s.arrival; side = l }) = cc in
+        ap (λ (z : Claim). z.arrival) q
 
-    simple-settled : (g : ℕ) (c : Simple) (k : Counts) (s : Wires) → s.claim ≡ Claim.Open → Settled (simple bs h t g c k s).wires
+    simple-settled : (g : ℕ) (c : Simple) (k : Counts) (s : Wires) → s.claim ≡ None → Settled (simple bs h t g c k s).wires
     unfolding simple
     simple-settled g (Simple.Set d c) k s o = settled_open (simple bs h t g (Simple.Set d c) k s).wires o
     simple-settled g (Simple.Convert op d a) k s o = settled_open (simple bs h t g (Simple.Convert op d a) k s).wires o
@@ -148,9 +152,9 @@ module _ (t : Target) where
         (λ e arrival side f. not_both true refl (ap is_made (sym f ∙ o)))
 
     abbrev Settles : (ℕ → Wires → Encoding) → Type 0
-    Settles go = (g : ℕ) (s : Wires) → s.claim ≡ Claim.Open → Settled (go g s).wires
+    Settles go = (g : ℕ) (s : Wires) → s.claim ≡ None → Settled (go g s).wires
 
-    fork_settled : (first second : ℕ → Wires → Encoding) → Settles first → Settles second → (d g : ℕ) (c : Condition) (s : Wires) → s.claim ≡ Claim.Open
+    fork_settled : (first second : ℕ → Wires → Encoding) → Settles first → Settles second → (d g : ℕ) (c : Condition) (s : Wires) → s.claim ≡ None
         → Settled (encode_if bs h d g c s first second).wires
     unfolding join_arms
     fork_settled first second one two d g c s o =
@@ -159,8 +163,8 @@ module _ (t : Target) where
         (λ e e₁. two (second_from bs h d g c s first second) (second_wires bs h d g c s first second) o)
         (λ e e₁ arrival side f. not_both true refl (ap is_made (sym f)))
 
-    pub arm-settled : (a : Arm) (g : ℕ) (s : Wires) → s.claim ≡ Claim.Open → (arrival side : ℕ)
-        → (encode_arm bs h t ds a g s).wires.claim ≡ Claim.Made arrival side → arrival ≡ (encode_arm bs h t ds a g s).wires.arrival
+    pub arm-settled : (a : Arm) (g : ℕ) (s : Wires) → s.claim ≡ None → (arrival side : ℕ)
+        → (encode_arm bs h t ds a g s).wires.claim ≡ Some (record { arrival = arrival; side = side }) → arrival ≡ (encode_arm bs h t ds a g s).wires.arrival
     unfolding encode_arm
     arm-settled done g s o = settled_open s o
     arm-settled (plain at c k rest) g s o =

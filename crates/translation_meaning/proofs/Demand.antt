@@ -1,4 +1,6 @@
 -- Demand 2: the translation of an accepted claim is faithful to every run. Assumes nothing.
+use Rattle.routine_command.specs.declared.Mark.{Mark}
+use Rattle.std.proofs.Common.{None, Some, Ok}
 use mathlib.Core.Path.{◌≡◌, refl, sym, ap, subst, ◌∙◌}
 use mathlib.Core.List.{List}
 use mathlib.Core.Logic.{◌↔◌}
@@ -18,7 +20,7 @@ use Rattle.routine.specs.Inner.Stands.{Stands}
 use Rattle.routine_faults.specs.Inner.Sound.{Fine}
 use Rattle.routine_header.specs.declared.Header.{Header}
 use Rattle.routine_faults.specs.declared.Counts.{Counts}
-use Rattle.routine.proofs.Accepted.{decoded}
+use Rattle.routine.proofs.Decoded.{decoded}
 use Rattle.routine.proofs.Numbering.{ifs-before}
 use Rattle.routine_faults.proofs.Fine.{fine}
 use Rattle.run_inputs.specs.Inputs.{listed}
@@ -26,12 +28,12 @@ use Rattle.run_state.specs.State as state
 use Rattle.run_state.specs.Side.{is_on}
 use Rattle.run_state.specs.State.{lies}
 use Rattle.run_state.specs.Run.{Event, run_of}
-use Rattle.run_state.specs.Course.{course}
+use Rattle.run_state.specs.Course.{landing, course}
 use Rattle.run_state.specs.Goes.{goes_way, Comes, Reaches}
 use Rattle.run_state.proofs.Arriving.{arrival}
-use Rattle.run_inputs.specs.declared.Listed.{Listed}
 use Rattle.run_state.specs.declared.State.{State}
 use Rattle.run_state.specs.declared.Course.{Course}
+use Rattle.run_state.specs.declared.Landing.{Landing}
 use Rattle.netlist.specs.declared.Node.{Node}
 use Rattle.cnf.specs.Meaning.{Assign, lit}
 use Rattle.netlist.specs.Meaning.{Inputs}
@@ -41,10 +43,10 @@ use Rattle.netlist.proofs.Model.{WellFormed, value_at, eval, satisfied_iff, eval
 use Rattle.netlist.proofs.Truth.{Models, models_iff, models_append}
 use Rattle.translation_command.specs.Command.{Encoding}
 use Rattle.translation_state.specs.Wires.{Wires, is_made}
+use Rattle.translation_state.specs.declared.Claim.{Claim}
 use Rattle.translation_meaning.specs.Walk.{encode_arm}
 use Rattle.translation_meaning.specs.Translation.{given_nodes, initial_wires, translation_of}
 use Rattle.translation_meaning.specs.Faithful.{bits_of_list, Solves, Faithful, Demand2}
-use Rattle.translation_state.specs.declared.Claim.{Claim}
 use Rattle.lead.specs.declared.Target.{Target}
 use Rattle.lead.proofs.Leads.{admitted_range}
 use Rattle.translation_meaning.proofs.Alive.{arm_alive}
@@ -60,9 +62,9 @@ use Rattle.translation_meaning.proofs.Worth.{given_worth}
 -- ---- what a tally with the claim made says
 
 module _ (bs : List ℕ) (h : Header) (f : Fine bs h) (t : Target) (ds : List ℕ) (before : ℕ) (ρ : Assign) (w : Wires) (side : ℕ)
-    (made : w.claim ≡ Claim.Made w.arrival side) (es : List Event)
+    (made : w.claim ≡ Some (record { arrival = w.arrival; side = side })) (es : List Event)
     (same : (array : ℕ) (index : Whole)
-    → (course ds t.access before es ≡ Course.Arrived array index) ↔ ((goes_way ds before es ≡ true) × Comes t.access array index es)) where
+    → (course ds t.access before es ≡ Course.Arrived (landing array index)) ↔ ((goes_way ds before es ≡ true) × Comes t.access array index es)) where
   abbrev c : Course
   c = course ds t.access before es
 
@@ -78,12 +80,13 @@ module _ (bs : List ℕ) (h : Header) (f : Fine bs h) (t : Target) (ds : List �
       ((λ z. record { array = array; index = index; goes = b.0; comes = b.1 }), (λ a. l))
 
   -- the same array and the same index
-  lies_same : (side₁ array₁ : ℕ) (index₁ : Whole) (array : ℕ) (index : Whole) → side₁ ≡ side → Course.Arrived array₁ index₁ ≡ Course.Arrived array index
+  lies_same : (side₁ array₁ : ℕ) (index₁ : Whole) (array : ℕ) (index : Whole) → side₁ ≡ side → Course.Arrived (landing array₁ index₁) ≡ Course.Arrived (landing array index)
       → (lit ρ side₁ ≡ true) ↔ (is_on t.side (lies (array_size bs h array₁) index₁) ≡ true)
       → (lit ρ side ≡ true) ↔ (is_on t.side (lies (array_size bs h array) index) ≡ true)
   lies_same side₁ array₁ index₁ array index e p q =
-      let a : array₁ ≡ array = cc in
-      let i : index₁ ≡ index = cc in
+      let z : landing array₁ index₁ ≡ landing array index = cc in
+      let a : array₁ ≡ array = ap (λ (l : Landing). l.array) z in
+      let i : index₁ ≡ index = ap (λ (l : Landing). l.index) z in
       subst (λ (z : ℕ). (lit ρ z ≡ true) ↔ (is_on t.side (lies (array_size bs h array) index) ≡ true)) e
       (subst (λ (z : Whole). (lit ρ side₁ ≡ true) ↔ (is_on t.side (lies (array_size bs h array) z) ≡ true)) i
       (subst (λ (z : ℕ). (lit ρ side₁ ≡ true) ↔ (is_on t.side (lies (array_size bs h z) index₁) ≡ true)) a q))
@@ -94,7 +97,8 @@ module _ (bs : List ℕ) (h : Header) (f : Fine bs h) (t : Target) (ds : List �
   lies_says r (lost e l p) way array index there = not_both true refl (ap is_made (sym made ∙ e))
   lies_says r (missed e l p) way array index there = absurd (elsewhere array index p way there)
   lies_says r (here side₁ array₁ index₁ e l p q) way array index there =
-      let y : side₁ ≡ side = cc in
+      let x : ◌≡◌ {A = Claim} (record { arrival = w.arrival; side = side₁ }) (record { arrival = w.arrival; side = side }) = cc in
+      let y : side₁ ≡ side = ap (λ (z : Claim). z.side) x in
       lies_same side₁ array₁ index₁ array index y (sym p ∙ (same array index).1 (way, there)) q
 
 -- ---- the whole
@@ -104,7 +108,7 @@ module _ (bs : List ℕ) (t : Target) (ds : List ℕ) (h : Header) (a : Arm) (k 
   ok : Fine bs h
   ok = fine bs h (decoded bs h a k is).header
 
-  stands : Stands bs h 0 0 (first_command h) no_counts a (length bs) k
+  stands : Stands bs h 0 Mark.End (first_command h) no_counts a (length bs) k
   stands = (decoded bs h a k is).stands
 
   -- how many ifs stand before the named access
@@ -120,7 +124,7 @@ module _ (bs : List ℕ) (t : Target) (ds : List ℕ) (h : Header) (a : Arm) (k 
   abbrev x : Encoding
   x = encode_arm bs h t ds a g (initial_wires bs h)
 
-  start_open : (initial_wires bs h).claim ≡ Claim.Open
+  start_open : (initial_wires bs h).claim ≡ None
   unfolding initial_wires
   start_open = refl
 
@@ -131,21 +135,21 @@ module _ (bs : List ℕ) (t : Target) (ds : List ℕ) (h : Header) (a : Arm) (k 
       pick : (b : Bool) → is_made x.wires.claim ≡ b → is_made x.wires.claim ≡ true
       pick true e = e
       pick false e =
-          let p = (arm-claims t bs h ds a 0 0 (first_command h) no_counts (length bs) k stands g (initial_wires bs h) start_open).unnamed e (omega arith) in
+          let p = (arm-claims t bs h ds a 0 Mark.End (first_command h) no_counts (length bs) k stands g (initial_wires bs h) start_open).unnamed e (omega arith) in
           absurd (omega arith)
 
   made : MadeBy x.wires.claim
   made = made_by x.wires.claim claimed
 
-  claims : x.wires.claim ≡ Claim.Made x.wires.arrival made.side
+  claims : x.wires.claim ≡ Some (record { arrival = x.wires.arrival; side = made.side })
   claims =
       made.is
-      ∙ ap (λ (z : ℕ). Claim.Made z made.side) (arm-settled t bs h ds a g (initial_wires bs h) start_open made.arrival made.side made.is)
+      ∙ ap (λ (z : ℕ). Some (record { arrival = z; side = made.side })) (arm-settled t bs h ds a g (initial_wires bs h) start_open made.arrival made.side made.is)
 
   formed : WellFormed 1 (translation_of bs t ds h a).nodes
   formed = whole-formed bs h ok t ds a (first_command h) no_counts (length bs) k stands
 
-  module _ (ins : List ℕ) (accepted : listed bs ins h a k ≡ Listed.Accepted) where
+  module _ (ins : List ℕ) (accepted : listed bs ins h a k ≡ Ok tt) where
     abbrev I : Inputs
     I = bits_of_list ins
 
@@ -177,11 +181,11 @@ module _ (bs : List ℕ) (t : Target) (ds : List ℕ) (h : Header) (a : Arm) (k 
       tally : Tally bs h ok t ds before ρ x.wires (course ds t.access before (run_of bs ins h a).events) (run_of bs ins h a).state
       unfolding run_of
       tally =
-          arm_alive bs ins h ok t ds before ρ truth side few a 0 0 (first_command h) no_counts (length bs) k stands fits.reads
+          arm_alive bs ins h ok t ds before ρ truth side few a 0 Mark.End (first_command h) no_counts (length bs) k stands fits.reads
           (ifs-before bs h a k is t.access named) (omega arith) g (initial_wires bs h) (state.initial ins (given h)) parts.1 alive
 
   -- its course arrived just where it goes the way and comes to the access
-  same : (ins : List ℕ) (array : ℕ) (index : Whole) → (course ds t.access before (run_of bs ins h a).events ≡ Course.Arrived array index)
+  same : (ins : List ℕ) (array : ℕ) (index : Whole) → (course ds t.access before (run_of bs ins h a).events ≡ Course.Arrived (landing array index))
       ↔ ((goes_way ds before (run_of bs ins h a).events ≡ true) × Comes t.access array index (run_of bs ins h a).events)
   same ins = arrival bs ins ds h a k is t.access named
 

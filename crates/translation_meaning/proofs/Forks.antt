@@ -1,4 +1,5 @@
 -- An if, where it is come to: its translation tallies with the run, which takes one of its arms, while the other is dead. Assumes nothing.
+use Rattle.std.proofs.Common.{None}
 use mathlib.Core.Path.{◌≡◌, refl, sym, ap, ap₂, subst, ◌∙◌}
 use mathlib.Core.List.{List, [], ◌∷◌, ◌++◌}
 use mathlib.Core.Logic.{inl}
@@ -30,7 +31,6 @@ use Rattle.translation_command.specs.Command.{Encoding}
 use Rattle.translation_if.specs.If.{condition_of, arrivals, join_arms}
 use Rattle.translation_meaning.specs.Walk.{encode_if}
 use Rattle.translation_meaning.specs.Faithful.{bits_of_list}
-use Rattle.translation_state.specs.declared.Claim.{Claim}
 use Rattle.lead.specs.declared.Target.{Target}
 use Rattle.translation_meaning.proofs.Dead.{Deadens}
 use Rattle.translation_meaning.proofs.Gates.{models_three, first-lit, else-lit, joined_lit, joined_gates}
@@ -79,7 +79,7 @@ module _ (bs ins : List ℕ) (h : Header) (fine : Fine bs h) (t : Target) (ds : 
   -- ---- the end of an if
 
   module _ (g l : ℕ) (x y : Wires) (m : Models I ρ g (join_arms bs h g l x y).nodes) (c : Course) (r : State) where
-    joined_open : (join_arms bs h g l x y).wires.claim ≡ Claim.Open
+    joined_open : (join_arms bs h g l x y).wires.claim ≡ None
     unfolding join_arms
     joined_open = refl
 
@@ -127,12 +127,12 @@ module _ (bs ins : List ℕ) (h : Header) (fine : Fine bs h) (t : Target) (ds : 
   pub record Arms (first second : ℕ → Wires → Encoding) (on₁ on₂ : State → Execution) : Type 0 where
     pub one : Runs first on₁
     -- where the named access is not in the first arm
-    pub two : (g : ℕ) (s : Wires) → s.claim ≡ Claim.Open → is_made (first g s).wires.claim ≡ false → Runs second on₂
+    pub two : (g : ℕ) (s : Wires) → s.claim ≡ None → is_made (first g s).wires.claim ≡ false → Runs second on₂
     pub dead₁ : (g : ℕ) (s : Wires) → Deadens I ρ o bs h t ds g s (first g s)
     pub dead₂ : (g : ℕ) (s : Wires) → Deadens I ρ o bs h t ds g s (second g s)
     pub places : (g : ℕ) (s : Wires) → length (first g s).wires.lits ≡ length s.lits
     -- the named access is in the first arm, so a run of the second does not come to it
-    pub apart : (g : ℕ) (s : Wires) → s.claim ≡ Claim.Open → is_made (first g s).wires.claim ≡ true → (r : State) → Elsewhere (course ds t.access before (on₂ r).events)
+    pub apart : (g : ℕ) (s : Wires) → s.claim ≡ None → is_made (first g s).wires.claim ≡ true → (r : State) → Elsewhere (course ds t.access before (on₂ r).events)
 
   -- the if of number n, which stands before the named access
   module _ (first second : ℕ → Wires → Encoding) (on₁ on₂ : State → Execution) (arms : Arms first second on₁ on₂) (n : ℕ) (few : entry ds n ≤ 2)

@@ -1,4 +1,8 @@
 -- A translation's nodes refer only to variables before their own, and so do the literals that it leaves. Assumes nothing.
+use Rattle.routine_command.specs.declared.Conversion.{Conversion}
+use Rattle.routine_command.specs.declared.Operation.{Operation}
+use Rattle.routine_command.specs.declared.Mark.{Mark}
+use Rattle.std.proofs.Common.{Some}
 use mathlib.Core.Path.{◌≡◌, sym, ap, subst, ◌∙◌}
 use mathlib.Core.List.{List, [], ◌∷◌, ◌++◌}
 use mathlib.Core.Bool.{Bool, true, false, cond}
@@ -26,8 +30,8 @@ use Rattle.netlist.proofs.Model.{Before, WellFormed}
 use Rattle.netlist.proofs.Formed.{before_later, before-opp, before-pos, before-neg, formed_append}
 use Rattle.arithmetic.specs.Bits.{Bits}
 use Rattle.arithmetic.specs.Adder.{adder, sum_bit, opp_bits}
-use Rattle.arithmetic.specs.Circuit.{Predicate, Number, never, nothing}
-use Rattle.arithmetic.specs.Extend.{const_bit, extend}
+use Rattle.arithmetic.specs.Circuit.{Predicate, Number, never}
+use Rattle.arithmetic.specs.Extend.{const_bit}
 use Rattle.arithmetic.specs.Input.{inputs, in_bit}
 use Rattle.comparison.specs.Access.{above}
 use Rattle.arithmetic.proofs.Values.{AllBefore}
@@ -45,7 +49,6 @@ use Rattle.translation_access.specs.Index.{top, passing, claim}
 use Rattle.translation_meaning.specs.Walk.{encode_on, encode_if, encode_arm}
 use Rattle.translation_if.specs.If.{Arrivals, condition_of, arm_arrival, arrivals}
 use Rattle.translation_meaning.specs.Translation.{given_nodes, given_lits, initial_wires, translation_of}
-use Rattle.translation_state.specs.declared.Claim.{Claim}
 use Rattle.lead.specs.declared.Target.{Target}
 use Rattle.translation_meaning.proofs.Computing.{by_computation}
 use Rattle.translation_meaning.proofs.Stretches.{then_by, access_by_lem, fork_by, first_from, first_wires, first_of, second_from, second_wires, second_of, join_from, join_of}
@@ -57,35 +60,26 @@ module _ (bs : List ℕ) (h : Header) (fine : Fine bs h) where
   still_made : (g : ℕ) (s : Wires) → Wired h.variables g s → Made h.variables g (still s)
   still_made g s w = record { formed = tt; wired = wired_later (g + 0) (omega arith) w }
 
-  convert_before : (op g : ℕ) (a : Bits) (w v : ℕ) → 0 < w → 1 < g → AllBefore g a w → AllBefore g (conversion op a w) v
+  convert_before : (op : Conversion) (g : ℕ) (a : Bits) (w v : ℕ) → 0 < w → 1 < g → AllBefore g a w → AllBefore g (conversion op a w) v
   unfolding conversion
-  convert_before op g a w v z o f = pick (eqb op 0x02) (eqb op 0x06) (eqb op 0x07) (eqb op 0x08)
-    where
-      falsity : Before g 3
-      falsity = before-neg g 1 (omega arith) o
-
-      pick : (p q r x : Bool)
-          → AllBefore g (cond p (extend a w 3) (cond q (extend a w 3) (cond r (extend a w 3) (cond x (extend a w (top a w)) nothing.bits)))) v
-      pick true q r x = extend-before g a w 3 v f falsity
-      pick false true r x = extend-before g a w 3 v f falsity
-      pick false false true x = extend-before g a w 3 v f falsity
-      pick false false false true = extend-before g a w (top a w) v f (f (w - 1) (omega arith))
-      pick false false false false = λ j l. falsity
+  convert_before Conversion.Copy g a w v z o f = extend-before g a w 3 v f (before-neg g 1 (omega arith) o)
+  convert_before Conversion.Cut g a w v z o f = extend-before g a w 3 v f (before-neg g 1 (omega arith) o)
+  convert_before Conversion.ZeroExtend g a w v z o f = extend-before g a w 3 v f (before-neg g 1 (omega arith) o)
+  convert_before Conversion.SignExtend g a w v z o f = extend-before g a w (top a w) v f (f (w - 1) (omega arith))
 
   -- the gates of a number whose first variable is g, and its first w bits
   record Numbered (g w : ℕ) (x : Number) : Type 0 where
     gates : WellFormed g x.nodes
     bits : AllBefore (g + length x.nodes) x.bits w
 
-  compute_made : (op g : ℕ) (a b : Bits) (w : ℕ) → 1 < g → AllBefore g a w → AllBefore g b w → Numbered g w (computation op g a b w)
+  compute_made : (op : Operation) (g : ℕ) (a b : Bits) (w : ℕ) → 1 < g → AllBefore g a w → AllBefore g b w → Numbered g w (computation op g a b w)
   compute_made op g a b w z ha hb =
-      by_computation (λ x n. Numbered g w x) op g a b w 0 0
+      by_computation (λ x n. Numbered g w x) g a b w 0 0 op
       (sums 3 b (adder-formed g a b 3 w (omega arith) ha hb (before-neg g 1 (omega arith) z)))
       (sums 2 (opp_bits b) (subtractor-formed g a b w z ha hb))
       (record { gates = product-formed g a b w w z (omega arith) ha hb; bits = product-before g a b w z })
       (record { gates = steps-formed g a b w w z (omega arith) ha hb; bits = quotient-before g a b w z })
       (record { gates = steps-formed g a b w w z (omega arith) ha hb; bits = remainder-before g a b w z })
-      (record { gates = tt; bits = λ j l. before-neg (g + 0) 1 (omega arith) (omega arith) })
     where
       sums : (c : ℕ) (e : Bits) → WellFormed g (adder g a e c w) → Numbered g w (record { nodes = adder g a e c w; bits = sum_bit g })
       sums c e f =
@@ -250,7 +244,7 @@ module _ (bs : List ℕ) (h : Header) (fine : Fine bs h) where
         (λ e. made_after g x.nodes (go (g + length x.nodes) x.wires) m.formed (f (g + length x.nodes) x.wires m.wired))
 
     -- an arm that stands
-    pub arm_made : (ds : List ℕ) (a : Arm) (depth close at : ℕ) (k : Counts) (end : ℕ) (k₁ : Counts) → Stands bs h depth close at k a end k₁
+    pub arm_made : (ds : List ℕ) (a : Arm) (depth : ℕ) (close : Mark) (at : ℕ) (k : Counts) (end : ℕ) (k₁ : Counts) → Stands bs h depth close at k a end k₁
         → Arms (encode_arm bs h t ds a)
     unfolding encode_arm
     arm_made ds =
@@ -292,9 +286,9 @@ module _ (bs : List ℕ) (h : Header) (fine : Fine bs h) where
     unfolding initial_wires
     start_wired = record { some = omega arith; held = (started (given h)).lits; arrival = before-pos whole_from 1 (omega arith) (omega arith); claim = tt }
 
-    module _ (ds : List ℕ) (a : Arm) (at : ℕ) (k : Counts) (end : ℕ) (k₁ : Counts) (st : Stands bs h 0 0 at k a end k₁) where
+    module _ (ds : List ℕ) (a : Arm) (at : ℕ) (k : Counts) (end : ℕ) (k₁ : Counts) (st : Stands bs h 0 Mark.End at k a end k₁) where
       commands_made : Made h.variables whole_from (encode_arm bs h t ds a whole_from (initial_wires bs h))
-      commands_made = arm_made ds a 0 0 at k end k₁ st whole_from (initial_wires bs h) start_wired
+      commands_made = arm_made ds a 0 Mark.End at k end k₁ st whole_from (initial_wires bs h) start_wired
 
       -- a whole translation is well formed
       pub whole-formed : WellFormed 1 (translation_of bs t ds h a).nodes
@@ -306,7 +300,7 @@ module _ (bs : List ℕ) (h : Header) (fine : Fine bs h) where
       )
 
       -- the claim's literals are of its variables
-      pub whole-named : (arrival side : ℕ) → (translation_of bs t ds h a).wires.claim ≡ Claim.Made arrival side
+      pub whole-named : (arrival side : ℕ) → (translation_of bs t ds h a).wires.claim ≡ Some (record { arrival = arrival; side = side })
           → Before (1 + length (translation_of bs t ds h a).nodes) arrival × Before (1 + length (translation_of bs t ds h a).nodes) side
       unfolding translation_of
       whole-named arrival side e =

@@ -1,4 +1,5 @@
 -- A run over an arm whose accesses all have greater numbers does not come to the named access. Assumes nothing.
+use Rattle.routine_command.specs.declared.Mark.{Mark}
 use mathlib.Core.Path.{sym, subst}
 use mathlib.Core.List.{List, [], ◌∷◌}
 use mathlib.Core.Bool.{cond}
@@ -29,12 +30,12 @@ use Rattle.translation_meaning.proofs.Stretches.{by_cond}
 abbrev pub Elsewhere : Course → Type 0
 Elsewhere (Course.Astray number) = Unit {0}
 Elsewhere Course.Passing = Unit {0}
-Elsewhere (Course.Arrived array index) = ⊥
+Elsewhere (Course.Arrived landing) = ⊥
 
 pub elsewhere_then : (x y : Course) → Elsewhere x → Elsewhere y → Elsewhere (onward x y)
 elsewhere_then (Course.Astray number) y p q = tt
 elsewhere_then Course.Passing y p q = q
-elsewhere_then (Course.Arrived array index) y p q = p
+elsewhere_then (Course.Arrived landing) y p q = p
 
 -- ---- the numbers
 
@@ -48,7 +49,7 @@ module _ (bs ins : List ℕ) (h : Header) (ds : List ℕ) (access before : ℕ) 
       run_then_by Misses x go
       (λ e. subst Elsewhere (sym (course_append ds access before x.events (go x.state).events))
       (elsewhere_then (course ds access before x.events) (course ds access before (go x.state).events) p q))
-      (λ a i s e. p)
+      (λ a e. p)
 
   misses_came : (number array : ℕ) (index : Whole) → access < number → Elsewhere (course ds access before (came number array index ∷ []))
   unfolding course_to
@@ -66,7 +67,7 @@ module _ (bs ins : List ℕ) (h : Header) (ds : List ℕ) (access before : ℕ) 
       by_cond Elsewhere (keeps ds before number arm) (course ds access before x.events) (Course.Astray number) (λ e. p) (λ e. tt)
 
   -- an arm whose accesses all have greater numbers
-  pub misses : (a : Arm) (depth close at : ℕ) (k : Counts) (end : ℕ) (k₁ : Counts) → Stands bs h depth close at k a end k₁
+  pub misses : (a : Arm) (depth : ℕ) (close : Mark) (at : ℕ) (k : Counts) (end : ℕ) (k₁ : Counts) → Stands bs h depth close at k a end k₁
       → access < accesses k → (r : State) → Misses (run_arm bs ins h a r)
   unfolding run_arm course_to
   misses =
@@ -76,8 +77,8 @@ module _ (bs ins : List ℕ) (h : Header) (ds : List ℕ) (access before : ℕ) 
       misses_then (record { events = events_at bs c k r; state = executed bs ins h c k r }) (run_arm bs ins h rest) (misses_simple (touches c) k r f)
       (go (omega (arith, after_grows c k)) (executed bs ins h c k r)))
       (λ depth close at k c first second rest end k₁ v go₁ go₂ go₃ f r.
-      let g₁ = accesses_grow bs h first (depth + 1) 12 (at + 4) (counts_after_if k) v.else v.k₂ v.stands-first in
-      let g₂ = accesses_grow bs h second (depth + 1) 13 v.else v.k₂ v.next v.k₃ v.stands-second in
+      let g₁ = accesses_grow bs h first (depth + 1) Mark.Else (at + 4) (counts_after_if k) v.else v.k₂ v.stands-first in
+      let g₂ = accesses_grow bs h second (depth + 1) Mark.EndIf v.else v.k₂ v.next v.k₃ v.stands-second in
       let x : Execution =
       cond (holds bs c r) (events_then (took k.ifs 0 ∷ []) (run_arm bs ins h first (with_arm r k.ifs 0)))
       (events_then (took k.ifs 1 ∷ []) (run_arm bs ins h second (with_arm r k.ifs 1))) in

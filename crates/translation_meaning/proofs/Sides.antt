@@ -1,4 +1,5 @@
 -- An index against an array's size: what the literals of the top bit and of "above" say of where the index lies. Assumes nothing.
+use Rattle.std.proofs.Common.{Option, None, Some}
 use mathlib.Core.Path.{◌≡◌, refl, sym, ◌∙◌}
 use mathlib.Core.Logic.{◌↔◌}
 use mathlib.Core.Bool.{Bool, true, false, cond, not, ◌&&◌}
@@ -10,7 +11,6 @@ use Rattle.bitvec.specs.Signed.{signed}
 use Rattle.bitvec.specs.declared.Whole.{Whole}
 use Rattle.run_state.specs.Side.{is_on}
 use Rattle.run_state.specs.State.{lies}
-use Rattle.run_state.specs.declared.Lies.{Lies}
 use Rattle.run_state.specs.declared.Side.{Side}
 use Rattle.run_state.specs.declared.Side.TheVariants.{Below, Above}
 use Rattle.cnf.specs.Meaning.{Assign, lit}
@@ -23,8 +23,8 @@ use Rattle.comparison.proofs.Access.{above-value}
 use Rattle.translation_access.specs.Index.{top, claim}
 
 -- not negative and below the size, at or above it, or negative: p says that the index is not negative, q that it is not below the size
-abbrev pub placed : (p q : Bool) → Lies
-placed p q = cond p (cond q (Lies.Outside Above) Lies.Inside) (Lies.Outside Below)
+abbrev pub placed : (p q : Bool) → Option Side
+placed p q = cond p (cond q (Some Above) None) (Some Below)
 
 lies_whole : (p : Bool) (size x n : ℕ) → lies size (cond p (Whole.Natural x) (Whole.Negative n)) ≡ placed p (leb size x)
 unfolding lies
@@ -36,9 +36,9 @@ unfolding signed
 lies_placed w x size l = rw (mod-eq_of_lt l) (lies_whole (ltb x (2 ^ (w - 1))) size x (2 ^ w - x))
 
 -- the index is inside where b is true, and outside where it is false
-pub data Entered (l : Lies) (b : Bool) : Type 0 where
-  within : l ≡ Lies.Inside → b ≡ true → Entered l b
-  outside : (side : Side) → l ≡ Lies.Outside side → b ≡ false → Entered l b
+pub data Entered (l : Option Side) (b : Bool) : Type 0 where
+  within : l ≡ None → b ≡ true → Entered l b
+  outside : (side : Side) → l ≡ Some side → b ≡ false → Entered l b
 
 entered_placed : (p q : Bool) → Entered (placed p q) (not (not p) && not (p && q))
 entered_placed true true = outside Above refl refl

@@ -1,18 +1,20 @@
 -- A command that is no if, where it is come to: its translation tallies with the run. Assumes nothing.
+use Rattle.routine_command.specs.declared.Conversion.{Conversion}
+use Rattle.routine_command.specs.declared.Operation.{Operation}
+use Rattle.std.proofs.Common.{None, Option}
 use mathlib.Core.Path.{◌≡◌, refl, sym, ap, ap₂, subst, ◌∙◌}
 use mathlib.Core.List.{List, [], ◌∷◌}
 use mathlib.Core.Logic.{inr}
-use mathlib.Core.Bool.{Bool, true, false, cond, ◌&&◌}
+use mathlib.Core.Bool.{Bool, true, false, ◌&&◌}
 use Prim.Native.Nat.{ℕ, ◌+◌, ◌<◌, ◌≤◌}
 use native.Mathlib.Omega.{arith}
 use lib.ListN.{length}
-use lib.Dec.{ltb, eqb}
+use lib.Dec.{eqb}
 use borrow.Author.Tests.{eqb-true, ltb-true}
 use Rattle.slices.specs.Bytes.{entry}
-use Rattle.bitvec.specs.Word.{cut, zero_extend}
-use Rattle.bitvec.specs.Signed.{signed, sign_extend}
+use Rattle.bitvec.specs.Signed.{signed}
 use Rattle.bitvec.specs.declared.Whole.{Whole}
-use Rattle.routine_header.specs.Header.{width, array_size, between}
+use Rattle.routine_header.specs.Header.{width, array_size}
 use Rattle.routine_faults.specs.Step.{accesses, converts, widths_fit}
 use Rattle.routine_faults.specs.Inputs.{input_number}
 use Rattle.routine_faults.specs.Inner.Sound.{Sound, Fine}
@@ -23,21 +25,18 @@ use Rattle.routine_faults.proofs.Fine.{set_fine, convert_fine, compute_fine, rea
 use Rattle.run_state.specs.State as state
 use Rattle.run_state.specs.State.{converted, computed, index_of, lies, arrive, accessed, executed}
 use Rattle.run_state.specs.Run.{came, events_at}
-use Rattle.run_state.specs.declared.Lies.{Lies}
-use Rattle.run_state.specs.declared.Outcome.{Outcome}
 use Rattle.run_state.specs.declared.State.{State}
-use Rattle.run_state.specs.Course.{course_to, course}
+use Rattle.run_state.specs.Course.{landing, course_to, course}
 use Rattle.run_state.specs.declared.Course.{Course}
+use Rattle.run_state.specs.declared.Side.{Side}
 use Rattle.netlist.specs.declared.Node.{Node}
 use Rattle.cnf.specs.Meaning.{Assign, lit}
 use Rattle.netlist.specs.Meaning.{Inputs}
-use Rattle.netlist.proofs.Literals.{lit_false}
 use Rattle.netlist.proofs.Truth.{Models, models_append}
 use Rattle.arithmetic.specs.Bits.{Bits}
-use Rattle.arithmetic.specs.Circuit.{nothing}
-use Rattle.arithmetic.specs.Extend.{const_bit, extend}
+use Rattle.arithmetic.specs.Extend.{const_bit}
 use Rattle.arithmetic.specs.Input.{in_bit}
-use Rattle.arithmetic.proofs.Values.{value, value_zero}
+use Rattle.arithmetic.proofs.Values.{value}
 use Rattle.arithmetic.proofs.Adder.{sum-word, difference-word}
 use Rattle.arithmetic.proofs.Product.{product-word}
 use Rattle.division.proofs.Dividing.{quotient-word, remainder-word}
@@ -46,9 +45,8 @@ use Rattle.arithmetic.proofs.Input.{input_word}
 use Rattle.translation_state.specs.Wires.{Wires, bits_of, with_bits, arriving, claiming}
 use Rattle.translation_command.specs.Command.{Encoding, still, access, read_into, simple}
 use Rattle.translation_command.specs.Operation.{conversion, computation}
-use Rattle.translation_access.specs.Index.{top, passing, claim}
+use Rattle.translation_access.specs.Index.{passing, claim}
 use Rattle.translation_meaning.specs.Faithful.{bits_of_list}
-use Rattle.translation_state.specs.declared.Claim.{Claim}
 use Rattle.lead.specs.declared.Target.{Target}
 use Rattle.run_inputs.proofs.Fitting.{FitSimple}
 use Rattle.translation_meaning.proofs.Computing.{by_computation}
@@ -60,53 +58,35 @@ use Rattle.translation_meaning.proofs.Worth.{Worth, put_worth}
 
 -- ---- copy, cut and the extensions
 
--- the bits of no number are worth 0
-nothing_worth : (ρ : Assign) → ρ 1 ≡ true → (w : ℕ) → value ρ nothing.bits w ≡ 0
-nothing_worth ρ o w = value_zero ρ nothing.bits w (λ j l. lit_false ρ o)
-
-pub convert_word : (ρ : Assign) → ρ 1 ≡ true → (op v w : ℕ) (a : Bits) → 0 < w → converts op v w ≡ true
+-- copy keeps the width, cut makes narrower, and the others make wider
+pub convert_word : (ρ : Assign) → ρ 1 ≡ true → (op : Conversion) (v w : ℕ) (a : Bits) → 0 < w → converts op v w ≡ true
     → value ρ (conversion op a w) v ≡ converted op v w (value ρ a w)
 unfolding converted conversion
-convert_word ρ o op v w a z = pick (eqb op 0x02) (eqb op 0x06) (eqb op 0x07) (eqb op 0x08) (between 0x07 0x08 op)
-  where
-    x : ℕ
-    x = value ρ a w
-
-    wider : (m : Bool) → cond m (ltb w v) false ≡ true → w ≤ v
-    wider true q = let y = ltb-true w v q in omega arith
-    wider false q = let y : ◌≡◌ {A = ℕ} 0 1 = cc in absurd (omega arith)
-
-    -- copy keeps the width, cut makes narrower, and the others make wider
-    pick : (b c d e m : Bool) → cond b (eqb v w) (cond c (ltb v w) (cond m (ltb w v) false)) ≡ true
-        → value ρ (cond b (extend a w 3) (cond c (extend a w 3) (cond d (extend a w 3) (cond e (extend a w (top a w)) nothing.bits)))) v
-        ≡ cond b x (cond c (cut v x) (cond d (zero_extend x) (cond e (sign_extend v w x) 0)))
-    pick true c d e m q = let y = eqb-true v w q in zero_extend_word ρ a w v (omega arith) o
-    pick false true d e m q = let y = ltb-true v w q in cut_word ρ a w 3 v (omega arith)
-    pick false false true e m q = zero_extend_word ρ a w v (wider m q) o
-    pick false false false true m q = sign_extend_word ρ a w v z (wider m q)
-    pick false false false false m q = nothing_worth ρ o v
+convert_word ρ o Conversion.Copy v w a z q = let y = eqb-true v w q in zero_extend_word ρ a w v (omega arith) o
+convert_word ρ o Conversion.Cut v w a z q = let y = ltb-true v w q in cut_word ρ a w 3 v (omega arith)
+convert_word ρ o Conversion.ZeroExtend v w a z q = let y = ltb-true w v q in zero_extend_word ρ a w v (omega arith) o
+convert_word ρ o Conversion.SignExtend v w a z q = let y = ltb-true w v q in sign_extend_word ρ a w v z (omega arith)
 
 -- ---- sum, difference, product, quotient, remainder
 
-pub compute_word : (ins : Inputs) (ρ : Assign) → ρ 1 ≡ true → (op g : ℕ) (a b : Bits) (w : ℕ) → Models ins ρ g (computation op g a b w).nodes
+pub compute_word : (ins : Inputs) (ρ : Assign) → ρ 1 ≡ true → (op : Operation) (g : ℕ) (a b : Bits) (w : ℕ) → Models ins ρ g (computation op g a b w).nodes
     → value ρ (computation op g a b w).bits w ≡ computed op w (value ρ a w) (value ρ b w)
 compute_word ins ρ o op g a b w =
-    by_computation (λ x n. Models ins ρ g x.nodes → value ρ x.bits w ≡ n) op g a b w (value ρ a w) (value ρ b w)
+    by_computation (λ x n. Models ins ρ g x.nodes → value ρ x.bits w ≡ n) g a b w (value ρ a w) (value ρ b w) op
     (sum-word ins ρ g a b w o)
     (difference-word ins ρ g a b w o)
     (product-word ins ρ g a b w o)
     (quotient-word ins ρ g a b w o)
     (remainder-word ins ρ g a b w o)
-    (λ m. nothing_worth ρ o w)
 
 -- ---- commands
 
 module _ (bs ins : List ℕ) (h : Header) (fine : Fine bs h) (t : Target) (ds : List ℕ) (before : ℕ) (ρ : Assign) (o : ρ 1 ≡ true) where
   -- the run goes on with the state r, and comes to the wires s by the decisions
   pub record Alive (s : Wires) (r : State) : Type 0 where
-    pub unclaimed : s.claim ≡ Claim.Open
+    pub unclaimed : s.claim ≡ None
     pub come : lit ρ s.arrival ≡ true
-    pub going : r.outcome ≡ Outcome.Going
+    pub going : r.stop ≡ None
     pub worth : Worth bs h fine ρ s.lits r.values
 
   pub alive_through : (w : Wires) (c : Course) (r : State) → Alive w r → c ≡ Course.Passing → Tally bs h fine t ds before ρ w c r
@@ -122,7 +102,7 @@ module _ (bs ins : List ℕ) (h : Header) (fine : Fine bs h) (t : Target) (ds : 
   and-true : (a b : Bool) → a ≡ true → (a && b) ≡ b
   and-true a b e = ap (λ (x : Bool). x && b) e
 
-  came_here : (number array : ℕ) (index : Whole) → eqb number t.access ≡ true → course ds t.access before (came number array index ∷ []) ≡ Course.Arrived array index
+  came_here : (number array : ℕ) (index : Whole) → eqb number t.access ≡ true → course ds t.access before (came number array index ∷ []) ≡ Course.Arrived (landing array index)
   unfolding course_to
   came_here number array index e = rw e
 
@@ -172,10 +152,10 @@ module _ (bs ins : List ℕ) (h : Header) (fine : Fine bs h) (t : Target) (ds : 
       -- inside it goes on, outside it stops
       by_side : (b : Bool) → lit ρ u.arrival ≡ b → Entered (lies size (index_of bs r i)) b → Tally bs h fine t ds before ρ x.wires c (accessed bs h array i k r next)
       by_side b e (within p q) =
-          subst (λ (z : Lies). Tally bs h fine t ds before ρ x.wires c (arrive r (accesses k) (index_of bs r i) z next)) (sym p)
+          subst (λ (z : Option Side). Tally bs h fine t ds before ρ x.wires c (arrive r (accesses k) (index_of bs r i) z next)) (sym p)
           (alive_through x.wires c next (on (record { unclaimed = a.unclaimed; come = e ∙ q; going = a.going; worth = a.worth })) (came-past (accesses k) array (index_of bs r i) past))
       by_side b e (outside sd p q) =
-          subst (λ (z : Lies). Tally bs h fine t ds before ρ x.wires c (arrive r (accesses k) (index_of bs r i) z next)) (sym p)
+          subst (λ (z : Option Side). Tally bs h fine t ds before ρ x.wires c (arrive r (accesses k) (index_of bs r i) z next)) (sym p)
           (not_here bs h fine t ds before ρ x.wires c _ (ap (lit ρ) keeps ∙ e ∙ q) (inr (came-past (accesses k) array (index_of bs r i) past, refl)))
 
       at_past : Tally bs h fine t ds before ρ x.wires c (accessed bs h array i k r next)

@@ -1,5 +1,6 @@
 -- How the encoding and the execution of the same commands tally, under an assignment: the four ways, and that they go on. Assumes
 -- nothing.
+use Rattle.std.proofs.Common.{Option, None, Some, is_some}
 use mathlib.Core.Path.{◌≡◌, refl, sym, ap, subst}
 use mathlib.Core.List.{List}
 use mathlib.Core.Logic.{◌↔◌, ◌⊎◌, inl, inr}
@@ -13,10 +14,8 @@ use Rattle.routine_header.specs.declared.Header.{Header}
 use Rattle.run_state.specs.Side.{is_on}
 use Rattle.run_state.specs.State.{lies}
 use Rattle.run_state.specs.Run.{Execution, run_on}
-use Rattle.run_state.specs.Inner.Walker.{is_over}
-use Rattle.run_state.specs.declared.Outcome.{Outcome}
 use Rattle.run_state.specs.declared.State.{State}
-use Rattle.run_state.specs.Course.{course}
+use Rattle.run_state.specs.Course.{landing, course}
 use Rattle.run_state.specs.declared.Course.{Course}
 use Rattle.cnf.specs.Meaning.{Assign, lit}
 use Rattle.translation_command.specs.Command.{Encoding, nodes_then}
@@ -38,7 +37,7 @@ pub record Strays (c : Course) : Type 0 where
 
 -- nothing that comes after can come to the access: the run went astray, or it stopped
 abbrev pub Ended : Course → State → Type 0
-Ended c r = Strays c ⊎ ((c ≡ Course.Passing) × (is_over r.outcome ≡ true))
+Ended c r = Strays c ⊎ ((c ≡ Course.Passing) × (is_some r.stop ≡ true))
 
 pub ended_elsewhere : (c : Course) (r : State) → Ended c r → Elsewhere c
 ended_elsewhere c r (inl e) = subst Elsewhere (sym e.astray) tt
@@ -48,13 +47,13 @@ module _ (bs : List ℕ) (h : Header) (fine : Fine bs h) (t : Target) (ds : List
   -- the wires w after an encoding, the course c of the run over the same commands, and the state r that it left
   pub data Tally (w : Wires) (c : Course) (r : State) : Type 0 where
     -- the run went through, by the decisions, and arrival is true
-    through : w.claim ≡ Claim.Open → lit ρ w.arrival ≡ true → c ≡ Course.Passing → r.outcome ≡ Outcome.Going → Worth bs h fine ρ w.lits r.values → Tally w c r
+    through : w.claim ≡ None → lit ρ w.arrival ≡ true → c ≡ Course.Passing → r.stop ≡ None → Worth bs h fine ρ w.lits r.values → Tally w c r
     -- it did not, and arrival is false
-    lost : w.claim ≡ Claim.Open → lit ρ w.arrival ≡ false → Ended c r → Tally w c r
+    lost : w.claim ≡ None → lit ρ w.arrival ≡ false → Ended c r → Tally w c r
     -- the named access was in the encoding, the run did not come to it, and arrival there is false
     missed : is_made w.claim ≡ true → lit ρ w.arrival ≡ false → Elsewhere c → Tally w c r
     -- the run came to the named access, arrival there is true, and the side literal tells the side
-    here : (side array : ℕ) (index : Whole) → w.claim ≡ Claim.Made w.arrival side → lit ρ w.arrival ≡ true → c ≡ Course.Arrived array index
+    here : (side array : ℕ) (index : Whole) → w.claim ≡ Some (record { arrival = w.arrival; side = side }) → lit ρ w.arrival ≡ true → c ≡ Course.Arrived (landing array index)
         → (lit ρ side ≡ true) ↔ (is_on t.side (lies (array_size bs h array) index) ≡ true) → Tally w c r
 
   -- the same of two encodings
@@ -80,43 +79,43 @@ module _ (bs : List ℕ) (h : Header) (fine : Fine bs h) (t : Target) (ds : List
     next = go (g + length x.nodes) x.wires
 
     -- what is known of the course when the run goes on, or stops
-    on-course : (Q : Course → State → Type 0) → (is_over y.state.outcome ≡ false → Q (onward course₁ course₂) (on y.state).state)
-        → (is_over y.state.outcome ≡ true → Q course₁ y.state)
+    on-course : (Q : Course → State → Type 0) → (is_some y.state.stop ≡ false → Q (onward course₁ course₂) (on y.state).state)
+        → (is_some y.state.stop ≡ true → Q course₁ y.state)
         → Q (course ds t.access before (run_on y on).events) (run_on y on).state
     on-course Q p q =
         run_then_by (λ (z : Execution). Q (course ds t.access before z.events) z.state) y on
-        (λ e. subst (λ (c : Course). Q c (on y.state).state) (sym (course_append ds t.access before y.events (on y.state).events)) (p (ap is_over e)))
-        (λ a i s e. q (ap is_over e))
+        (λ e. subst (λ (c : Course). Q c (on y.state).state) (sym (course_append ds t.access before y.events (on y.state).events)) (p (ap is_some e)))
+        (λ a e. q (ap is_some e))
 
-    open_wires : x.wires.claim ≡ Claim.Open → (Q : Encoding → Type 0) → Q (nodes_then x.nodes next) → Q (encode_on g x go)
-    open_wires e Q q = subst (λ (c : Claim). Q (cond (is_made c) x (nodes_then x.nodes next))) (sym e) q
+    open_wires : x.wires.claim ≡ None → (Q : Encoding → Type 0) → Q (nodes_then x.nodes next) → Q (encode_on g x go)
+    open_wires e Q q = subst (λ (c : Option Claim). Q (cond (is_made c) x (nodes_then x.nodes next))) (sym e) q
 
     made_wires : is_made x.wires.claim ≡ true → (Q : Encoding → Type 0) → Q x → Q (encode_on g x go)
     made_wires e Q q = subst (λ (b : Bool). Q (cond b x (nodes_then x.nodes next))) (sym e) q
 
     -- both go on
     pub tally_then : Tallies x y
-        → (lit ρ x.wires.arrival ≡ true → x.wires.claim ≡ Claim.Open → y.state.outcome ≡ Outcome.Going
+        → (lit ρ x.wires.arrival ≡ true → x.wires.claim ≡ None → y.state.stop ≡ None
         → Worth bs h fine ρ x.wires.lits y.state.values → Tallies next (on y.state))
-        → (x.wires.claim ≡ Claim.Open → lit ρ x.wires.arrival ≡ false → lit ρ next.wires.arrival ≡ false)
+        → (x.wires.claim ≡ None → lit ρ x.wires.arrival ≡ false → lit ρ next.wires.arrival ≡ false)
         → (is_made x.wires.claim ≡ true → Elsewhere course₂) → Tallies (encode_on g x go) (run_on y on)
     tally_then (through e l p u w) alive dead misses =
         open_wires e (λ (z : Encoding). Tallies z (run_on y on))
         (on-course (λ (c : Course) (r : State). Tally next.wires c r)
         (λ f. subst (λ (c : Course). Tally next.wires (onward c course₂) (on y.state).state) (sym p) (alive l e u w))
-        (λ f. not_both (is_over y.state.outcome) f (ap is_over u)))
+        (λ f. not_both (is_some y.state.stop) f (ap is_some u)))
     tally_then (lost e l q) alive dead misses =
         open_wires e (λ (z : Encoding). Tallies z (run_on y on))
         (not_here next.wires _ _ (dead e l)
         (on-course Ended (λ f. still f q) (λ f. q)))
       where
-        still : is_over y.state.outcome ≡ false → Ended course₁ y.state → Ended (onward course₁ course₂) (on y.state).state
+        still : is_some y.state.stop ≡ false → Ended course₁ y.state → Ended (onward course₁ course₂) (on y.state).state
         still f (inl a) = inl (record { number = a.number; astray = ap (λ (c : Course). onward c course₂) a.astray })
-        still f (inr a) = not_both (is_over y.state.outcome) a.1 f
+        still f (inr a) = not_both (is_some y.state.stop) a.1 f
     tally_then (missed m l q) alive dead misses =
         made_wires m (λ (z : Encoding). Tallies z (run_on y on))
         (missed m l (on-course (λ (c : Course) (r : State). Elsewhere c) (λ f. elsewhere_then course₁ course₂ q (misses m)) (λ f. q)))
     tally_then (here side array index m l p q) alive dead misses =
         made_wires (ap is_made m) (λ (z : Encoding). Tallies z (run_on y on))
         (here side array index m l
-        (on-course (λ (c : Course) (r : State). c ≡ Course.Arrived array index) (λ f. ap (λ (c : Course). onward c course₂) p) (λ f. p)) q)
+        (on-course (λ (c : Course) (r : State). c ≡ Course.Arrived (landing array index)) (λ f. ap (λ (c : Course). onward c course₂) p) (λ f. p)) q)

@@ -1,5 +1,6 @@
 -- Wires all of whose literals are of variables before a given one. They stay so after more nodes, where a variable is put, and where two arms are
 -- joined. Assumes nothing.
+use Rattle.std.proofs.Common.{Option, None, Some}
 use mathlib.Core.Path.{◌≡◌, sym, ap, subst, ◌∙◌}
 use mathlib.Core.List.{List, [], ◌∷◌, ◌++◌}
 use Prim.Native.Nat.{ℕ, zero, suc, ◌+◌, ◌*◌, ◌<◌, ◌≤◌}
@@ -30,9 +31,9 @@ pub record Held (m g : ℕ) (lits : List ℕ) : Type 0 where
   pub places : (i : ℕ) → i < 32 * m → Before g (get_or lits i 0)
 
 -- so are the literals of a claim
-abbrev pub Named : ℕ → Claim → Type 0
-Named g Claim.Open = Unit {0}
-Named g (Claim.Made arrival side) = Before g arrival × Before g side
+abbrev pub Named : ℕ → Option Claim → Type 0
+Named g None = Unit {0}
+Named g (Some made) = Before g made.arrival × Before g made.side
 
 -- so are all literals of the wires
 pub record Wired (m g : ℕ) (s : Wires) : Type 0 where
@@ -44,9 +45,9 @@ pub record Wired (m g : ℕ) (s : Wires) : Type 0 where
 pub held_later : {m g : ℕ} {lits : List ℕ} (k : ℕ) → g ≤ k → Held m g lits → Held m k lits
 held_later k l b = record { count = b.count; places = λ i m. before_later k l (b.places i m) }
 
-pub named_later : {g : ℕ} (k : ℕ) (c : Claim) → g ≤ k → Named g c → Named k c
-named_later k Claim.Open l b = tt
-named_later k (Claim.Made arrival side) l b = (before_later k l b.0, before_later k l b.1)
+pub named_later : {g : ℕ} (k : ℕ) (c : Option Claim) → g ≤ k → Named g c → Named k c
+named_later k None l b = tt
+named_later k (Some made) l b = (before_later k l b.0, before_later k l b.1)
 
 pub wired_later : {m g : ℕ} {s : Wires} (k : ℕ) → g ≤ k → Wired m g s → Wired m k s
 wired_later {s = s} k l b = record {

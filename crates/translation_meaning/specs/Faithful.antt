@@ -1,5 +1,5 @@
 -- Demand 2: what the translation of an accepted claim says of every run.
-use Rattle.std.specs.Prelude.{ℕ, ◌+◌, ◌≡◌, ◌↔◌, List, true, length}
+use Rattle.std.specs.Prelude.{ℕ, ◌+◌, ◌≡◌, ◌↔◌, List, true, length, Some, Ok}
 use Rattle.slices.specs.Bytes.{entry}
 use Rattle.bitvec.specs.declared.Whole.{Whole}
 use Rattle.routine_header.specs.Header.{array_size}
@@ -11,7 +11,6 @@ use Rattle.run_inputs.specs.Inputs.{listed}
 use Rattle.run_state.specs.Side.{is_on}
 use Rattle.run_state.specs.State.{lies}
 use Rattle.run_state.specs.Run.{run_of}
-use Rattle.run_inputs.specs.declared.Listed.{Listed}
 use Rattle.run_state.specs.Goes.{goes_way, Comes, Reaches}
 use Rattle.arithmetic.specs.Input.{bits_of_word}
 use Rattle.netlist.specs.Node.{netlist_clauses}
@@ -19,7 +18,6 @@ use Rattle.cnf.specs.Meaning.{Assign, lit, sat}
 use Rattle.netlist.specs.Meaning.{Inputs, Extends, Agree}
 use Rattle.translation_command.specs.Command.{Encoding}
 use Rattle.translation_meaning.specs.Translation.{translation_of}
-use Rattle.translation_state.specs.declared.Claim.{Claim}
 use Rattle.lead.specs.Lead.{translates, claim_admission}
 use Rattle.lead.specs.declared.Target.{Target}
 
@@ -37,14 +35,14 @@ pub record Solves (ins : List ℕ) (x : Encoding) (ρ : Assign) : Type 0 where
 pub record Faithful (bs : List ℕ) (t : Target) (ds : List ℕ) (h : Header) (a : Arm) (k : Counts) : Type 0 where
   pub arrival : ℕ
   pub side : ℕ
-  pub claims : (translation_of bs t ds h a).wires.claim ≡ Claim.Made arrival side
-  pub solution : (ins : List ℕ) → listed bs ins h a k ≡ Listed.Accepted → Assign
-  pub solves : (ins : List ℕ) (e : listed bs ins h a k ≡ Listed.Accepted) → Solves ins (translation_of bs t ds h a) (solution ins e)
-  pub only : (ins : List ℕ) → listed bs ins h a k ≡ Listed.Accepted → (ρ σ : Assign) → Solves ins (translation_of bs t ds h a) ρ → Solves ins (translation_of bs t ds h a) σ
+  pub claims : (translation_of bs t ds h a).wires.claim ≡ Some (record { arrival = arrival; side = side })
+  pub solution : (ins : List ℕ) → listed bs ins h a k ≡ Ok tt → Assign
+  pub solves : (ins : List ℕ) (e : listed bs ins h a k ≡ Ok tt) → Solves ins (translation_of bs t ds h a) (solution ins e)
+  pub only : (ins : List ℕ) → listed bs ins h a k ≡ Ok tt → (ρ σ : Assign) → Solves ins (translation_of bs t ds h a) ρ → Solves ins (translation_of bs t ds h a) σ
       → Agree ρ σ (1 + length (translation_of bs t ds h a).nodes)
-  pub arrives : (ins : List ℕ) → listed bs ins h a k ≡ Listed.Accepted → (ρ : Assign) → Solves ins (translation_of bs t ds h a) ρ
+  pub arrives : (ins : List ℕ) → listed bs ins h a k ≡ Ok tt → (ρ : Assign) → Solves ins (translation_of bs t ds h a) ρ
       → (lit ρ arrival ≡ true) ↔ Reaches ds t.access (ifs_before a t.access) (run_of bs ins h a).events
-  pub lies : (ins : List ℕ) → listed bs ins h a k ≡ Listed.Accepted → (ρ : Assign) → Solves ins (translation_of bs t ds h a) ρ
+  pub lies : (ins : List ℕ) → listed bs ins h a k ≡ Ok tt → (ρ : Assign) → Solves ins (translation_of bs t ds h a) ρ
       → goes_way ds (ifs_before a t.access) (run_of bs ins h a).events ≡ true → (array : ℕ) (index : Whole) → Comes t.access array index (run_of bs ins h a).events
       → (lit ρ side ≡ true) ↔ (is_on t.side (lies (array_size bs h array) index) ≡ true)
 

@@ -1,5 +1,5 @@
 -- The translation of a routine, whole: its netlist, the claim, and the clauses.
-use Rattle.std.specs.Prelude.{ℕ, zero, suc, ◌+◌, List, [], ◌∷◌, ◌++◌, length, replicate}
+use Rattle.std.specs.Prelude.{ℕ, zero, suc, ◌+◌, List, [], ◌∷◌, ◌++◌, length, replicate, Option, None, Some}
 use Rattle.routine_header.specs.Header.{width}
 use Rattle.routine.specs.Routine.{Arm}
 use Rattle.routine_header.specs.declared.Header.{Header}
@@ -29,7 +29,7 @@ given_lits bs m (suc p) = bits_set bs (given_lits bs m p) p (in_bit (2 + length 
 
 -- the beginning: arrival is 2, and there is no claim yet
 unfoldable pub initial_wires : List ℕ → Header → Wires
-initial_wires bs h = record { lits = given_lits bs (all_places h) (given h); arrival = 2; claim = Claim.Open }
+initial_wires bs h = record { lits = given_lits bs (all_places h) (given h); arrival = 2; claim = None }
 
 -- variable 1 is true, then come the bits of all variables, parameters or not, then the commands
 unfoldable pub translation_of : List ℕ → Target → (ds : List ℕ) → Header → Arm → Encoding
@@ -38,9 +38,9 @@ translation_of bs t ds h a =
     (encode_arm bs h t ds a (2 + length (given_nodes bs (given h))) (initial_wires bs h))
 
 -- the last two clauses: {arrival}, {-side literal}
-abbrev pub last_clauses : Claim → List Clause
-last_clauses Claim.Open = []
-last_clauses (Claim.Made arrival side) = (arrival ∷ []) ∷ (opp side ∷ []) ∷ []
+abbrev pub last_clauses : Option Claim → List Clause
+last_clauses None = []
+last_clauses (Some made) = (made.arrival ∷ []) ∷ (opp made.side ∷ []) ∷ []
 
 -- the clauses of a translation
 unfoldable pub clauses_of_all : Encoding → List Clause

@@ -5,9 +5,10 @@ ghost use Rattle.translation_meaning.specs.Translation.{last_clauses};
 ghost use Rattle.translation_walk.specs.Inner.Walker.{ClaimEncoded};
 ghost use Rattle.translation_space.specs.Inner.Counted.{ClaimCounted};
 
-use cnf::{Store, append1};
+use cnf::{Store, append_clause};
 use lead::Target;
 use netlist::{Net, Node, emit, opposite};
+use routine_command::Mark;
 use routine_header::{Header, first_command};
 use translation_meaning::Size;
 use translation_state::literals::places_in;
@@ -16,16 +17,17 @@ use translation_walk::beginning::{begin_variables, first_walk};
 use translation_walk::walks::encode_arm;
 
 // The last two clauses: {arrival}, {-side literal}.
-fn append_claim(words: &mut [u32], starts: &mut [u32], s: Store, claim: Claim) -> Store
+#[tactic(auto, using(cnf::proofs::Appending::appended_none, cnf::proofs::Appending::appended_then))]
+fn append_claim(words: &mut [u32], starts: &mut [u32], s: Store, claim: Option<Claim>) -> Store
     requires { CountRoom s 2 4 }
     ensures { Appended words.old starts.old s (last_clauses claim) words.new starts.new result }
 {
     match claim {
-        Claim::Open => s,
-        Claim::Made { arrival, side } => {
-            let other = opposite(side);
-            let s1 = append1(words, starts, s, arrival);
-            append1(words, starts, s1, other)
+        None => s,
+        Some(made) => {
+            let other = opposite(made.side);
+            let s1 = append_clause(words, starts, s, [made.arrival]);
+            append_clause(words, starts, s1, [other])
         }
     }
 }
@@ -42,30 +44,24 @@ pub fn make(
     requires { IsRoutine bytes.now h }
     ensures { ClaimEncoded bytes.now h t decisions.now words.old starts.old words.new starts.new result }
 {
-    let nothing_yet = Store {
-        words: 0,
-        clauses: 0,
-    };
     let empty = Net {
-        store: nothing_yet,
+        store: Store {
+            words: 0,
+            clauses: 0,
+        },
         next: 1,
     };
     let n = emit(words, starts, empty, Node::One);
     let mut lits = [3u32; MOST_PLACES];
-    let places = places_in(h);
-    let own = &mut lits[..places];
+    let own = &mut lits[..places_in(h)];
     let net = begin_variables(own, n, bytes, h);
     let p = first_walk(first_command(h), net);
-    let r = encode_arm(words, starts, own, bytes, h, t, decisions, 0, 0x00, p);
-    let last = r.net;
-    let store = last.store;
-    let reach = r.reach;
-    let claim = reach.claim;
-    let all = append_claim(words, starts, store, claim);
+    let r = encode_arm(words, starts, own, bytes, h, t, decisions, 0, Mark::End, p);
+    let all = append_claim(words, starts, r.net.store, r.reach.claim);
     Size {
         clauses: all.clauses,
         words: all.words,
-        variables: last.next - 1,
+        variables: r.net.next - 1,
     }
 }
 
@@ -74,7 +70,5 @@ pub fn count(routine: &[u8], h: Header, t: Target, decisions: &[u8]) -> Size
     requires { IsRoutine routine.now h }
     ensures { ClaimCounted routine.now h t decisions.now result }
 {
-    let mut no_words = [0u32; 0];
-    let mut no_starts = [0u32; 0];
-    make(&mut no_words, &mut no_starts, routine, h, t, decisions)
+    make(&mut [], &mut [], routine, h, t, decisions)
 }

@@ -2,11 +2,11 @@
 use mathlib.Core.Path.{◌≡◌, refl, sym, ap, ◌∙◌}
 use mathlib.Core.List.{List, [], ◌∷◌}
 use Prim.Native.Nat.{ℕ, zero, suc, ◌+◌, ◌<◌, ◌≤◌}
-use native.Mathlib.Nat.{add-zero, zero-add, add-suc, suc-add}
+use native.Mathlib.Nat.{add-zero, add-suc, suc-add}
 use native.Mathlib.Numerals.{add-one}
 use native.Mathlib.Omega.{arith}
 use lib.ListN.{length, get_or, set, length-set}
-use lib.Seq.{sets, length-sets, ext_get_or, get_or-set_same, get_or-set_other}
+use lib.Seq.{sets, get_or-set_same, get_or-set_other}
 use Rattle.cnf.proofs.Appending.{sets_append}
 use Rattle.arithmetic.specs.Bits.{Bits, tabulate}
 use Rattle.arithmetic.proofs.Values.{length-tabulate}
@@ -27,12 +27,6 @@ sets_inside (v ∷ vs) l i zero h k =
 sets_inside (v ∷ vs) l i (suc j) h k =
     ap (λ (n : ℕ). get_or (sets (set l i v) (suc i) vs) n 0) (add-suc i j ∙ sym (suc-add i j))
     ∙ sets_inside vs (set l i v) (suc i) j (omega arith) (omega (arith, length-set l i v))
-
--- a list laid over one of its length is that list
-pub sets_whole : (vs l : List ℕ) → length vs ≡ length l → sets l 0 vs ≡ vs
-sets_whole vs l e =
-    let n = length-sets l 0 vs in
-    ext_get_or 0 (sets l 0 vs) vs (n ∙ sym e) (λ i h. rw (zero-add i) at (sets_inside vs l 0 i (omega (arith, n)) (omega (arith, n))))
 
 -- what stands in a place, put there again
 pub set_own : (l : List ℕ) (i : ℕ) → set l i (get_or l i 0) ≡ l

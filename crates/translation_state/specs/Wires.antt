@@ -1,6 +1,6 @@
 -- The state of a translation: the literals of the variables' bits, a group of places for each variable, the lowest bit first; the literal of arrival; and
 -- the claim, once the named access was come to.
-use Rattle.std.specs.Prelude.{ℕ, ◌*◌, List, Bool, true, false}
+use Rattle.std.specs.Prelude.{ℕ, ◌*◌, List, Bool, Option, Some, is_some}
 use Rattle.std.proofs.lemmas.List.Edits.{sets}
 use Rattle.routine_header.specs.Header.{width}
 use Rattle.routine_header.specs.declared.Header.{Header}
@@ -23,7 +23,7 @@ place_of v = variable_places * v
 pub record Wires : Type 0 where
   pub lits : List ℕ
   pub arrival : ℕ
-  pub claim : Claim
+  pub claim : Option Claim
 
 -- the bits of variable v: as many places as it is wide
 abbrev pub bits_in : (bs lits : List ℕ) → (v : ℕ) → Bits
@@ -47,9 +47,8 @@ arriving s arrival = record { lits = s.lits; arrival = arrival; claim = s.claim 
 
 -- the named access was come to: arrival there, and the literal of the side
 abbrev pub claiming : Wires → (side : ℕ) → Wires
-claiming s side = record { lits = s.lits; arrival = s.arrival; claim = Claim.Made s.arrival side }
+claiming s side = record { lits = s.lits; arrival = s.arrival; claim = Some (record { arrival = s.arrival; side = side }) }
 
 -- the claim was made, so that the translation is over
-abbrev pub is_made : Claim → Bool
-is_made Claim.Open = false
-is_made (Claim.Made arrival side) = true
+abbrev pub is_made : Option Claim → Bool
+is_made c = is_some c

@@ -7,22 +7,22 @@ pub mod literals;
 // The places of one variable.
 pub const VARIABLE_PLACES: usize = 32;
 
-// The most places that there can be: those of 32 variables.
+// The most places that there can be: those of 32 variables. Nothing is allocated, so that an else has its copy in an array.
 pub const MOST_PLACES: usize = 1024;
 
 // As many as few variables have: those of 8. Where these suffice, less is set up at each if.
 pub const FEW_PLACES: usize = 256;
 
-// The claim: none yet, or at the named access the literal of arrival and that of the side.
+// The claim: at the named access the literal of arrival and that of the side.
 #[derive(Clone, Copy)]
-pub enum Claim {
-    Open,
-    Made { arrival: u32, side: u32 },
+pub struct Claim {
+    pub arrival: u32,
+    pub side: u32,
 }
 
-// What a translation carries beside the literals: arrival, and the claim.
+// What a translation carries beside the literals: arrival, and the claim once it was made.
 #[derive(Clone, Copy)]
 pub struct Reach {
     pub arrival: u32,
-    pub claim: Claim,
+    pub claim: Option<Claim>,
 }

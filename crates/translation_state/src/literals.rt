@@ -4,7 +4,7 @@ ghost use Rattle.std.proofs.lemmas.List.Edits.{sets};
 ghost use Rattle.translation_state.specs.Wires.{all_places, is_made, place_of};
 ghost use Rattle.translation_state.specs.Inner.Reach.{reaching};
 
-use crate::{Claim, Reach, VARIABLE_PLACES};
+use crate::{Reach, VARIABLE_PLACES};
 use routine_header::Header;
 
 // The first place of variable v.
@@ -19,11 +19,7 @@ pub fn store_bits(lits: &mut [u32], place: usize, r: &[u32])
     requires { place + length r.now ≤ length lits.old }
     ensures { lits.new ≡ sets lits.old place r.now }
 {
-    let mut j = 0;
-    while j < r.len() {
-        lits[place + j] = r[j];
-        j += 1;
-    }
+    lits[place..place + r.len()].copy_from_slice(r);
 }
 
 // How many places the variables of a routine have.
@@ -38,24 +34,19 @@ pub fn copy_bits(to: &mut [u32], from: &[u32])
     requires { length to.old ≡ length from.now }
     ensures { to.new ≡ from.now }
 {
-    store_bits(to, 0, from);
+    to.copy_from_slice(from);
 }
 
 // Another arrival.
 pub fn with_arrival(s: Reach, arrival: u32) -> Reach
     ensures { result ≡ reaching s arrival }
 {
-    let claim = s.claim;
-    Reach { arrival, claim }
+    Reach { arrival, ..s }
 }
 
 // Whether the claim was made.
 pub fn is_made(s: Reach) -> bool
     ensures { result ≡ is_made s.claim }
 {
-    let claim = s.claim;
-    match claim {
-        Claim::Open => false,
-        Claim::Made { .. } => true,
-    }
+    s.claim.is_some()
 }

@@ -1,4 +1,5 @@
 -- An if and its two arms, from what the calls told: what each call asks, and what the if returns. Assumes nothing.
+use Rattle.routine_command.specs.declared.Mark.{Mark}
 use mathlib.Core.Path.{◌≡◌, refl, sym, ap, ◌∙◌}
 use mathlib.Core.List.{List}
 use mathlib.Core.Bool.{Bool, true, false}
@@ -38,22 +39,22 @@ module _ {bs : List ℕ} {h : Header} {t : Target} {ds : List ℕ} {depth : ℕ}
     pub if_starts : length u₁ ≡ length u
     if_starts = emitted-starts-length arrives.emitted
 
-  -- d is the decision that was read, and br what the condition and the arrivals of the arms are
-  module _ {d : ℕ} (e : d ≡ entry ds p.counts.ifs) {w u w₁ u₁ : List ℕ} {br : IfBegun} (b : BeginsIf bs w u p.net c d (wires_at l p) w₁ u₁ br) where
+  -- d is the decision that was read, that of if `number`, and br what the condition and the arrivals of the arms are
+  module _ {d number : ℕ} (e : d ≡ entry ds number) (numbered : number ≡ p.counts.ifs) {w u w₁ u₁ : List ℕ} {br : IfBegun} (b : BeginsIf bs w u p.net c d (wires_at l p) w₁ u₁ br) where
     branched : BeginsIf bs w u p.net c (entry ds p.counts.ifs) (wires_at l p) w₁ u₁ br
-    branched = branched_at _ e b
+    branched = branched_at _ (e ∙ ap (entry ds) numbered) b
 
     -- the walk v is at the first arm
     module _ {v : Walk} (f : v ≡ in_first (p.next + 4) p br) where
       pub first_asks : {n : ℕ} → 3 * (length bs - p.next) ≡ n → Fine bs h → is_made p.reach.claim ≡ false
-          → (3 * (length bs - v.next) + 2 < n) × (ArmReady bs h t ds (depth + 1) 12 l v × Fine bs h × (is_made v.reach.claim ≡ false))
+          → (3 * (length bs - v.next) + 2 < n) × (ArmReady bs h t ds (depth + 1) Mark.Else l v × Fine bs h × (is_made v.reach.claim ≡ false))
       first_asks q fine o =
           rw f
           (omega (arith, else-room bs h depth p.next p.counts a.some), (first-room bs h t ds depth c l p a.some branched a.room a.places, fine, o))
 
       -- the first arm ends at x
-      module _ {w₂ u₂ l₂ : List ℕ} {x : Walk} (m : ArmEncoded bs h t ds (depth + 1) 12 w₁ u₁ l v w₂ u₂ l₂ x) {k : Bool} (by : k ≡ is_made x.reach.claim) where
-        first_made : ArmEncoded bs h t ds (depth + 1) 12 w₁ u₁ l (in_first (p.next + 4) p br) w₂ u₂ l₂ x
+      module _ {w₂ u₂ l₂ : List ℕ} {x : Walk} (m : ArmEncoded bs h t ds (depth + 1) Mark.Else w₁ u₁ l v w₂ u₂ l₂ x) {k : Bool} (by : k ≡ is_made x.reach.claim) where
+        first_made : ArmEncoded bs h t ds (depth + 1) Mark.Else w₁ u₁ l (in_first (p.next + 4) p br) w₂ u₂ l₂ x
         first_made = arm_from _ _ refl f m
 
         pub first-over : k ≡ true → IfEncoded bs h t ds depth c w u l p w₂ u₂ l₂ x
@@ -62,7 +63,7 @@ module _ {bs : List ℕ} {h : Header} {t : Target} {ds : List ℕ} {depth : ℕ}
         -- the walk v₁ is at the else, with the literals l' that were copied
         module _ (o : k ≡ false) {l' : List ℕ} (copy : l' ≡ l) {v₁ : Walk} (f₁ : v₁ ≡ in_else p br x) where
           pub second_asks : {n : ℕ} → 3 * (length bs - p.next) ≡ n → Fine bs h → is_made p.reach.claim ≡ false
-              → (3 * (length bs - v₁.next) + 2 < n) × (ArmReady bs h t ds (depth + 1) 13 l' v₁ × Fine bs h × (is_made v₁.reach.claim ≡ false))
+              → (3 * (length bs - v₁.next) + 2 < n) × (ArmReady bs h t ds (depth + 1) Mark.EndIf l' v₁ × Fine bs h × (is_made v₁.reach.claim ≡ false))
           second_asks q fine z =
               let s = else-room bs h depth p.next p.counts a.some in
               rw (f₁, copy) (
@@ -71,8 +72,8 @@ module _ {bs : List ℕ} {h : Header} {t : Target} {ds : List ℕ} {depth : ℕ}
               )
 
           -- the else ends at y
-          module _ {w₃ u₃ l₃ : List ℕ} {y : Walk} (m₁ : ArmEncoded bs h t ds (depth + 1) 13 w₂ u₂ l' v₁ w₃ u₃ l₃ y) {k₁ : Bool} (by₁ : k₁ ≡ is_made y.reach.claim) where
-            second_made : ArmEncoded bs h t ds (depth + 1) 13 w₂ u₂ l (in_else p br x) w₃ u₃ l₃ y
+          module _ {w₃ u₃ l₃ : List ℕ} {y : Walk} (m₁ : ArmEncoded bs h t ds (depth + 1) Mark.EndIf w₂ u₂ l' v₁ w₃ u₃ l₃ y) {k₁ : Bool} (by₁ : k₁ ≡ is_made y.reach.claim) where
+            second_made : ArmEncoded bs h t ds (depth + 1) Mark.EndIf w₂ u₂ l (in_else p br x) w₃ u₃ l₃ y
             second_made = arm_from _ _ copy f₁ m₁
 
             pub second-over : {l₄ : List ℕ} → k₁ ≡ true → IfEncoded bs h t ds depth c w u l p w₃ u₃ l₄ y

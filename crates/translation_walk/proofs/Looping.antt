@@ -1,4 +1,5 @@
 -- The loop over an arm, from what its calls told: what each call asks, that the bytes left fall, and what the loop returns. Assumes nothing.
+use Rattle.routine_command.specs.declared.Mark.{Mark}
 use mathlib.Core.Path.{◌≡◌, sym, ◌∙◌}
 use mathlib.Core.List.{List}
 use mathlib.Core.Bool.{Bool, true, false}
@@ -25,12 +26,12 @@ use Rattle.translation_walk.specs.declared.Walk.{Walk}
 use Rattle.translation_walk.proofs.Translating.{Left, begun, arm-told, some_here, room_here, closed, stepped, stopped, if_roomy, forked_on, fork_stopped, if_falls}
 
 -- what the loop keeps: it began at p₀ with the literals l and is now at p with the literals l₁
-pub record Going (bs : List ℕ) (h : Header) (t : Target) (ds : List ℕ) (depth close : ℕ) (w u l : List ℕ) (p₀ : Walk) (w₁ u₁ l₁ : List ℕ) (p : Walk) : Type 0 where
+pub record Going (bs : List ℕ) (h : Header) (t : Target) (ds : List ℕ) (depth : ℕ) (close : Mark) (w u l : List ℕ) (p₀ : Walk) (w₁ u₁ l₁ : List ℕ) (p : Walk) : Type 0 where
   pub onward : p₀.next ≤ p.next
   pub long : length l₁ ≡ all_places h
   pub left : (i : SomeArm bs h depth close p₀.next p₀.counts) → Left bs h t ds depth close w u l p₀ i w₁ u₁ l₁ p
 
-module _ {bs : List ℕ} {h : Header} {t : Target} {ds : List ℕ} {depth close : ℕ} {l : List ℕ} {p₀ : Walk} (a : ArmReady bs h t ds depth close l p₀) where
+module _ {bs : List ℕ} {h : Header} {t : Target} {ds : List ℕ} {depth : ℕ} {close : Mark} {l : List ℕ} {p₀ : Walk} (a : ArmReady bs h t ds depth close l p₀) where
   pub begins : {w u : List ℕ} → is_made p₀.reach.claim ≡ false → Going bs h t ds depth close w u l p₀ w u l p₀
   begins {w} {u} o = record { onward = omega arith; long = a.places; left = λ i. begun bs h t ds depth close w u l p₀ i o }
 
@@ -57,7 +58,7 @@ module _ {bs : List ℕ} {h : Header} {t : Target} {ds : List ℕ} {depth close 
       pub no_missing : r ≡ Command.Missing → ⊥
       no_missing = not_missing bs h depth close p.next p.counts here r is
 
-      module _ {m : ℕ} (q : r ≡ Command.Close m) where
+      module _ {m : Mark} (q : r ≡ Command.Close m) where
         pub close_fits : p.next + 1 ≤ length bs
         close_fits = close_room bs h depth close p.next p.counts here r is m q
 

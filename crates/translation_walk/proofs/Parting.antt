@@ -1,4 +1,5 @@
 -- A walk over the two arms of an if: the room for each, and what they make together. Assumes nothing.
+use Rattle.routine_command.specs.declared.Mark.{Mark}
 use mathlib.Core.Path.{◌≡◌, sym, ap, subst, ◌∙◌}
 use mathlib.Core.List.{List, ◌++◌}
 use mathlib.Core.Bool.{true, false}
@@ -35,7 +36,7 @@ pub if_told : {bs : List ℕ} {h : Header} {t : Target} {ds : List ℕ} {depth :
 if_told {bs} {h} {depth = depth} i x = record {
   tells = λ first else k₁ second end k₂ y z.
       let e = same_arm i.stands-first y in
-      let v : Stands bs h (depth + 1) 0x0D i.else i.between second end k₂ = rw (e.1, e.2) z in
+      let v : Stands bs h (depth + 1) Mark.EndIf i.else i.between second end k₂ = rw (e.1, e.2) z in
       let f = same_arm i.stands-second v in
       rw (e.0, f.0, f.1, f.2) at x;
 }
@@ -93,14 +94,14 @@ module _ (bs : List ℕ) (h : Header) (t : Target) (ds : List ℕ) (depth : ℕ)
     first_is : first br.net.next (arriving s br.first) ≡ First
     first_is = λ j. first (from_first j) (arriving s (b.first j))
 
-    pub first-room : Roomy p.net Fork → length l ≡ all_places h → ArmReady bs h t ds (depth + 1) 12 l (in_first (p.next + 4) p br)
+    pub first-room : Roomy p.net Fork → length l ≡ all_places h → ArmReady bs h t ds (depth + 1) Mark.Else l (in_first (p.next + 4) p br)
     first-room r long = record {
       some = record { arm = i.first; end = i.else; after = i.between; stands = i.stands-first };
       room = rw first_is (ready-after (2 ^ 25 + length First.nodes) b.emitted r (omega (arith, first_longer)));
       places = long;
     }
 
-    module _ {w₂ u₂ l₂ : List ℕ} {x : Walk} (a : ArmEncoded bs h t ds (depth + 1) 12 w₁ u₁ l (in_first (p.next + 4) p br) w₂ u₂ l₂ x) where
+    module _ {w₂ u₂ l₂ : List ℕ} {x : Walk} (a : ArmEncoded bs h t ds (depth + 1) Mark.Else w₁ u₁ l (in_first (p.next + 4) p br) w₂ u₂ l₂ x) where
       first-arrives : WalksTo w₁ u₁ br.net First i.else i.between w₂ u₂ l₂ x
       first-arrives =
           subst (λ (z : Encoding). WalksTo w₁ u₁ br.net z i.else i.between w₂ u₂ l₂ x) first_is (a.tells i.first i.else i.between i.stands-first)
@@ -128,10 +129,10 @@ module _ (bs : List ℕ) (h : Header) (t : Target) (ds : List ℕ) (depth : ℕ)
         two_made : Emitted w u p.net (Front ++ First.nodes) w₂ u₂ x.net
         two_made = emitted_then b.emitted first-arrives.emitted
 
-        else-stands : Stands bs h (depth + 1) 13 x.next x.counts i.second i.end i.after
+        else-stands : Stands bs h (depth + 1) Mark.EndIf x.next x.counts i.second i.end i.after
         else-stands = rw (first-arrives.next o, first-arrives.counts o) i.stands-second
 
-        pub second-room : Roomy p.net Fork → length l ≡ all_places h → ArmReady bs h t ds (depth + 1) 13 l (in_else p br x)
+        pub second-room : Roomy p.net Fork → length l ≡ all_places h → ArmReady bs h t ds (depth + 1) Mark.EndIf l (in_else p br x)
         second-room r long = record {
           some = record { arm = i.second; end = i.end; after = i.after; stands = else-stands };
           room =
@@ -141,7 +142,7 @@ module _ (bs : List ℕ) (h : Header) (t : Target) (ds : List ℕ) (depth : ℕ)
           places = long;
         }
 
-        module _ {w₃ u₃ l₃ : List ℕ} {y : Walk} (a₁ : ArmEncoded bs h t ds (depth + 1) 13 w₂ u₂ l (in_else p br x) w₃ u₃ l₃ y) where
+        module _ {w₃ u₃ l₃ : List ℕ} {y : Walk} (a₁ : ArmEncoded bs h t ds (depth + 1) Mark.EndIf w₂ u₂ l (in_else p br x) w₃ u₃ l₃ y) where
           second-arrives : WalksTo w₂ u₂ x.net Second i.end i.after w₃ u₃ l₃ y
           second-arrives =
               subst (λ (z : Encoding). WalksTo w₂ u₂ x.net z i.end i.after w₃ u₃ l₃ y) second_is (a₁.tells i.second i.end i.after else-stands)

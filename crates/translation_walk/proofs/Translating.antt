@@ -1,4 +1,5 @@
 -- A walk over an arm: what was made so far and what is left make what the whole makes. Assumes nothing.
+use Rattle.routine_command.specs.declared.Mark.{Mark}
 use mathlib.Core.Path.{◌≡◌, refl, sym, ap, subst, ◌∙◌}
 use mathlib.Core.List.{List, [], ◌++◌, append_assoc, append-nil}
 use mathlib.Core.Bool.{true, false}
@@ -56,13 +57,13 @@ then_longer g x go =
 
 -- ---- what stands there is only one arm
 
-module _ {bs : List ℕ} {h : Header} {depth close at : ℕ} {k : Counts} {a b : Arm} {end end₁ : ℕ} {k₁ k₂ : Counts} where
+module _ {bs : List ℕ} {h : Header} {depth : ℕ} {close : Mark} {at : ℕ} {k : Counts} {a b : Arm} {end end₁ : ℕ} {k₁ k₂ : Counts} where
   pub same_arm : Stands bs h depth close at k a end k₁ → Stands bs h depth close at k b end₁ k₂ → (a ≡ b) × (end ≡ end₁) × (k₁ ≡ k₂)
   same_arm x y = let z : parsed a end k₁ ≡ parsed b end₁ k₂ = sym x.reads ∙ y.reads in (cc, cc, cc)
 
 -- ---- the same walk
 
-module _ {bs : List ℕ} {h : Header} {t : Target} {ds : List ℕ} {depth close : ℕ} {w u l w₁ u₁ l₁ : List ℕ} {p r : Walk} where
+module _ {bs : List ℕ} {h : Header} {t : Target} {ds : List ℕ} {depth : ℕ} {close : Mark} {w u l w₁ u₁ l₁ : List ℕ} {p r : Walk} where
   pub arm_from : (m : List ℕ) (q : Walk) → l ≡ m → p ≡ q → ArmEncoded bs h t ds depth close w u l p w₁ u₁ l₁ r → ArmEncoded bs h t ds depth close w u m q w₁ u₁ l₁ r
   arm_from m q f e x =
       subst (λ (z : Walk). ArmEncoded bs h t ds depth close w u m z w₁ u₁ l₁ r) e
@@ -91,7 +92,7 @@ over {r = r} x p q m = record {
 
 -- ---- the walk over an arm
 
-module _ (bs : List ℕ) (h : Header) (t : Target) (ds : List ℕ) (depth close : ℕ) where
+module _ (bs : List ℕ) (h : Header) (t : Target) (ds : List ℕ) (depth : ℕ) (close : Mark) where
   -- the walk began at p₀ with the literals l, where the arm of i stands, and is now at p with the literals l₁; a rest of the arm is left
   pub record Left (w u l : List ℕ) (p₀ : Walk) (i : SomeArm bs h depth close p₀.next p₀.counts) (w₁ u₁ l₁ : List ℕ) (p : Walk) : Type 0 where
     pub nodes : List Node
@@ -149,7 +150,7 @@ module _ (bs : List ℕ) (h : Header) (t : Target) (ds : List ℕ) (depth close 
             (over (record { nodes = y.nodes ++ x.nodes; wires = x.wires }) (emitted_then y.emitted a.emitted) a.claim o)
 
       module _ (r : Command) (is : r ≡ command_at bs p.next) where
-        pub closed : (m : ℕ) → r ≡ Command.Close m
+        pub closed : (m : Mark) → r ≡ Command.Close m
             → WalksTo w u p₀.net Whole i.end i.after w₁ u₁ l₁ (record { next = p.next + 1; counts = p.counts; net = p.net; reach = p.reach })
         unfolding encode_arm
         closed m q =

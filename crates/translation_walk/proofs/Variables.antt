@@ -11,9 +11,9 @@ use Rattle.routine_faults.specs.Inner.Sound.{Fine}
 use Rattle.routine_faults.specs.Inputs.{given}
 use Rattle.routine_header.specs.declared.Header.{Header}
 use Rattle.netlist.specs.declared.Node.{Node}
-use Rattle.netlist.specs.Inner.Emit.{Emitted}
+use Rattle.netlist.specs.Inner.Emit.{Emitted, Ready}
 use Rattle.netlist.specs.declared.Net.{Net}
-use Rattle.netlist.proofs.Emitting.{emitted_then}
+use Rattle.netlist.proofs.Emitting.{emitted_then, ready-after}
 use Rattle.arithmetic.specs.Bits.{tabulate}
 use Rattle.arithmetic.specs.Input.{inputs, in_bit}
 use Rattle.arithmetic.specs.Inner.Taken.{TakesInputs}
@@ -28,6 +28,11 @@ some-few bs h f zero l = omega arith
 some-few bs h f (suc p) l =
     let r = ranged bs h p f (omega arith) in
     simp (length-append, length-inputs) (omega (arith, some-few bs h f p (omega arith), r.few))
+
+-- after some variables there is room for one more
+pub given_ready : {bs : List ℕ} {h : Header} {p : ℕ} {W U : List ℕ} {n n₁ : Net} → Fine bs h → p ≤ given h → Emitted W U n (given_nodes bs p) W U n₁ → Ready n 2048
+    → Ready n₁ 32
+given_ready {bs} {h} {p} f l q r = ready-after 32 q r (omega (arith, some-few bs h f p l, f.few))
 
 module _ (bs : List ℕ) (n n₁ n₂ : Net) (p w : ℕ) (e : w ≡ width bs p) (q : (W U : List ℕ) → Emitted W U n (given_nodes bs p) W U n₁) (r : TakesInputs n₁ w n₂) where
   pub given_made : (W U : List ℕ) → Emitted W U n (given_nodes bs (p + 1)) W U n₂

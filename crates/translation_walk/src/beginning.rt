@@ -11,8 +11,8 @@ use netlist::Net;
 use routine_faults::steps::no_counts;
 use routine_faults::words::given_of;
 use routine_header::{Header, width_of};
+use translation_state::Reach;
 use translation_state::literals::{place_of, store_bits};
-use translation_state::{Claim, Reach};
 
 // The bits of all variables of the routine, from variable 0 on, take the next variables of the clauses.
 pub fn begin_variables(lits: &mut [u32], n: Net, bytes: &[u8], h: Header) -> Net
@@ -23,13 +23,11 @@ pub fn begin_variables(lits: &mut [u32], n: Net, bytes: &[u8], h: Header) -> Net
 {
     let count = given_of(h);
     let mut net = n;
-    let mut p = 0;
-    while p < count {
-        let w = width_of(bytes, p) as usize;
+    for p in 0..count {
+        let w = usize::from(width_of(bytes, p));
         let bits = input_bits(net.next);
         net = take_inputs(net, w);
         store_bits(lits, place_of(p), &bits[..w]);
-        p += 1;
     }
     net
 }
@@ -38,14 +36,13 @@ pub fn begin_variables(lits: &mut [u32], n: Net, bytes: &[u8], h: Header) -> Net
 pub fn first_walk(next: usize, net: Net) -> Walk
     ensures { result ≡ beginning next net }
 {
-    let counts = no_counts();
     Walk {
         next,
-        counts,
+        counts: no_counts(),
         net,
         reach: Reach {
             arrival: 2,
-            claim: Claim::Open,
+            claim: None,
         },
     }
 }

@@ -24,11 +24,11 @@ use translation_state::literals::{is_made, with_arrival};
 pub fn is_over(p: Walk) -> bool
     ensures { result ≡ is_made p.reach.claim }
 {
-    let s = p.reach;
-    is_made(s)
+    is_made(p.reach)
 }
 
 // Translates the command c, which is no if, where the walk is.
+#[tactic(auto, using(crate::proofs::Translating::arrives_by))]
 pub fn walk_simple(
     words: &mut [u32],
     starts: &mut [u32],
@@ -44,19 +44,26 @@ pub fn walk_simple(
     requires fine { Fine bytes.now h × (is_made here.reach.claim ≡ false) }
     ensures { WalksTo words.old starts.old here.net (simple bytes.now h t here.net.next c here.counts (wires_at lits.old here)) (here.next + simple_size c) (counts_after c here.counts) words.new starts.new lits.new result }
 {
-    let n = here.net;
-    let k = here.counts;
-    let s = here.reach;
+    // told before the call, which is a little faster than after it
     let next = here.next + simple_size(c);
-    let counts = counts_after(c, k);
-    let m = encode_simple(words, starts, lits, n, bytes, h, t, c, k, s);
-    let net = m.net;
-    let reach = m.reach;
+    let counts = counts_after(c, here.counts);
+    let m = encode_simple(
+        words,
+        starts,
+        lits,
+        here.net,
+        bytes,
+        h,
+        t,
+        c,
+        here.counts,
+        here.reach,
+    );
     Walk {
         next,
         counts,
-        net,
-        reach,
+        net: m.net,
+        reach: m.reach,
     }
 }
 
@@ -65,15 +72,11 @@ pub fn in_first(next: usize, here: Walk, b: IfBegun) -> Walk
     requires { here.counts.ifs < 32 }
     ensures { result ≡ in_first next here b }
 {
-    let s = here.reach;
-    let counts = counts_after_if(here.counts);
-    let net = b.net;
-    let reach = with_arrival(s, b.first);
     Walk {
         next,
-        counts,
-        net,
-        reach,
+        counts: counts_after_if(here.counts),
+        net: b.net,
+        reach: with_arrival(here.reach, b.first),
     }
 }
 
@@ -81,19 +84,14 @@ pub fn in_first(next: usize, here: Walk, b: IfBegun) -> Walk
 pub fn in_else(here: Walk, b: IfBegun, x: Walk) -> Walk
     ensures { result ≡ in_else here b x }
 {
-    let s = here.reach;
-    let counts = x.counts;
-    let net = x.net;
-    let reach = with_arrival(s, b.second);
     Walk {
-        next: x.next,
-        counts,
-        net,
-        reach,
+        reach: with_arrival(here.reach, b.second),
+        ..x
     }
 }
 
 // The walk after an if whose condition is c: the first arm ended at x with lits, the else at y with other.
+#[tactic(auto, using(crate::proofs::Translating::arrives_by))]
 pub fn walk_join(
     words: &mut [u32],
     starts: &mut [u32],
@@ -108,17 +106,12 @@ pub fn walk_join(
     requires { Ready y.net 8192 × (length lits.old ≡ all_places h) × (length other.now ≡ all_places h) × Fine bytes.now h }
     ensures { WalksTo words.old starts.old y.net (join_arms bytes.now h y.net.next c (wires_at lits.old x) (wires_at other.now y)) y.next y.counts words.new starts.new lits.new result }
 {
-    let n = y.net;
-    let xs = x.reach;
-    let ys = y.reach;
-    let m = join_arms(words, starts, lits, n, bytes, h, c, xs, other, ys);
-    let counts = y.counts;
-    let net = m.net;
-    let reach = m.reach;
+    let m = join_arms(
+        words, starts, lits, y.net, bytes, h, c, x.reach, other, y.reach,
+    );
     Walk {
-        next: y.next,
-        counts,
-        net,
-        reach,
+        net: m.net,
+        reach: m.reach,
+        ..y
     }
 }

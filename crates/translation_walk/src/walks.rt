@@ -8,14 +8,15 @@ use crate::Walk;
 use crate::steps::{in_else, in_first, is_over, walk_join, walk_simple};
 use lead::Target;
 use routine_command::commands::command_at;
-use routine_command::{Command, Condition};
+use routine_command::{Command, Condition, Mark};
 use routine_header::Header;
 use slices::byte_at;
 use translation_if::begin_if;
 use translation_state::literals::copy_bits;
 use translation_state::{FEW_PLACES, MOST_PLACES};
 
-// Translates the arm that stands where the walk is, inside `depth` ifs and ended by the command byte `close`; ds are the decisions.
+// Translates the arm that stands where the walk is, inside `depth` ifs and ended by the mark `close`; ds are the decisions. No index is
+// counted: a command's size tells where the next one stands.
 #[cycle(encode_arm_encode_arms_encode_if)]
 pub fn encode_arm(
     words: &mut [u32],
@@ -26,7 +27,7 @@ pub fn encode_arm(
     t: Target,
     ds: &[u8],
     depth: u8,
-    close: u8,
+    close: Mark,
     here: Walk,
 ) -> Walk
     requires { ArmReady bytes.now h t ds.now depth close lits.old here × Fine bytes.now h × (is_made here.reach.claim ≡ false) }
@@ -103,20 +104,17 @@ fn encode_arms(
     requires other_len { length other.old ≡ length lits.old }
     ensures { IfEncoded bytes.now h t ds.now depth c words.old starts.old lits.old here words.new starts.new lits.new result }
 {
-    let n = here.net;
-    let s = here.reach;
-    let k = here.counts;
     let deep = depth + 1;
     copy_bits(other, lits);
-    let d = byte_at(ds, k.ifs as usize);
-    let b = begin_if(words, starts, lits, n, bytes, h, c, d, s);
+    let d = byte_at(ds, usize::from(here.counts.ifs));
+    let b = begin_if(words, starts, lits, here.net, bytes, h, c, d, here.reach);
     let p = in_first(here.next + 4, here, b);
-    let x = encode_arm(words, starts, lits, bytes, h, t, ds, deep, 0x0C, p);
+    let x = encode_arm(words, starts, lits, bytes, h, t, ds, deep, Mark::Else, p);
     if is_over(x) {
         return x;
     }
     let q = in_else(here, b, x);
-    let y = encode_arm(words, starts, other, bytes, h, t, ds, deep, 0x0D, q);
+    let y = encode_arm(words, starts, other, bytes, h, t, ds, deep, Mark::EndIf, q);
     if is_over(y) {
         return y;
     }

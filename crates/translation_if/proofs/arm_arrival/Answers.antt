@@ -4,6 +4,3 @@ use Rattle.translation_if.proofs.arm_arrival.Goals as goal
 
 pub returns-then-other : goal.returns-then-other
 returns-then-other c = rw c.if-other.true (record { emitted = emitted-none _ _ _; lit = refl })
-
-pub returns : goal.returns
-returns c = rw c.if-other.false (record { emitted = c.emit-net.ensures; lit = refl })

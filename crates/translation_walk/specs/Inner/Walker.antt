@@ -1,5 +1,6 @@
 -- What the walkers over the bytes of an accepted routine tell: of whatever arm stands there.
-use Rattle.std.specs.Prelude.{ℕ, ◌+◌, ◌^◌, ◌≡◌, List, false, length}
+use Rattle.routine_command.specs.declared.Mark.{Mark}
+use Rattle.std.specs.Prelude.{ℕ, ◌+◌, ◌^◌, ◌≡◌, List, false, length, None}
 use Rattle.slices.specs.Bytes.{entry}
 use Rattle.routine_faults.specs.Step.{counts_after_if}
 use Rattle.routine_faults.specs.Inputs.{given}
@@ -21,7 +22,6 @@ use Rattle.translation_meaning.specs.Translation.{given_nodes, given_lits, trans
 use Rattle.lead.specs.declared.Target.{Target}
 use Rattle.translation_walk.specs.declared.Walk.{Walk}
 use Rattle.translation_if.specs.declared.IfBegun.{IfBegun}
-use Rattle.translation_state.specs.declared.Claim.{Claim}
 use Rattle.translation_meaning.specs.declared.Size.{Size}
 
 -- the wires where a walk is, the lent literals being lits
@@ -30,7 +30,7 @@ wires_at lits p = wires_of lits p.reach
 
 -- the walk at the first command: arrival is 2, and there is no claim
 abbrev pub beginning : (next : ℕ) → Net → Walk
-beginning next n = record { next = next; counts = no_counts; net = n; reach = record { arrival = 2; claim = Claim.Open } }
+beginning next n = record { next = next; counts = no_counts; net = n; reach = record { arrival = 2; claim = None } }
 
 -- the walk at the first arm of the if where p is
 abbrev pub in_first : (next : ℕ) → (p : Walk) → IfBegun → Walk
@@ -53,12 +53,12 @@ abbrev pub Roomy : Net → Encoding → Type 0
 Roomy n x = Ready n (2 ^ 25 + length x.nodes)
 
 -- an arm, translated from where the walk p is, with the literals l
-pub record ArmEncoded (bs : List ℕ) (h : Header) (t : Target) (ds : List ℕ) (depth close : ℕ) (w u l : List ℕ) (p : Walk) (w₁ u₁ l₁ : List ℕ) (r : Walk) : Type 0 where
+pub record ArmEncoded (bs : List ℕ) (h : Header) (t : Target) (ds : List ℕ) (depth : ℕ) (close : Mark) (w u l : List ℕ) (p : Walk) (w₁ u₁ l₁ : List ℕ) (r : Walk) : Type 0 where
   pub tells : (a : Arm) (end : ℕ) (k₁ : Counts) → Stands bs h depth close p.next p.counts a end k₁
       → WalksTo w u p.net (encode_arm bs h t ds a p.net.next (wires_at l p)) end k₁ w₁ u₁ l₁ r
 
 -- some arm stands there, there is room for it, and the literals have their places
-pub record ArmReady (bs : List ℕ) (h : Header) (t : Target) (ds : List ℕ) (depth close : ℕ) (l : List ℕ) (p : Walk) : Type 0 where
+pub record ArmReady (bs : List ℕ) (h : Header) (t : Target) (ds : List ℕ) (depth : ℕ) (close : Mark) (l : List ℕ) (p : Walk) : Type 0 where
   pub some : SomeArm bs h depth close p.next p.counts
   pub room : Roomy p.net (encode_arm bs h t ds some.arm p.net.next (wires_at l p))
   pub places : length l ≡ all_places h
@@ -71,7 +71,7 @@ if_of bs h t ds c l p first second =
 -- an if, translated from where the walk p is, with the literals l
 pub record IfEncoded (bs : List ℕ) (h : Header) (t : Target) (ds : List ℕ) (depth : ℕ) (c : Condition) (w u l : List ℕ) (p : Walk) (w₁ u₁ l₁ : List ℕ) (r : Walk) : Type 0 where
   pub tells : (first : Arm) (else : ℕ) (k₁ : Counts) (second : Arm) (end : ℕ) (k₂ : Counts)
-      → Stands bs h (depth + 1) 0x0C (p.next + 4) (counts_after_if p.counts) first else k₁ → Stands bs h (depth + 1) 0x0D else k₁ second end k₂
+      → Stands bs h (depth + 1) Mark.Else (p.next + 4) (counts_after_if p.counts) first else k₁ → Stands bs h (depth + 1) Mark.EndIf else k₁ second end k₂
       → WalksTo w u p.net (if_of bs h t ds c l p first second) end k₂ w₁ u₁ l₁ r
 
 -- two arms stand there, there is room for their if, and the literals have their places

@@ -1,9 +1,6 @@
-use mathlib.Core.Path.{refl}
 use native.Mathlib.Omega.{arith}
 use lib.ListN.{length}
-use borrow.Author.Tests.{ne_eqb}
-use Rattle.netlist.proofs.Emitting.{emitted-none, ready_weaken}
-use Rattle.arithmetic.specs.Bits.{tabulate}
+use Rattle.netlist.proofs.Emitting.{ready_weaken}
 use Rattle.translation_command.specs.Operation.{computation}
 use Rattle.translation_command.proofs.Commanding.{division_few, square_few}
 use Rattle.translation_command.proofs.operations.compute.Goals as goal
@@ -22,31 +19,25 @@ pub remainder_bits-bits-requires : goal.remainder_bits-bits-requires
 remainder_bits-bits-requires c =
     (omega (arith, c.requires.ready.next, division_few (length c.args.a.now) c.requires.a_nonzero.1), c.requires.a_nonzero.0, omega (arith, c.requires.a_nonzero.1))
 
-pub emit_division-net-requires-in-15 : goal.emit_division-net-requires-in-15
-emit_division-net-requires-in-15 c = record { ready = ready_weaken (division_few (length c.args.a.now) c.requires.a_nonzero.1) c.requires.ready; d_len = c.requires.b_len; s_len_bound = omega (arith, c.requires.a_nonzero.1) }
+pub emit_division-net-requires-in-Remainder : goal.emit_division-net-requires-in-Remainder
+emit_division-net-requires-in-Remainder c = record { ready = ready_weaken (division_few (length c.args.a.now) c.requires.a_nonzero.1) c.requires.ready; d_len = c.requires.b_len; s_len_bound = omega (arith, c.requires.a_nonzero.1) }
 
-pub returns-in-3 : goal.returns-in-3
+pub returns-in-Add : goal.returns-in-Add
 unfolding computation
-returns-in-3 c = rw c.in-3.is (record { emitted = c.emit_sum-net.ensures; bits = c.sum_bits-bits.ensures })
+returns-in-Add c = rw c.in-Add.is (record { emitted = c.emit_sum-net.ensures; bits = c.sum_bits-bits.ensures })
 
-pub returns-in-4 : goal.returns-in-4
+pub returns-in-Subtract : goal.returns-in-Subtract
 unfolding computation
-returns-in-4 c = rw c.in-4.is (record { emitted = c.emit_difference-net.ensures; bits = c.sum_bits-bits-in-4.ensures })
+returns-in-Subtract c = rw c.in-Subtract.is (record { emitted = c.emit_difference-net.ensures; bits = c.sum_bits-bits-in-Subtract.ensures })
 
-pub returns-in-5 : goal.returns-in-5
+pub returns-in-Multiply : goal.returns-in-Multiply
 unfolding computation
-returns-in-5 c = rw c.in-5.is c.emit_product.ensures
+returns-in-Multiply c = rw c.in-Multiply.is c.emit_product.ensures
 
-pub returns-in-14 : goal.returns-in-14
+pub returns-in-Quotient : goal.returns-in-Quotient
 unfolding computation
-returns-in-14 c = rw c.in-14.is (record { emitted = c.emit_division-net.ensures; bits = c.quotient_bits-bits.ensures })
+returns-in-Quotient c = rw c.in-Quotient.is (record { emitted = c.emit_division-net.ensures; bits = c.quotient_bits-bits.ensures })
 
-pub returns-in-15 : goal.returns-in-15
+pub returns-in-Remainder : goal.returns-in-Remainder
 unfolding computation
-returns-in-15 c = rw c.in-15.is (record { emitted = c.emit_division-net-in-15.ensures; bits = c.remainder_bits-bits.ensures })
-
-pub returns-in_default : goal.returns-in_default
-unfolding computation tabulate
-returns-in_default c =
-    simp (ne_eqb c.args.op 3 (omega arith), ne_eqb c.args.op 4 (omega arith), ne_eqb c.args.op 5 (omega arith), ne_eqb c.args.op 14 (omega arith), ne_eqb c.args.op 15 (omega arith))
-    (record { emitted = emitted-none _ _ _; bits = refl })
+returns-in-Remainder c = rw c.in-Remainder.is (record { emitted = c.emit_division-net-in-Remainder.ensures; bits = c.remainder_bits-bits.ensures })

@@ -1,27 +1,17 @@
 use native.Mathlib.Omega.{arith}
-use Rattle.netlist.specs.Inner.Emit.{Ready}
-use Rattle.netlist.proofs.Emitting.{ready-after, ready_weaken}
 use Rattle.translation_state.specs.Inner.Reach.{wires_of}
-use Rattle.translation_if.proofs.Branching.{arms_joined, join-few}
+use Rattle.translation_if.proofs.Branching.{arms_joined, joined_ready}
 use Rattle.translation_if.proofs.joins.join_arms.Goals as goal
 
 pub overflow_mul-arrival : goal.overflow_mul-arrival
-overflow_mul-arrival c =
-    let room : Ready c.join_groups-n1.result 2 =
-    ready-after 2 c.join_groups-n1.ensures.emitted c.requires.ready (omega (arith, join-few c.args.bytes.now c.args.h c.requires.fine c.args.n.next c.args.c c.args.lits.now c.args.other.now c.args.h.variables (omega arith), c.requires.fine.few))
-    in omega (arith, room.next)
+overflow_mul-arrival c = omega (arith, (joined_ready _ _ c.requires.fine _ _ _ _ c.join_groups-n1.ensures.emitted c.requires.ready).next)
 
 pub overflow_add-arrival : goal.overflow_add-arrival
-overflow_add-arrival c =
-    let room : Ready c.join_groups-n1.result 2 =
-    ready-after 2 c.join_groups-n1.ensures.emitted c.requires.ready (omega (arith, join-few c.args.bytes.now c.args.h c.requires.fine c.args.n.next c.args.c c.args.lits.now c.args.other.now c.args.h.variables (omega arith), c.requires.fine.few))
-    in omega (arith, room.next)
+overflow_add-arrival c = omega (arith, (joined_ready _ _ c.requires.fine _ _ _ _ c.join_groups-n1.ensures.emitted c.requires.ready).next)
 
 pub emit-net-requires : goal.emit-net-requires
 emit-net-requires c =
-    let room : Ready c.join_groups-n1.result 2 =
-    ready-after 2 c.join_groups-n1.ensures.emitted c.requires.ready (omega (arith, join-few c.args.bytes.now c.args.h c.requires.fine c.args.n.next c.args.c c.args.lits.now c.args.other.now c.args.h.variables (omega arith), c.requires.fine.few))
-    in ready_weaken (omega arith) room
+    joined_ready _ _ c.requires.fine _ _ _ _ c.join_groups-n1.ensures.emitted c.requires.ready
 
 pub returns : goal.returns
 returns c =

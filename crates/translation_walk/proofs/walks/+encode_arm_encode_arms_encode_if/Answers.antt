@@ -67,24 +67,24 @@ encode_arms-overflow_add-here t c =
 
 pub encode_arms-encode_arm-x-requires : goal.encode_arms-encode_arm-x-requires
 encode_arms-encode_arm-x-requires t c =
-    first_asks c.requires.if_ready.0 c.byte_at-d.ensures c.begin_if-b.ensures c.in_first-p.ensures c.decreases c.requires.if_ready.3 c.requires.if_ready.4
+    first_asks c.requires.if_ready.0 c.byte_at-d.ensures c.from.ensures c.begin_if-b.ensures c.in_first-p.ensures c.decreases c.requires.if_ready.3 c.requires.if_ready.4
 
 pub encode_arms-returns-then-is_over : goal.encode_arms-returns-then-is_over
 encode_arms-returns-then-is_over t c =
-    first-over c.requires.if_ready.0 c.byte_at-d.ensures c.begin_if-b.ensures c.in_first-p.ensures c.encode_arm-x.ensures c.is_over.ensures c.if-is_over.true
+    first-over c.requires.if_ready.0 c.byte_at-d.ensures c.from.ensures c.begin_if-b.ensures c.in_first-p.ensures c.encode_arm-x.ensures c.is_over.ensures c.if-is_over.true
 
 pub encode_arms-encode_arm-y-requires : goal.encode_arms-encode_arm-y-requires
 encode_arms-encode_arm-y-requires t c =
-    second_asks c.requires.if_ready.0 c.byte_at-d.ensures c.begin_if-b.ensures c.in_first-p.ensures c.encode_arm-x.ensures c.is_over.ensures c.if-is_over.false c.copy_bits.ensures c.in_else-q.ensures c.decreases c.requires.if_ready.3 c.requires.if_ready.4
+    second_asks c.requires.if_ready.0 c.byte_at-d.ensures c.from.ensures c.begin_if-b.ensures c.in_first-p.ensures c.encode_arm-x.ensures c.is_over.ensures c.if-is_over.false c.copy_bits.ensures c.in_else-q.ensures c.decreases c.requires.if_ready.3 c.requires.if_ready.4
 
 pub encode_arms-returns-then-is_over-2 : goal.encode_arms-returns-then-is_over-2
 encode_arms-returns-then-is_over-2 t c =
-    second-over c.requires.if_ready.0 c.byte_at-d.ensures c.begin_if-b.ensures c.in_first-p.ensures c.encode_arm-x.ensures c.is_over.ensures c.if-is_over.false c.copy_bits.ensures c.in_else-q.ensures c.encode_arm-y.ensures c.is_over-2.ensures c.if-is_over-2.true
+    second-over c.requires.if_ready.0 c.byte_at-d.ensures c.from.ensures c.begin_if-b.ensures c.in_first-p.ensures c.encode_arm-x.ensures c.is_over.ensures c.if-is_over.false c.copy_bits.ensures c.in_else-q.ensures c.encode_arm-y.ensures c.is_over-2.ensures c.if-is_over-2.true
 
 pub encode_arms-walk_join-requires : goal.encode_arms-walk_join-requires
 encode_arms-walk_join-requires t c =
-    join_asks c.requires.if_ready.0 c.byte_at-d.ensures c.begin_if-b.ensures c.in_first-p.ensures c.encode_arm-x.ensures c.is_over.ensures c.if-is_over.false c.copy_bits.ensures c.in_else-q.ensures c.encode_arm-y.ensures c.is_over-2.ensures c.if-is_over-2.false c.requires.if_ready.3 c.encode_arm-x.auto.lits c.encode_arm-y.auto.lits
+    join_asks c.requires.if_ready.0 c.byte_at-d.ensures c.from.ensures c.begin_if-b.ensures c.in_first-p.ensures c.encode_arm-x.ensures c.is_over.ensures c.if-is_over.false c.copy_bits.ensures c.in_else-q.ensures c.encode_arm-y.ensures c.is_over-2.ensures c.if-is_over-2.false c.requires.if_ready.3 c.encode_arm-x.auto.lits c.encode_arm-y.auto.lits
 
 pub encode_arms-returns : goal.encode_arms-returns
 encode_arms-returns t c =
-    both_made c.requires.if_ready.0 c.byte_at-d.ensures c.begin_if-b.ensures c.in_first-p.ensures c.encode_arm-x.ensures c.is_over.ensures c.if-is_over.false c.copy_bits.ensures c.in_else-q.ensures c.encode_arm-y.ensures c.is_over-2.ensures c.if-is_over-2.false c.walk_join.ensures
+    both_made c.requires.if_ready.0 c.byte_at-d.ensures c.from.ensures c.begin_if-b.ensures c.in_first-p.ensures c.encode_arm-x.ensures c.is_over.ensures c.if-is_over.false c.copy_bits.ensures c.in_else-q.ensures c.encode_arm-y.ensures c.is_over-2.ensures c.if-is_over-2.false c.walk_join.ensures

@@ -14,7 +14,7 @@ decreases-encode_arms l = 3 * (length l.bytes.now - l.here.next)
 
 abbrev pub invariant-encode_arm-loop-p : goal.invariant-encode_arm-loop-p
 invariant-encode_arm-loop-p l =
-    Going l.bytes l.h l.t l.ds l.depth l.close l.initial.words l.initial.starts l.initial.lits l.initial.p l.words l.starts l.lits l.p
+    Going l.bytes l.h l.t l.ds l.depth l.fn.close l.initial.words l.initial.starts l.initial.lits l.initial.p l.words l.starts l.lits l.p
 
 abbrev pub decreases-encode_arm-loop-p : goal.decreases-encode_arm-loop-p
 decreases-encode_arm-loop-p l = length l.bytes - l.p.next
