@@ -4,10 +4,8 @@ use mathlib.Core.Path.{◌≡◌, refl}
 use mathlib.Core.List.{List, [], ◌∷◌}
 use mathlib.Core.Bool.{Bool, true, false, ◌&&◌}
 use native.Mathlib.Omega.{arith}
-use native.Mathlib.Numerals.{add-one}
-use native.Mathlib.Nat.{sub-zero}
-use lib.ListN.{length, get_or}
-use lib.Seq.{slice, slice-cons, slice_empty}
+use lib.ListN.{length}
+use lib.Seq.{slice}
 use lib.Dec.{ltb, leb, eqb}
 use borrow.Author.Tests.{leb-true, ltb-true, eqb-true, lt-ltb, le-ltb, le-leb, lt-leb, eq-eqb, ne_eqb}
 use Rattle.slices.specs.Bytes.{entry}
@@ -15,34 +13,13 @@ use Rattle.proof_propagation.specs.Inner.Standing.{HasMarks}
 use Rattle.proof_propagation.proofs.Cases.{and_true_l, and_true_r}
 use Rattle.proof_check.specs.Check.{of_variable}
 use Rattle.proof.specs.Fit.{literals_fit, end_at, clause_fits, standing}
-use Rattle.proof.specs.declared.Standing.{Standing}
-
--- ---- a literal
-
-pub variable_none : (n l : ℕ) → l < 2 → false ≡ of_variable n l
-variable_none n l h = rw (lt-leb 2 l h) refl
-
-pub variable_some : (n l : ℕ) (b : Bool) → 2 ≤ l → b ≡ leb (l / 2) n → b ≡ of_variable n l
-variable_some n l b h e = rw (le-leb 2 l h) e
+use Rattle.std.proofs.Common.{Some, None}
 
 -- ---- the literals of a clause
 
-module _ (w : List ℕ) (n i to : ℕ) where
-  pub fit_next : i < to → to ≤ length w → of_variable n (get_or w i 0) ≡ true → literals_fit n (slice (i + 1) to w) ≡ literals_fit n (slice i to w)
-  unfolding literals_fit
-  fit_next h k e = rw (slice-cons i to w 0 h k, e, add-one) refl
-
-  pub fit_not : i < to → to ≤ length w → of_variable n (get_or w i 0) ≡ false → false ≡ literals_fit n (slice i to w)
-  unfolding literals_fit
-  fit_not h k e = rw (slice-cons i to w 0 h k, e) refl
-
-  pub fit_end : i ≤ to → to ≤ i → literals_fit n (slice i to w) ≡ true
-  unfolding literals_fit
-  fit_end h k = let e : i ≡ to = omega arith in rw (e, slice_empty to w) refl
-
 -- literals that fit are of variables that have a mark
 pub fit_fits : (n : ℕ) (c : List ℕ) → literals_fit n c ≡ true → HasMarks (n + 1) c
-unfolding literals_fit HasMarks
+unfolding HasMarks
 fit_fits n [] e = tt
 fit_fits n (l ∷ c) e =
     let v = and_true_l (of_variable n l) (literals_fit n c) e in
@@ -97,21 +74,18 @@ module _ (w s : List ℕ) (n i at : ℕ) where
 -- ---- the clauses
 
 module _ (w s : List ℕ) (n : ℕ) where
-  pub stand_start : (count : ℕ) → standing w s n (count - 0) 0 0 ≡ standing w s n count 0 0
-  stand_start count = rw sub-zero refl
-
   pub stand_next : (count i at to : ℕ) → i < count → clause_fits w s n i at ≡ true → to ≡ end_at w at → standing w s n (count - (i + 1)) (i + 1) to ≡ standing w s n (count - i) i at
   unfolding standing
   stand_next count i at to h e q =
       let k : count - i ≡ suc (count - (i + 1)) = omega arith in
       rw (k, e, q) refl
 
-  pub stand_not : (count i at : ℕ) → i < count → clause_fits w s n i at ≡ false → standing w s n (count - i) i at ≡ Standing.Nowhere
+  pub stand_not : (count i at : ℕ) → i < count → clause_fits w s n i at ≡ false → standing w s n (count - i) i at ≡ None
   unfolding standing
   stand_not count i at h e =
       let k : count - i ≡ suc (count - (i + 1)) = omega arith in
       rw (k, e) refl
 
-  pub stand_end : (count i at : ℕ) → i ≤ count → count ≤ i → standing w s n (count - i) i at ≡ Standing.Ends at
+  pub stand_end : (count i at : ℕ) → i ≤ count → count ≤ i → standing w s n (count - i) i at ≡ Some at
   unfolding standing
   stand_end count i at h k = let e : count - i ≡ 0 = omega arith in rw e refl

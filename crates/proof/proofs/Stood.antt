@@ -16,7 +16,7 @@ use Rattle.proof_propagation.proofs.Standing.{stored_given, stored_all_given}
 use Rattle.proof_propagation.proofs.Cases.{both, from_or}
 use Rattle.proof_check.specs.Inner.Begins.{Begins}
 use Rattle.proof.specs.Fit.{end_at, clause_fits, standing}
-use Rattle.proof.specs.declared.Standing.{Standing}
+use Rattle.std.proofs.Common.{Option, Some, None}
 use Rattle.proof.proofs.Fitting.{FitsAt, clause_fits_lem, fit_fits}
 
 -- the clauses from number i on, the first first
@@ -74,20 +74,20 @@ module _ (w s : List ℕ) (v : ℕ) where
   laid_none i at h k =
       record { size = sym (add-zero at); room = h; entries = omega arith; inside = λ j a b. absurd (omega arith); fits = λ j a b. absurd (omega arith) }
 
-  laid_by : (n i at used : ℕ) → at ≤ length w → i ≤ length s → standing w s v n i at ≡ Standing.Ends used → Laid w s (v + 1) n i at used
+  laid_by : (n i at used : ℕ) → at ≤ length w → i ≤ length s → standing w s v n i at ≡ Some used → Laid w s (v + 1) n i at used
   unfolding standing
   laid_by zero i at used h k e = let q : at ≡ used = cc in subst (Laid w s (v + 1) zero i at) q (laid_none i at h k)
   laid_by (suc n) i at used h k e =
       elim (both (clause_fits w s v i at)) [
         | inl x ↦ let f = clause_fits_lem w s v i at x in
-            let g : standing w s v n (i + 1) (end_at w at) ≡ Standing.Ends used = sym (rw x refl) ∙ e in
-            laid_more n i at used f (laid_by n (suc i) (end_at w at) used f.inside f.listed (subst (λ (j : ℕ). standing w s v n j (end_at w at) ≡ Standing.Ends used) (add-one i) g))
-        | inr x ↦ let g : Standing.Nowhere ≡ Standing.Ends used = sym (rw x refl) ∙ e in let z : ◌≡◌ {A = ℕ} 0 1 = cc in absurd (omega arith)
+            let g : standing w s v n (i + 1) (end_at w at) ≡ Some used = sym (rw x refl) ∙ e in
+            laid_more n i at used f (laid_by n (suc i) (end_at w at) used f.inside f.listed (subst (λ (j : ℕ). standing w s v n j (end_at w at) ≡ Some used) (add-one i) g))
+        | inr x ↦ let g : ◌≡◌ {A = Option ℕ} None (Some used) = sym (rw x refl) ∙ e in cc
       ]
 
 -- what `check_proof` asks for
 pub begins-stood : (w s m r : List ℕ) (from count used variables : ℕ) → length w ≤ 16777216 → length m ≡ variables + 1 → from ≤ length r → length r ≤ 16777216
-    → standing w s variables count 0 0 ≡ Standing.Ends used → Begins r from 0 count used w s m
+    → standing w s variables count 0 0 ≡ Some used → Begins r from 0 count used w s m
 begins-stood w s m r from count used variables short one within limit e =
     let t = laid_by w s variables count 0 0 used (omega arith) (omega arith) e in
     record {

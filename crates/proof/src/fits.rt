@@ -4,16 +4,11 @@ ghost use Rattle.std.proofs.Math.Seq.{slice};
 ghost use Rattle.proof_check.specs.Check.{of_variable};
 ghost use Rattle.proof.specs.Fit.{literals_fit, clause_fits, standing};
 
-use crate::Standing;
-
 // A literal of one of so many variables.
 fn of_variable(variables: usize, literal: u32) -> bool
     ensures { result ≡ of_variable variables literal }
 {
-    if literal < 2 {
-        return false;
-    }
-    (literal / 2) as usize <= variables
+    2 <= literal && (literal / 2) as usize <= variables
 }
 
 // The words from one offset up to another are such literals.
@@ -21,14 +16,7 @@ fn literals_fit(words: &[u32], variables: usize, from: usize, to: usize) -> bool
     requires { (from ≤ to) × (to ≤ length words.now) }
     ensures { result ≡ literals_fit variables (slice from to words.now) }
 {
-    let mut i = from;
-    while i < to {
-        if !of_variable(variables, words[i]) {
-            return false;
-        }
-        i += 1;
-    }
-    true
+    words[from..to].iter().all(|l| of_variable(variables, *l))
 }
 
 // The clause of a number stands at an offset.
@@ -53,18 +41,16 @@ fn clause_fits(words: &[u32], starts: &[u32], variables: usize, number: usize, a
 }
 
 // So many clauses stand one after another from the beginning, and where they end.
-pub fn stand(words: &[u32], starts: &[u32], variables: usize, count: usize) -> Standing
+pub fn stand(words: &[u32], starts: &[u32], variables: usize, count: usize) -> Option<usize>
     requires { length words.now ≤ 16777216 }
     ensures { result ≡ standing words.now starts.now variables count 0 0 }
 {
-    let mut i = 0;
     let mut at = 0;
-    while i < count {
+    for i in 0..count {
         if !clause_fits(words, starts, variables, i, at) {
-            return Standing::Nowhere;
+            return None;
         }
         at += 1 + words[at] as usize;
-        i += 1;
     }
-    Standing::Ends(at)
+    Some(at)
 }

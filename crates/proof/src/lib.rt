@@ -8,21 +8,14 @@ ghost use Rattle.proof_propagation.specs.Stored.{clauses_of};
 ghost use Rattle.proof.specs.Checking.{part, Checks, Unsatisfied};
 
 use parts::check_parts;
-use proof_check::Refusal;
+use proof_check::Tally;
 use slices::usable;
 
-// Whether clauses stand one after another in the words, and where they end.
+// Why a check that anyone asks for does not accept.
 #[derive(Clone, Copy)]
-pub enum Standing {
-    Ends(usize),
-    Nowhere,
-}
-
-// What is said to anyone who asks for a check.
-#[derive(Clone, Copy)]
-pub enum Checked {
-    Accepted { steps: usize, hints: usize },
-    Refused(Refusal),
+pub enum Refusal {
+    // the proof is turned down
+    Proof(proof_check::Refusal),
     // the buffers do not hold what is asked
     Unfit,
 }
@@ -38,7 +31,7 @@ pub fn prove(
     words: &[u32],
     starts: &mut [u32],
     marks: &mut [u8],
-) -> Checked
+) -> Result<Tally, Refusal>
     ensures checks { Checks words.now starts.old marks.old report.now from clauses variables starts.new marks.new result }
     ensures unsatisfied { Unsatisfied (clauses_of (part words.now) (part starts.old) clauses) result }
 {
@@ -46,13 +39,13 @@ pub fn prove(
     let s = usable(starts.len());
     let m = usable(marks.len());
     if 16777216 < report.len() {
-        return Checked::Unfit;
+        return Err(Refusal::Unfit);
     }
     if report.len() < from {
-        return Checked::Unfit;
+        return Err(Refusal::Unfit);
     }
     if m < variables as usize + 1 {
-        return Checked::Unfit;
+        return Err(Refusal::Unfit);
     }
     check_parts(
         report,

@@ -1,5 +1,5 @@
 -- A close: each way out. The step's literals become the next clause. Assumes nothing.
-use Rattle.std.proofs.Common.{◌≡◌, ℕ, ◌+◌, ◌-◌, ◌/◌, ◌<◌, ◌≤◌, true, false, ltb, leb, List, [], ◌∷◌, ◌++◌, length, set, replicate, sym, refl, ap, ◌∙◌, subst, inl, inr, true≢false, add-one, arith, length-append, length-set, get_or-set_other, get_or-set_same, le-ltb, lt-ltb, eq-eqb, le-leb}
+use Rattle.std.proofs.Common.{◌≡◌, ℕ, ◌+◌, ◌-◌, ◌/◌, ◌<◌, ◌≤◌, true, false, ltb, leb, List, [], ◌∷◌, ◌++◌, length, set, replicate, sym, refl, ap, ◌∙◌, subst, inl, inr, true≢false, add-one, arith, length-append, length-set, get_or-set_other, get_or-set_same, le-ltb, lt-ltb, eq-eqb, le-leb, Result, Ok, Err}
 use borrow.Author.Tests.{lt-leb}
 use Rattle.cnf.specs.Clause.{Clause, flatten}
 use Rattle.cnf.proofs.Appending.{flatten_append}
@@ -16,7 +16,6 @@ use Rattle.proof_propagation.specs.Inner.Standing.{stored_at, stored_of, HasMark
 use Rattle.proof_propagation.proofs.Cases.{below_or}
 use Rattle.proof_propagation.proofs.Standing.{first-length, first-same, stored_step, stored_same}
 use Rattle.proof_check.specs.Phase.{going, in_literals, conflicted, phase_after}
-use Rattle.proof_check.specs.Inner.Stop.{refused_by}
 use Rattle.slices.specs.Guard.{unless}
 use Rattle.proof_check.specs.State.{State, Limits, more, size, after_close}
 use Rattle.proof_check.specs.Check.{fresh, on_close}
@@ -43,27 +42,27 @@ unfolding fresh
 zeros_undecided m n l e = rw e (eq-eqb _ 0 (get_d_zeros n (l / 2)))
 
 -- what a close is turned down for
-module _ (b : ℕ) (w s m t r : List ℕ) (p : Progress) (x : Turn) where
-  abbrev Out : Type 0
-  Out = Did w s m t r p s m t x (on_close (limits_of b w s m) (state_of w s m r p))
+module _ (b : ℕ) (w s m t r : List ℕ) (p : Progress) where
+  abbrev Out : Refusal → Type 0
+  Out a = Did w s m t r p s m t (Err a) (on_close (limits_of b w s m) (state_of w s m r p))
 
-  pub close_over : x ≡ refused_by (Refusal.OutOfPlace (b + p.at)) → going p.phase ≡ false → Out
+  pub close_over : going p.phase ≡ false → Out (Refusal.OutOfPlace (b + p.at))
   unfolding on_close unless
-  close_over q e = stopped w s m t r p x _ _ q (rw e refl)
+  close_over e = stopped w s m t r p _ _ (rw e refl)
 
-  pub close_early : x ≡ refused_by (Refusal.NoConflict (b + p.at)) → going p.phase ≡ true → conflicted p.phase ≡ false → Out
+  pub close_early : going p.phase ≡ true → conflicted p.phase ≡ false → Out (Refusal.NoConflict (b + p.at))
   unfolding on_close unless
-  close_early q e f = stopped w s m t r p x _ _ q (rw (e, f) refl)
+  close_early e f = stopped w s m t r p _ _ (rw (e, f) refl)
 
-  module _ (z : Ready w s m t r p) (f : conflicted p.phase ≡ true) (q : x ≡ refused_by (Refusal.Full (b + p.at))) where
-    pub full_words : length w < p.used + 1 + p.literals → Out
+  module _ (z : Ready w s m t r p) (f : conflicted p.phase ≡ true) where
+    pub full_words : length w < p.used + 1 + p.literals → Out (Refusal.Full (b + p.at))
     unfolding on_close unless
-    full_words k = stopped w s m t r p x _ _ q (rw (conflict_goes p.phase f, f, taken w s m t r p z, lt-leb (p.used + 1 + p.literals) (length w) k) refl)
+    full_words k = stopped w s m t r p _ _ (rw (conflict_goes p.phase f, f, taken w s m t r p z, lt-leb (p.used + 1 + p.literals) (length w) k) refl)
 
-    pub full_starts : p.used + 1 + p.literals ≤ length w → length s ≤ p.count → Out
+    pub full_starts : p.used + 1 + p.literals ≤ length w → length s ≤ p.count → Out (Refusal.Full (b + p.at))
     unfolding on_close unless
     full_starts k l =
-        stopped w s m t r p x _ _ q
+        stopped w s m t r p _ _
         (rw (conflict_goes p.phase f, f, taken w s m t r p z, le-leb (p.used + 1 + p.literals) (length w) k, first-length (stored_at w s r p.given) p.count, le-ltb p.count (length s) l) refl)
 
 module _ (w s m t r : List ℕ) (p : Progress) (z : Ready w s m t r p) (f : conflicted p.phase ≡ true) (room : p.used + 1 + p.literals ≤ length w) (free : p.count < length s) where
@@ -157,14 +156,14 @@ module _ (w s m t r : List ℕ) (p : Progress) (z : Ready w s m t r p) (f : conf
         after = λ i h. get_or-set_other s p.count i p.begin 0 (omega arith);
       }
 
-  pub did_close : (b : ℕ) (phase : Phase) (x : Turn) → x ≡ Turn.More (with_close p phase) → phase ≡ phase_after p.literals → command_at r p.at ≡ Command.Close
+  pub did_close : (b : ℕ) (phase : Phase) (x : Result Turn Refusal) → x ≡ Ok (Turn.More (with_close p phase)) → phase ≡ phase_after p.literals → command_at r p.at ≡ Command.Close
       → Did w s m t r p s' m t x (on_close (limits_of b w s m) (state_of w s m r p))
   unfolding literals_at
   did_close b phase x q h e =
       let one : length m - 1 + 1 ≡ length m = omega (arith, z.marked) in
       let all : m ≡ replicate (length m - 1 + 1) 0 = rw one (z.undone f) in
       let h-is : phase ≡ phase_after (length (literals_of r p)) = rw (run_length r p.begin p.literals) h in
-      went w s m t r p x _ s' m t (with_close p phase) q
+      went w s m t r p _ x s' m t (with_close p phase) q
       ((λ i. more (record {
         clauses = new_clauses i;
         literals = [];

@@ -1,5 +1,5 @@
 -- A hint: each way out. Assumes nothing.
-use Rattle.std.proofs.Common.{◌≡◌, ℕ, ◌+◌, ◌-◌, ◌/◌, ◌<◌, ◌≤◌, Bool, true, false, cond, not, ◌&&◌, ltb, List, [], length, get_or, set, replicate, sym, refl, ap, ◌∙◌, subst, inl, inr, true≢false, arith, length-set, ltb-true, le-ltb, lt-ltb}
+use Rattle.std.proofs.Common.{◌≡◌, ℕ, ◌+◌, ◌-◌, ◌/◌, ◌<◌, ◌≤◌, Bool, true, false, cond, not, ◌&&◌, ltb, List, [], length, get_or, set, replicate, sym, refl, ap, ◌∙◌, subst, inl, inr, true≢false, arith, length-set, ltb-true, le-ltb, lt-ltb, Result, Ok}
 use lib.ListN.{length-replicate}
 use Rattle.cnf.specs.Clause.{Clause}
 use Rattle.proof_reader.specs.Command.{command_at}
@@ -18,7 +18,7 @@ use Rattle.proof_propagation.proofs.Clearing.{clear-marked}
 use Rattle.proof_check.specs.Phase.{going, in_literals, conflicted}
 use Rattle.proof_check.specs.Inner.Undo.{touches, Clean}
 use Rattle.slices.specs.Guard.{unless}
-use Rattle.proof_check.specs.State.{State, Limits, more, stop}
+use Rattle.proof_check.specs.State.{State, Limits, more, down}
 use Rattle.proof_check.specs.Check.{after_hint, on_hint}
 use Rattle.proof_check.specs.Lent.{limits_of}
 use Rattle.proof_check.specs.Inner.Held.{state_of, Ready, Trailed, Did, with_hint}
@@ -27,7 +27,6 @@ use Rattle.proof_check.specs.declared.Phase.{Phase}
 use Rattle.proof_check.specs.declared.Progress.{Progress}
 use Rattle.proof_check.specs.declared.Refusal.{Refusal}
 use Rattle.proof_check.specs.declared.Turn.{Turn}
-use Rattle.proof_check.specs.declared.Verdict.{Verdict}
 use Rattle.proof_check.proofs.Cleaning.{clean-more, clean_zeros}
 use Rattle.proof_check.proofs.Trailing.{trailed_zeros, trailed_unit}
 use Rattle.proof_check.proofs.Stopping.{went, onward-same}
@@ -89,20 +88,20 @@ module _ (b : ℕ) (w s m r : List ℕ) (p : Progress) (i : ℕ) where
   abbrev S : State
   S = state_of w s m r p
 
-  pub refuse_over : going p.phase ≡ false → stop (Verdict.Refused (Refusal.OutOfPlace (b + p.at))) ≡ on_hint L S i
+  pub refuse_over : going p.phase ≡ false → down (Refusal.OutOfPlace (b + p.at)) ≡ on_hint L S i
   unfolding on_hint unless
   refuse_over e = rw e refl
 
-  pub refuse_far : going p.phase ≡ true → p.count ≤ i → stop (Verdict.Refused (Refusal.NoClause (b + p.at))) ≡ on_hint L S i
+  pub refuse_far : going p.phase ≡ true → p.count ≤ i → down (Refusal.NoClause (b + p.at)) ≡ on_hint L S i
   unfolding on_hint unless
   refuse_far e k = rw (e, first-length (stored_at w s r p.given) p.count, le-ltb i p.count k) refl
 
-  pub refuse_late : going p.phase ≡ true → i < p.count → conflicted p.phase ≡ true → stop (Verdict.Refused (Refusal.AfterConflict (b + p.at))) ≡ on_hint L S i
+  pub refuse_late : going p.phase ≡ true → i < p.count → conflicted p.phase ≡ true → down (Refusal.AfterConflict (b + p.at)) ≡ on_hint L S i
   unfolding on_hint unless
   refuse_late e k f = rw (e, first-length (stored_at w s r p.given) p.count, lt-ltb i p.count k, f) refl
 
   pub refuse_neither : going p.phase ≡ true → i < p.count → conflicted p.phase ≡ false → said_by S (Command.Hint i) ≡ Hint.Neither
-      → stop (Verdict.Refused (Refusal.Neither (b + p.at))) ≡ on_hint L S i
+      → down (Refusal.Neither (b + p.at)) ≡ on_hint L S i
   unfolding after_hint
   refuse_neither e k f q =
       let n = first-length (stored_at w s r p.given) p.count in
@@ -119,7 +118,7 @@ own_run w s m t r p i z e g =
       | inr f ↦ z.past g f
     ]
 
-module _ (b : ℕ) (w s m t r : List ℕ) (p : Progress) (i : ℕ) (x : Turn) (z : Ready w s m t r p) (e : command_at r p.at ≡ Command.Hint i) (g : going p.phase ≡ true) (k : i < p.count) (c : conflicted p.phase ≡ false) where
+module _ (b : ℕ) (w s m t r : List ℕ) (p : Progress) (i : ℕ) (x : Result Turn Refusal) (z : Ready w s m t r p) (e : command_at r p.at ≡ Command.Hint i) (g : going p.phase ≡ true) (k : i < p.count) (c : conflicted p.phase ≡ false) where
   hint_is : on_hint (limits_of b w s m) (state_of w s m r p) i ≡ after_hint (limits_of b w s m) (state_of w s m r p) (hint_of m (stored_at w s r p.given i))
   hint_is =
       takes_hint (limits_of b w s m) (state_of w s m r p) i g (rw first-length k) c
@@ -151,14 +150,14 @@ module _ (b : ℕ) (w s m t r : List ℕ) (p : Progress) (i : ℕ) (x : Turn) (z
         limit = z.limit;
       }
 
-  pub did_conflict : (m' : List ℕ) → x ≡ Turn.More (with_hint p Phase.Conflict p.decided) → hint_of m (stored_at w s r p.given i) ≡ Hint.Conflict → m' ≡ replicate (length m) 0
+  pub did_conflict : (m' : List ℕ) → x ≡ Ok (Turn.More (with_hint p Phase.Conflict p.decided)) → hint_of m (stored_at w s r p.given i) ≡ Hint.Conflict → m' ≡ replicate (length m) 0
       → Did w s m t r p s m' t x (on_hint (limits_of b w s m) (state_of w s m r p) i)
   unfolding after_hint
   did_conflict m' q h u =
       let n : length m' ≡ length m = ap length u ∙ length-replicate (length m) 0 in
       let one : length m - 1 + 1 ≡ length m = omega (arith, z.marked) in
       let all : m' ≡ replicate (length m - 1 + 1) 0 = rw one u in
-      went w s m t r p x _ s m' t (with_hint p Phase.Conflict p.decided) q
+      went w s m t r p _ x s m' t (with_hint p Phase.Conflict p.decided) q
       ((λ j. more (record {
         clauses = stored_of w s r p.given p.count;
         literals = (state_of w s m r p).literals;
@@ -174,13 +173,13 @@ module _ (b : ℕ) (w s m t r : List ℕ) (p : Progress) (i : ℕ) (x : Turn) (z
       (trailed_zeros m' t r (length m) (with_hint p Phase.Conflict p.decided) u))
       (omega arith) (onward-same s p (with_hint p Phase.Conflict p.decided) refl refl (omega arith))
 
-  pub did_unit : (l : ℕ) → x ≡ Turn.More (with_hint p Phase.Hints (p.decided + 1)) → hint_of m (stored_at w s r p.given i) ≡ Hint.Unit l
+  pub did_unit : (l : ℕ) → x ≡ Ok (Turn.More (with_hint p Phase.Hints (p.decided + 1))) → hint_of m (stored_at w s r p.given i) ≡ Hint.Unit l
       → Did w s m t r p s (set m (l / 2) (true_mark l)) (set t p.decided l) x (on_hint (limits_of b w s m) (state_of w s m r p) i)
   unfolding after_hint
   did_unit l q h =
       let m' = set m (l / 2) (true_mark l) in
       let cs = stored_of w s r p.given p.count in
-      went w s m t r p x _ s m' (set t p.decided l) (with_hint p Phase.Hints (p.decided + 1)) q
+      went w s m t r p _ x s m' (set t p.decided l) (with_hint p Phase.Hints (p.decided + 1)) q
       (sym (hint_is ∙ ap (after_hint (limits_of b w s m) (state_of w s m r p)) h))
       (ready_hint m' (set t p.decided l) Phase.Hints (p.decided + 1) refl (λ y. absurd (true≢false (sym y))) (length-set m (l / 2) (true_mark l)) (omega arith)
       (clean-more r p.begin cs m p.at z.clean m' (length-set m (l / 2) (true_mark l)) (cleared l h))

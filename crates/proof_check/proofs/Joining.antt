@@ -1,5 +1,5 @@
 -- A proof in two parts: going on in the second from where the check of the first stopped is checking the whole. Assumes nothing.
-use Rattle.std.proofs.Common.{◌≡◌, ℕ, zero, suc, ◌-◌, ◌<◌, ◌≤◌, true, ltb, List, ◌++◌, length, replicate, sym, refl, ap, ◌∙◌, inl, inr, true≢false, arith, length-append, ltb-false, ltb-true}
+use Rattle.std.proofs.Common.{◌≡◌, ℕ, zero, suc, ◌-◌, ◌<◌, ◌≤◌, true, ltb, List, ◌++◌, length, replicate, sym, refl, ap, ◌∙◌, inl, inr, true≢false, arith, length-append, ltb-false, ltb-true, Ok, Err}
 use Rattle.proof_reader.specs.Command.{command_at}
 use Rattle.proof_reader.specs.Inner.Literals.{literals_at}
 use Rattle.proof_reader.specs.Inner.Runs.{Ones}
@@ -16,7 +16,6 @@ use Rattle.proof_check.specs.Check.{on_end, obey, step, Outcome, follow, run, fi
 use Rattle.proof_check.specs.Inner.Held.{Store, state_of, Ready, Parted}
 use Rattle.proof_check.specs.declared.Progress.{Progress}
 use Rattle.proof_check.specs.declared.Refusal.{Refusal}
-use Rattle.proof_check.specs.declared.Verdict.{Verdict}
 use Rattle.proof_check.proofs.Adding.{zeros_undecided}
 use Rattle.proof_check.proofs.Cleaning.{clean_start, clean-none}
 use Rattle.proof_check.proofs.Steady.{finish-more}
@@ -35,7 +34,7 @@ unfolding Again
 again_same (more t) k e = e
 again_same (stop v) k e = tt
 
-again_refused : (k : Next) (v : Refusal) → Again (stop (Verdict.Refused v)) k
+again_refused : (k : Next) (v : Refusal) → Again (stop (Err v)) k
 unfolding Again
 again_refused k v = tt
 
@@ -49,7 +48,7 @@ module _ (L : Limits) (r x : List ℕ) (s : State) where
       unless_in (λ n. Again n (step L (r ++ x) s)) (again_refused _) _ _ _ (λ _.
       unless_in (λ n. Again n (step L (r ++ x) s)) (again_refused _) _ _ _ (λ _. ended))
     where
-      ended : Again (stop (Verdict.Accepted s.steps s.hints)) (step L (r ++ x) s)
+      ended : Again (stop (Ok (record { steps = s.steps; hints = s.hints }))) (step L (r ++ x) s)
       ended = unfold Again in tt
   obey_again Command.Unreadable e h = again_refused _ _
 

@@ -1,5 +1,5 @@
 -- Soundness: where `check_proof` accepts, no assignment satisfies the clauses that it began with. Assumes nothing.
-use Rattle.std.proofs.Common.{◌≡◌, ℕ, zero, suc, ◌+◌, ◌-◌, true, false, List, [], ◌∷◌, length, get_or, sym, refl, ◌∙◌, subst, inl, inr, true≢false, ltb-true}
+use Rattle.std.proofs.Common.{◌≡◌, ℕ, zero, suc, ◌+◌, ◌-◌, true, false, List, [], ◌∷◌, length, get_or, sym, refl, ◌∙◌, subst, inl, inr, true≢false, ltb-true, Result, Ok, Err}
 use lib.Dec.{eqb-suc-zero}
 use borrow.Author.Tests.{not-true}
 use Rattle.cnf.specs.Clause.{Clause}
@@ -14,7 +14,7 @@ use Rattle.cnf.specs.Meaning.{Assign, sat_clause, sat}
 use Rattle.proof_check.specs.Sound.{Refutes}
 use Rattle.proof_reader.specs.declared.Command.{Command}
 use Rattle.proof_check.specs.declared.Refusal.{Refusal}
-use Rattle.proof_check.specs.declared.Verdict.{Verdict}
+use Rattle.proof_check.specs.declared.Tally.{Tally}
 use Rattle.proof_check.proofs.Stopping.{phase_open}
 use Rattle.proof_check.proofs.Unless.{unless_in}
 use Rattle.proof_check.proofs.Truth.{Agree, agree_true, agree_false, agree_none, Told, hint_told, sat_at, sat-more, holds_snoc_l, holds_snoc_r}
@@ -26,16 +26,16 @@ record Good (σ : Assign) (s : State) : Type 0 where
   shown : conflicted s.phase ≡ true → sat_clause σ s.literals ≡ true
   goes : going s.phase ≡ true
 
-NotAccepted : Verdict → Type 0
-NotAccepted (Verdict.Accepted a b) = ⊥
-NotAccepted (Verdict.Refused a) = Prim.Unit {0}
+NotAccepted : Result Tally Refusal → Type 0
+NotAccepted (Ok tally) = ⊥
+NotAccepted (Err refusal) = Prim.Unit {0}
 
 Fine : Assign → Next → Type 0
 unfolding NotAccepted
 Fine σ (more t) = Good σ t
 Fine σ (stop v) = NotAccepted v
 
-fine_refused : (σ : Assign) (v : Refusal) → Fine σ (stop (Verdict.Refused v))
+fine_refused : (σ : Assign) (v : Refusal) → Fine σ (stop (Err v))
 unfolding Fine NotAccepted
 fine_refused σ v = tt
 
@@ -143,7 +143,7 @@ run_fine (suc n) σ L r s g =
 pub sound : (cs : List Clause) (L : Limits) (r : List ℕ) (from : ℕ) → Refutes cs (check_proof cs L r from).verdict
 unfolding check_proof finish
 sound cs L r from = record {
-  none = λ steps hints e σ. elim (both (sat σ cs)) [
+  none = λ tally e σ. elim (both (sat σ cs)) [
     | inr f ↦ f
     | inl t ↦ absurd (unfold NotAccepted in
         subst NotAccepted e (run_fine (suc (length r - from)) σ L r (begin L cs from)

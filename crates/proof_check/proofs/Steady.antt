@@ -1,5 +1,5 @@
 -- The number of commands that `run` is given does not matter once it is enough: its first line is never come to from `finish`. Assumes nothing.
-use Rattle.std.proofs.Common.{◌≡◌, ℕ, zero, suc, ◌+◌, ◌-◌, ◌<◌, ◌≤◌, List, [], length, get_or, refl, ap, ◌∙◌, subst, arith}
+use Rattle.std.proofs.Common.{◌≡◌, ℕ, zero, suc, ◌+◌, ◌-◌, ◌<◌, ◌≤◌, List, [], length, get_or, refl, ap, ◌∙◌, subst, arith, Result, Err}
 use Rattle.proof_propagation.specs.Hint.{hint_of}
 use Rattle.proof_propagation.specs.declared.Hint.{Hint}
 use Rattle.proof_reader.specs.Command.{command_at}
@@ -7,7 +7,7 @@ use Rattle.proof_check.specs.State.{State, Limits, Next, more, stop}
 use Rattle.proof_check.specs.Check.{on_literal, after_hint, on_hint, on_close, on_end, obey, step, Outcome, follow, run, finish}
 use Rattle.proof_reader.specs.declared.Command.{Command}
 use Rattle.proof_check.specs.declared.Refusal.{Refusal}
-use Rattle.proof_check.specs.declared.Verdict.{Verdict}
+use Rattle.proof_check.specs.declared.Tally.{Tally}
 use Rattle.proof_check.proofs.Unless.{unless_in}
 use Rattle.proof_reader.proofs.Reading.{Reads, reads}
 
@@ -16,11 +16,11 @@ unfoldable pub Moves : ℕ → ℕ → Next → Type 0
 Moves at len (more t) = (at < t.at) × (at < len)
 Moves at len (stop a) = Prim.Unit {0}
 
-stays : (at len : ℕ) (a : Refusal) → Moves at len (stop (Verdict.Refused a))
+stays : (at len : ℕ) (a : Refusal) → Moves at len (stop (Err a))
 unfolding Moves
 stays at len a = tt
 
-ended : (at len : ℕ) (v : Verdict) → Moves at len (stop v)
+ended : (at len : ℕ) (v : Result Tally Refusal) → Moves at len (stop v)
 unfolding Moves
 ended at len v = tt
 
@@ -103,6 +103,6 @@ finish-more L r s t e =
     further m = unfold Moves in (let a = m.0 in let b = m.1 in omega arith)
 
 -- one command, and the verdict
-pub finish-stop : (L : Limits) (r : List ℕ) (s : State) (v : Verdict) → step L r s ≡ stop v → finish L r s ≡ record { verdict = v; last = s }
+pub finish-stop : (L : Limits) (r : List ℕ) (s : State) (v : Result Tally Refusal) → step L r s ≡ stop v → finish L r s ≡ record { verdict = v; last = s }
 unfolding finish run
 finish-stop L r s v e = ap (follow (λ t. run (length r - s.at) L r t) s) e

@@ -1,29 +1,24 @@
 -- A command that is turned down leaves everything as it was, and one that is gone on from leaves what is known. Assumes nothing.
-use Rattle.std.proofs.Common.{◌≡◌, ℕ, zero, suc, ◌+◌, ◌<◌, ◌≤◌, Bool, true, false, ltb, List, length, sym, refl, ap, ◌∙◌, subst, inl, inr, arith, ltb-false, ltb-true}
+use Rattle.std.proofs.Common.{◌≡◌, ℕ, zero, suc, ◌+◌, ◌<◌, ◌≤◌, Bool, true, false, ltb, List, length, sym, refl, ◌∙◌, inl, inr, arith, ltb-false, ltb-true, Result, Ok, Err}
 use lib.Dec.{eqb-suc-zero}
 use Rattle.cnf.specs.Clause.{flatten}
 use Rattle.proof_propagation.specs.Inner.Standing.{stored_of}
 use Rattle.proof_propagation.proofs.Cases.{both}
 use Rattle.proof_reader.proofs.Running.{run_length}
 use Rattle.proof_check.specs.Phase.{going, in_literals, conflicted, phase_after}
-use Rattle.proof_check.specs.Inner.Stop.{refused_by}
 use Rattle.proof_check.specs.State.{Next, more, stop}
-use Rattle.proof_check.specs.Inner.Held.{literals_of, state_of, Ready, Onward, Parted, next_is, Kept, Did}
+use Rattle.proof_check.specs.Inner.Held.{literals_of, state_of, Ready, Onward, Parted, Did}
 use Rattle.proof_check.specs.declared.Phase.{Phase}
 use Rattle.proof_check.specs.declared.Progress.{Progress}
 use Rattle.proof_check.specs.declared.Refusal.{Refusal}
 use Rattle.proof_check.specs.declared.Turn.{Turn}
-use Rattle.proof_check.specs.declared.Verdict.{Verdict}
 
-module _ (w s m t r : List ℕ) (p : Progress) (x : Turn) (n : Next) where
-  pub stopped : (v : Refusal) → x ≡ refused_by v → n ≡ stop (Verdict.Refused v) → Did w s m t r p s m t x n
-  stopped v q e = record {
-    same = ap (next_is w s m r) q ∙ sym e;
-    kept = subst (Kept w s m t r p s m t) (sym q) (refl, refl, refl);
-  }
+module _ (w s m t r : List ℕ) (p : Progress) (n : Next) where
+  pub stopped : (v : Refusal) → n ≡ stop (Err v) → Did w s m t r p s m t (Err v) n
+  stopped v e = record { same = sym e; kept = (refl, refl, refl) }
 
-  pub went : (s' m' t' : List ℕ) (q : Progress) → x ≡ Turn.More q → more (state_of w s' m' r q) ≡ n → Ready w s' m' t' r q → p.at < q.at → Onward s s' p q → Did w s m t r p s' m' t' x n
-  went s' m' t' q e same ready far on = rw e (record { same = same; kept = (ready, far, on) })
+  pub went : (x : Result Turn Refusal) (s' m' t' : List ℕ) (q : Progress) → x ≡ Ok (Turn.More q) → more (state_of w s' m' r q) ≡ n → Ready w s' m' t' r q → p.at < q.at → Onward s s' p q → Did w s m t r p s' m' t' x n
+  went x s' m' t' q e same ready far on = rw e (record { same = same; kept = (ready, far, on) })
 
 -- where nothing was written, and one after the other
 pub onward-same : (s : List ℕ) (p q : Progress) → q.given ≡ p.given → q.count ≡ p.count → p.begin ≤ q.begin → Onward s s p q

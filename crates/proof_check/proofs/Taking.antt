@@ -1,5 +1,5 @@
 -- A literal: each way out. Assumes nothing.
-use Rattle.std.proofs.Common.{◌≡◌, ℕ, ◌+◌, ◌-◌, ◌/◌, ◌<◌, ◌≤◌, Bool, true, false, not, ◌&&◌, eqb, leb, List, [], ◌∷◌, ◌++◌, length, get_or, set, sym, refl, ap, ◌∙◌, subst, inl, inr, true≢false, arith, length-set, get_or-set_other, get_or-set_same, eq-eqb, ne_eqb, eqb-true, le-leb}
+use Rattle.std.proofs.Common.{◌≡◌, ℕ, ◌+◌, ◌-◌, ◌/◌, ◌<◌, ◌≤◌, Bool, true, false, not, ◌&&◌, eqb, leb, List, [], ◌∷◌, ◌++◌, length, get_or, set, sym, refl, ap, ◌∙◌, subst, inl, inr, true≢false, arith, length-set, get_or-set_other, get_or-set_same, eq-eqb, ne_eqb, eqb-true, le-leb, Result, Ok, Err}
 use mathlib.Core.Bool.{and-true, and-false, and_assoc}
 use borrow.Author.Tests.{eqb-false, lt-leb}
 use Rattle.cnf.specs.Clause.{Clause}
@@ -15,7 +15,6 @@ use Rattle.proof_propagation.proofs.Standing.{In, fits_snoc}
 use Rattle.proof_propagation.proofs.Clearing.{clear-marked}
 use Rattle.proof_propagation.specs.Inner.Standing.{stored_of}
 use Rattle.proof_check.specs.Phase.{going, in_literals}
-use Rattle.proof_check.specs.Inner.Stop.{refused_by}
 use Rattle.proof_check.specs.Inner.Undo.{touches}
 use Rattle.slices.specs.Guard.{unless}
 use Rattle.proof_check.specs.State.{State, Limits, more, size, after_literal}
@@ -48,41 +47,40 @@ takes_literal : (L : Limits) (s : State) (l : ℕ) → in_literals s.phase ≡ t
 unfolding on_literal unless
 takes_literal L s l a b c d = rw (literals_go s.phase a, a, b, c, d) refl
 
-module _ (b : ℕ) (w s m t r : List ℕ) (p : Progress) (l : ℕ) (z : Ready w s m t r p) (x : Turn) where
-  abbrev Out : Type 0
-  Out = Did w s m t r p s m t x (on_literal (limits_of b w s m) (state_of w s m r p) l)
+module _ (b : ℕ) (w s m t r : List ℕ) (p : Progress) (l : ℕ) (z : Ready w s m t r p) where
+  abbrev Out : Refusal → Type 0
+  Out a = Did w s m t r p s m t (Err a) (on_literal (limits_of b w s m) (state_of w s m r p) l)
 
-  pub literal_over : x ≡ refused_by (Refusal.OutOfPlace (b + p.at)) → going p.phase ≡ false → Out
+  pub literal_over : going p.phase ≡ false → Out (Refusal.OutOfPlace (b + p.at))
   unfolding on_literal unless
-  literal_over q e = stopped w s m t r p x _ _ q (rw e refl)
+  literal_over e = stopped w s m t r p _ _ (rw e refl)
 
-  module _ (q : x ≡ refused_by (Refusal.Literal (b + p.at))) where
-    pub literal_late : going p.phase ≡ true → in_literals p.phase ≡ false → Out
-    unfolding on_literal unless
-    literal_late e f = stopped w s m t r p x _ _ q (rw (e, f) refl)
+  pub literal_late : going p.phase ≡ true → in_literals p.phase ≡ false → Out (Refusal.Literal (b + p.at))
+  unfolding on_literal unless
+  literal_late e f = stopped w s m t r p _ _ (rw (e, f) refl)
 
-    pub literal_none : in_literals p.phase ≡ true → l < 2 → Out
-    unfolding on_literal unless
-    literal_none f k = stopped w s m t r p x _ _ q (rw (literals_go p.phase f, f, lt-leb 2 l k) refl)
+  pub literal_none : in_literals p.phase ≡ true → l < 2 → Out (Refusal.Literal (b + p.at))
+  unfolding on_literal unless
+  literal_none f k = stopped w s m t r p _ _ (rw (literals_go p.phase f, f, lt-leb 2 l k) refl)
 
-    pub literal_high : in_literals p.phase ≡ true → 2 ≤ l → length m ≤ l / 2 → Out
-    unfolding on_literal unless
-    literal_high f k o = stopped w s m t r p x _ _ q (rw (literals_go p.phase f, f, le-leb 2 l k, lt-leb (l / 2) (length m - 1) (omega (arith, z.marked))) refl)
+  pub literal_high : in_literals p.phase ≡ true → 2 ≤ l → length m ≤ l / 2 → Out (Refusal.Literal (b + p.at))
+  unfolding on_literal unless
+  literal_high f k o = stopped w s m t r p _ _ (rw (literals_go p.phase f, f, le-leb 2 l k, lt-leb (l / 2) (length m - 1) (omega (arith, z.marked))) refl)
 
-    pub literal_again : in_literals p.phase ≡ true → 2 ≤ l → l / 2 < length m → (get_or m (l / 2) 0 ≡ 0 → ⊥) → Out
-    unfolding on_literal unless
-    literal_again f k o n =
-        let a : fresh (literals_of r p) l ≡ false = sym (z.fresh f l) ∙ ne_eqb (get_or m (l / 2) 0) 0 n in
-        stopped w s m t r p x _ _ q (rw (literals_go p.phase f, f, le-leb 2 l k, le-leb (l / 2) (length m - 1) (omega arith), a) refl)
+  pub literal_again : in_literals p.phase ≡ true → 2 ≤ l → l / 2 < length m → (get_or m (l / 2) 0 ≡ 0 → ⊥) → Out (Refusal.Literal (b + p.at))
+  unfolding on_literal unless
+  literal_again f k o n =
+      let a : fresh (literals_of r p) l ≡ false = sym (z.fresh f l) ∙ ne_eqb (get_or m (l / 2) 0) 0 n in
+      stopped w s m t r p _ _ (rw (literals_go p.phase f, f, le-leb 2 l k, le-leb (l / 2) (length m - 1) (omega arith), a) refl)
 
   module _ (f : in_literals p.phase ≡ true) (two : 2 ≤ l) (v : l / 2 < length m) (none : get_or m (l / 2) 0 ≡ 0) where
     free : fresh (literals_of r p) l ≡ true
     free = sym (z.fresh f l) ∙ eq-eqb (get_or m (l / 2) 0) 0 none
 
-    pub literal_full : x ≡ refused_by (Refusal.Full (b + p.at)) → length w ≤ p.used + 1 + p.literals → Out
+    pub literal_full : length w ≤ p.used + 1 + p.literals → Out (Refusal.Full (b + p.at))
     unfolding on_literal unless
-    literal_full q full =
-        stopped w s m t r p x _ _ q
+    literal_full full =
+        stopped w s m t r p _ _
         (rw (literals_go p.phase f, f, le-leb 2 l two, le-leb (l / 2) (length m - 1) (omega arith), free, taken w s m t r p z, lt-leb (p.used + 1 + p.literals + 1) (length w) (omega arith)) refl)
 
     module _ (e : command_at r p.at ≡ Command.Literal l) where
@@ -124,9 +122,9 @@ module _ (b : ℕ) (w s m t r : List ℕ) (p : Progress) (l : ℕ) (z : Ready w 
             limit = z.limit;
           }
 
-      pub did_literal : x ≡ Turn.More (with_literal p) → p.used + 1 + p.literals < length w → Did w s m t r p s m' t x (on_literal (limits_of b w s m) (state_of w s m r p) l)
-      did_literal q room =
-          went w s m t r p x _ s m' t (with_literal p) q
+      pub did_literal : (x : Result Turn Refusal) → x ≡ Ok (Turn.More (with_literal p)) → p.used + 1 + p.literals < length w → Did w s m t r p s m' t x (on_literal (limits_of b w s m) (state_of w s m r p) l)
+      did_literal x q room =
+          went w s m t r p _ x s m' t (with_literal p) q
           ((λ i. more (record {
             clauses = stored_of w s r p.given p.count;
             literals = literals_are i;

@@ -1,19 +1,17 @@
 -- One command, by its kind: what its handler did is what one step of the definition does. Assumes nothing.
-use Rattle.std.proofs.Common.{◌≡◌, ℕ, ◌+◌, List, refl, ◌∙◌}
+use Rattle.std.proofs.Common.{◌≡◌, ℕ, ◌+◌, List, refl, ◌∙◌, Result, Ok, Err}
 use Rattle.proof_reader.specs.Command.{command_at}
 use Rattle.proof_reader.specs.declared.Command.{Command}
-use Rattle.proof_check.specs.Inner.Stop.{refused_by}
-use Rattle.proof_check.specs.State.{Next, stop}
+use Rattle.proof_check.specs.State.{Next, stop, down}
 use Rattle.proof_check.specs.Check.{on_literal, on_hint, on_close, on_end, obey, step}
 use Rattle.proof_check.specs.Lent.{limits_of}
 use Rattle.proof_check.specs.Inner.Held.{state_of, Did}
 use Rattle.proof_check.specs.declared.Progress.{Progress}
 use Rattle.proof_check.specs.declared.Refusal.{Refusal}
 use Rattle.proof_check.specs.declared.Turn.{Turn}
-use Rattle.proof_check.specs.declared.Verdict.{Verdict}
-use Rattle.proof_check.proofs.Stopping.{stopped}
+use Rattle.proof_check.specs.declared.Tally.{Tally}
 
-module _ (b : ℕ) (w s m t r : List ℕ) (p : Progress) (s' m' t' : List ℕ) (x : Turn) where
+module _ (b : ℕ) (w s m t r : List ℕ) (p : Progress) (s' m' t' : List ℕ) (x : Result Turn Refusal) where
   abbrev Steps : Type 0
   Steps = Did w s m t r p s' m' t' x (step (limits_of b w s m) r (state_of w s m r p))
 
@@ -37,14 +35,22 @@ module _ (b : ℕ) (w s m t r : List ℕ) (p : Progress) (s' m' t' : List ℕ) (
   step_close e d = did_step _ d (step_is Command.Close e)
 
 module _ (b : ℕ) (w s m t r : List ℕ) (p : Progress) where
-  pub step_end : command_at r p.at ≡ Command.End → (v : Verdict) → stop v ≡ on_end (limits_of b w s m) r (state_of w s m r p) → Steps b w s m t r p s m t (Turn.Stop v)
+  pub step_end : command_at r p.at ≡ Command.End → (a : Tally) → stop (Ok a) ≡ on_end (limits_of b w s m) r (state_of w s m r p) → Steps b w s m t r p s m t (Ok (Turn.Ended a))
   unfolding obey
-  step_end e v f = record { same = f ∙ step_is b w s m t r p s m t (Turn.Stop v) Command.End e; kept = (refl, refl, refl) }
+  step_end e a f = record { same = f ∙ step_is b w s m t r p s m t (Ok (Turn.Ended a)) Command.End e; kept = (refl, refl, refl) }
 
-  pub step-refused : (h : ℕ) → command_at r p.at ≡ Command.Hint h → (v : Verdict) → stop v ≡ on_hint (limits_of b w s m) (state_of w s m r p) h → Steps b w s m t r p s m t (Turn.Stop v)
-  unfolding obey
-  step-refused h e v f = record { same = f ∙ step_is b w s m t r p s m t (Turn.Stop v) (Command.Hint h) e; kept = (refl, refl, refl) }
+  -- a command that is turned down
+  step_down : (c : Command) → command_at r p.at ≡ c → (a : Refusal) → down a ≡ obey (limits_of b w s m) r (state_of w s m r p) c → Steps b w s m t r p s m t (Err a)
+  step_down c e a f = record { same = f ∙ step_is b w s m t r p s m t (Err a) c e; kept = (refl, refl, refl) }
 
-  pub step-unreadable : command_at r p.at ≡ Command.Unreadable → (x : Turn) → x ≡ refused_by (Refusal.Unreadable (b + p.at)) → Steps b w s m t r p s m t x
+  pub end-refused : command_at r p.at ≡ Command.End → (a : Refusal) → down a ≡ on_end (limits_of b w s m) r (state_of w s m r p) → Steps b w s m t r p s m t (Err a)
   unfolding obey
-  step-unreadable e x q = did_step b w s m t r p s m t x _ (stopped w s m t r p x _ _ q refl) (step_is b w s m t r p s m t x Command.Unreadable e)
+  end-refused e a f = step_down Command.End e a f
+
+  pub step-refused : (h : ℕ) → command_at r p.at ≡ Command.Hint h → (a : Refusal) → down a ≡ on_hint (limits_of b w s m) (state_of w s m r p) h → Steps b w s m t r p s m t (Err a)
+  unfolding obey
+  step-refused h e a f = step_down (Command.Hint h) e a f
+
+  pub step-unreadable : command_at r p.at ≡ Command.Unreadable → Steps b w s m t r p s m t (Err (Refusal.Unreadable (b + p.at)))
+  unfolding obey
+  step-unreadable e = step_down Command.Unreadable e (Refusal.Unreadable (b + p.at)) refl

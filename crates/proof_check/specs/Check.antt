@@ -1,5 +1,5 @@
 -- The checking of a proof, as document 01 has it under "The proof" and in rows 17 to 25.
-use Rattle.std.specs.Prelude.{ℕ, zero, suc, ◌+◌, ◌-◌, Bool, true, not, ◌&&◌, List, [], ◌∷◌, length, ◌==◌, nat_le, nat_lt, slice_index_or, slice_set}
+use Rattle.std.specs.Prelude.{ℕ, zero, suc, ◌+◌, ◌-◌, Bool, true, not, ◌&&◌, List, [], ◌∷◌, length, ◌==◌, nat_le, nat_lt, slice_index_or, slice_set, Result, Ok, Err}
 use Rattle.cnf.specs.Clause.{Clause}
 use Rattle.proof_propagation.specs.Marks.{variable_of, true_mark}
 use Rattle.proof_propagation.specs.Hint.{hint_of}
@@ -11,7 +11,7 @@ use Rattle.proof_check.specs.State.{State, Limits, Next, more, stop, down, place
 use Rattle.proof_reader.specs.declared.Command.{Command}
 use Rattle.proof_check.specs.declared.Phase.{Phase}
 use Rattle.proof_check.specs.declared.Refusal.{Refusal}
-use Rattle.proof_check.specs.declared.Verdict.{Verdict}
+use Rattle.proof_check.specs.declared.Tally.{Tally}
 
 -- a literal of one of n variables
 abbrev pub of_variable : (n l : ℕ) → Bool
@@ -62,7 +62,7 @@ unfoldable pub on_end : Limits → List ℕ → State → Next
 on_end L r s =
     unless (not (going s.phase)) (down (Refusal.OutOfPlace (place_of L s)))
     (unless (nat_le (length r) (s.at + 1)) (down (Refusal.Trailing (place_of L s + 1)))
-    (stop (Verdict.Accepted s.steps s.hints)))
+    (stop (Ok (record { steps = s.steps; hints = s.hints }))))
 
 -- one command: 17, then by its kind
 unfoldable pub obey : Limits → List ℕ → State → Command → Next
@@ -80,7 +80,7 @@ step L r s = obey L r s (command_at r s.at)
 
 -- the verdict, and the state in which it was given
 pub record Outcome : Type 0 where
-  pub verdict : Verdict
+  pub verdict : Result Tally Refusal
   pub last : State
 
 -- what follows a command: the rest of the proof, or the verdict
@@ -91,7 +91,7 @@ follow rest s (stop v) = record { verdict = v; last = s }
 -- so many commands at most, one after another
 unfoldable pub run : ℕ → Limits → List ℕ → State → Outcome
 unfolding step
-run zero L r s = record { verdict = Verdict.Refused (Refusal.Unreadable (place_of L s)); last = s }
+run zero L r s = record { verdict = Err (Refusal.Unreadable (place_of L s)); last = s }
 run (suc n) L r s = follow (λ t. run n L r t) s (step L r s)
 
 -- the rest of a proof. Each command takes a byte at least, so one more of them than bytes are left is enough: a larger number gives the same

@@ -1,5 +1,4 @@
 -- What inner functions ask and tell each other. No promise of a public call rests on it.
-pub mod Stop
 pub mod Undo
 pub mod Held
 pub mod Rows

@@ -1,11 +1,11 @@
 -- The state of a check, and what follows a command.
-use Rattle.std.specs.Prelude.{ℕ, ◌+◌, List, [], ◌∷◌, ◌++◌, length, replicate, slice_set}
+use Rattle.std.specs.Prelude.{ℕ, ◌+◌, List, [], ◌∷◌, ◌++◌, length, replicate, slice_set, Result, Err}
 use Rattle.cnf.specs.Clause.{Clause, flatten}
 use Rattle.proof_propagation.specs.Marks.{variable_of, false_mark}
 use Rattle.proof_check.specs.Phase.{phase_after}
 use Rattle.proof_check.specs.declared.Phase.{Phase}
 use Rattle.proof_check.specs.declared.Refusal.{Refusal}
-use Rattle.proof_check.specs.declared.Verdict.{Verdict}
+use Rattle.proof_check.specs.declared.Tally.{Tally}
 
 -- the clauses so far; the step's literals; the marks; the step's phase; the steps closed and the hints read; the offset of the next command
 pub record State : Type 0 where
@@ -27,11 +27,11 @@ pub record Limits : Type 0 where
 -- a further command, or the verdict
 pub data Next : Type 0 where
   more : State → Next
-  stop : Verdict → Next
+  stop : Result Tally Refusal → Next
 
 -- the proof is turned down
 abbrev pub down : Refusal → Next
-down refusal = stop (Verdict.Refused refusal)
+down refusal = stop (Err refusal)
 
 -- the place of the next command
 abbrev pub place_of : Limits → State → ℕ

@@ -1,35 +1,32 @@
 // A hint of a step: what its clause says, and what follows from it.
-ghost use Rattle.std.specs.Prelude.{◌≡◌, ℕ, ◌+◌, ◌/◌, ◌<◌, ◌≤◌, List, ◌++◌, length, slice_set};
+ghost use Rattle.std.specs.Prelude.{◌≡◌, ℕ, ◌+◌, ◌/◌, ◌<◌, ◌≤◌, List, length, slice_set};
 ghost use Rattle.proof_propagation.specs.Marks.{true_mark};
 ghost use Rattle.proof_propagation.specs.declared.Hint.{Hint};
 ghost use Rattle.proof_reader.specs.declared.Command.{Command};
 ghost use Rattle.proof_check.specs.Lent.{limits_of};
 ghost use Rattle.proof_check.specs.Check.{on_hint};
-ghost use Rattle.proof_check.specs.State.{stop};
-ghost use Rattle.proof_check.specs.Inner.Held.{state_of, Store, Parted, with_hint};
+ghost use Rattle.proof_check.specs.State.{down};
+ghost use Rattle.proof_check.specs.Inner.Held.{state_of, state_in, Holds, with_hint};
 ghost use Rattle.proof_check.specs.Inner.Rows.{said_by};
 ghost use Rattle.proof_check.specs.declared.Phase.{Phase};
 
 use crate::phases::{is_conflicted, is_going};
-use crate::{Phase, Progress, Refusal, Verdict};
+use crate::{Phase, Progress, Refusal};
 use proof_propagation::Hint;
 use proof_propagation::marks::true_mark;
-use proof_propagation::scans::scan_stored;
+use proof_propagation::stored::ClauseStore;
 use proof_reader::Command;
 
 // What the clause of a hint says where the step is open and the clause is there; any other command says neither.
 pub fn said_by(
-    closed: &[u8],
-    proof: &[u8],
-    words: &[u32],
+    store: ClauseStore,
     starts: &[u32],
     marks: &[u8],
     p: Progress,
     command: Command,
 ) -> Hint
-    requires store { Store words.now starts.now (closed.now ++ proof.now) p.given (length marks.now) p.count p.used }
-    requires parted { Parted closed.now starts.now p }
-    ensures { result ≡ said_by (state_of words.now starts.now marks.now (closed.now ++ proof.now) p) command }
+    requires { Holds store starts.now (length marks.now) p }
+    ensures { result ≡ said_by (state_in store.entry starts.now marks.now p) command }
 {
     match command {
         Command::Hint(h) => {
@@ -44,7 +41,7 @@ pub fn said_by(
             if p.count <= i {
                 return Hint::Neither;
             }
-            scan_stored(closed, proof, words, starts, marks, p.given, i)
+            store.scan(starts, marks, p.given, i)
         }
         Command::Literal(_) => Hint::Neither,
         Command::Close => Hint::Neither,
@@ -60,15 +57,10 @@ pub fn with_hint(p: Progress, phase: Phase, decided: usize) -> Progress
 {
     Progress {
         at: p.at + 5,
-        begin: p.begin,
-        given: p.given,
-        used: p.used,
-        count: p.count,
-        literals: p.literals,
         decided,
         phase,
-        steps: p.steps,
         hints: p.hints + 1,
+        ..p
     }
 }
 
@@ -96,20 +88,20 @@ pub fn decide(marks: &mut [u8], trail: &mut [u32], p: Progress, l: u32) -> Progr
 }
 
 // Why a hint is turned down whose clause is neither a conflict nor makes a literal true, or is not there, or may not be cited.
-pub fn refuse_hint(base: usize, p: Progress, h: u32) -> Verdict
+pub fn refuse_hint(base: usize, p: Progress, h: u32) -> Refusal
     requires { (p.at ≤ 16777216) × (base ≤ 16777216) }
-    ensures { (w s m r : List ℕ) → said_by (state_of w s m r p) (Command.Hint h) ≡ Hint.Neither → stop result ≡ on_hint (limits_of base w s m) (state_of w s m r p) h }
+    ensures { (w s m r : List ℕ) → said_by (state_of w s m r p) (Command.Hint h) ≡ Hint.Neither → down result ≡ on_hint (limits_of base w s m) (state_of w s m r p) h }
 {
     let place = base + p.at;
     let phase = p.phase;
     if !is_going(phase) {
-        return Verdict::Refused(Refusal::OutOfPlace(place));
+        return Refusal::OutOfPlace(place);
     }
     if p.count <= h as usize {
-        return Verdict::Refused(Refusal::NoClause(place));
+        return Refusal::NoClause(place);
     }
     if is_conflicted(phase) {
-        return Verdict::Refused(Refusal::AfterConflict(place));
+        return Refusal::AfterConflict(place);
     }
-    Verdict::Refused(Refusal::Neither(place))
+    Refusal::Neither(place)
 }

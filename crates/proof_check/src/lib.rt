@@ -8,7 +8,6 @@ mod hints;
 mod literals;
 mod phases;
 mod rows;
-mod stops;
 mod turns;
 mod undoing;
 
@@ -19,12 +18,12 @@ ghost use Rattle.proof_check.specs.Check.{check_proof};
 ghost use Rattle.proof_check.specs.Lent.{limits_of};
 ghost use Rattle.proof_check.specs.Sound.{Refutes};
 
+use proof_propagation::stored::ClauseStore;
 use proof_reader::Command;
-use slices::zero_bytes;
 use turns::finish;
 
 // Where a step stands.
-#[derive(Clone, Copy)]
+#[derive(Clone, Copy, PartialEq, Eq)]
 pub enum Phase {
     // among its literals
     Literals,
@@ -75,11 +74,11 @@ pub enum Refusal {
     Full(usize),
 }
 
-// What is said of a proof.
+// What an accepted proof is made of: the steps that it closes, and the hints that it has.
 #[derive(Clone, Copy)]
-pub enum Verdict {
-    Accepted { steps: usize, hints: usize },
-    Refused(Refusal),
+pub struct Tally {
+    pub steps: usize,
+    pub hints: usize,
 }
 
 // Where a row of hints ends, and the command that follows it.
@@ -89,21 +88,22 @@ pub struct Row {
     pub command: Command,
 }
 
-// What follows a command.
+// What follows a command that is not turned down.
 #[derive(Clone, Copy)]
 pub enum Turn {
     More(Progress),
-    Stop(Verdict),
+    Ended(Tally),
 }
 
 // What is said of a proof, and where the check stood when it was said.
 #[derive(Clone, Copy)]
 pub struct Ended {
     pub progress: Progress,
-    pub verdict: Verdict,
+    pub verdict: Result<Tally, Refusal>,
 }
 
-// The literals that a step's hints may make true so that its marks are undone by a list of them: a step with more is read again.
+// The literals that a step's hints may make true so that its marks are undone by a list of them: a step with more is read again. Nothing is allocated,
+// so that their number stands beside the array.
 const TRAIL: usize = 4096;
 
 // Checks the proof that begins at the offset `from` of these bytes, and adds `base` to each offset that it tells, over the first `count` clauses, which stand in the
@@ -118,12 +118,12 @@ pub fn check_proof(
     words: &[u32],
     starts: &mut [u32],
     marks: &mut [u8],
-) -> Verdict
+) -> Result<Tally, Refusal>
     requires { Begins proof.now from base count used words.now starts.old marks.old }
     ensures value { result ≡ (check_proof (clauses_of words.now starts.old count) (limits_of base words.now starts.old marks.old) proof.now from).verdict }
     ensures refutes { Refutes (clauses_of words.now starts.old count) result }
 {
-    zero_bytes(marks);
+    marks.fill(0);
     let mut trail = [0u32; TRAIL];
     let p = Progress {
         at: from,
@@ -137,15 +137,11 @@ pub fn check_proof(
         steps: 0,
         hints: 0,
     };
-    let checked = finish(
-        &proof[..0],
-        proof,
-        base,
+    let store = ClauseStore {
         words,
-        starts,
-        marks,
-        &mut trail,
-        p,
-    );
+        closed: &proof[..0],
+        proof,
+    };
+    let checked = finish(store, base, starts, marks, &mut trail, p);
     checked.verdict
 }

@@ -8,36 +8,21 @@ use crate::Phase;
 pub fn is_going(phase: Phase) -> bool
     ensures { result ≡ going phase }
 {
-    match phase {
-        Phase::Literals => true,
-        Phase::Hints => true,
-        Phase::Conflict => true,
-        Phase::Empty => false,
-    }
+    phase != Phase::Empty
 }
 
 // No hint of the step came yet.
 pub fn is_in_literals(phase: Phase) -> bool
     ensures { result ≡ in_literals phase }
 {
-    match phase {
-        Phase::Literals => true,
-        Phase::Hints => false,
-        Phase::Conflict => false,
-        Phase::Empty => false,
-    }
+    phase == Phase::Literals
 }
 
 // The step's conflict came.
 pub fn is_conflicted(phase: Phase) -> bool
     ensures { result ≡ conflicted phase }
 {
-    match phase {
-        Phase::Literals => false,
-        Phase::Hints => false,
-        Phase::Conflict => true,
-        Phase::Empty => false,
-    }
+    phase == Phase::Conflict
 }
 
 // The phase after a clause of so many literals was closed.

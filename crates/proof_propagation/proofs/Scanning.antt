@@ -4,9 +4,7 @@ use mathlib.Core.Path.{◌≡◌, refl, sym, ap, ◌∙◌}
 use mathlib.Core.List.{List, [], ◌∷◌}
 use mathlib.Core.Bool.{true, false}
 use native.Mathlib.Omega.{arith}
-use native.Mathlib.Numerals.{add-one}
-use lib.ListN.{length, get_or}
-use lib.Seq.{slice, slice_empty, slice-cons}
+use lib.ListN.{length}
 use borrow.Author.Tests.{eq-eqb, ne_eqb}
 use Rattle.cnf.specs.Clause.{Clause}
 use Rattle.proof_propagation.specs.Marks.{is_false, undecided}
@@ -53,14 +51,6 @@ scan_one m f h e = rw (ne_eqb f 0 h, e) refl
 pub scan_set : (m : List ℕ) (f : ℕ) → (f ≡ 0 → ⊥) → undecided m f ≡ false → scan_of m f [] ≡ Hint.Neither
 unfolding scan_of not_false of_left all_same
 scan_set m f h e = rw (ne_eqb f 0 h, e) refl
-
--- ---- a part of the words
-
-pub slice_more : (words : List ℕ) (i to : ℕ) → i < to → to ≤ length words → slice i to words ≡ get_or words i 0 ∷ slice (i + 1) to words
-slice_more words i to h k = rw add-one (slice-cons i to words 0 h k)
-
-pub slice_none : (words : List ℕ) (i to : ℕ) → i ≤ to → to ≤ i → slice i to words ≡ []
-slice_none words i to h k = let e : i ≡ to = omega arith in rw (e, slice_empty to words) refl
 
 -- the first literal of a clause, and the others, are of variables that have a mark
 pub fits_parts : (n : ℕ) (c : Clause) (l : ℕ) (d : Clause) → HasMarks n c → c ≡ l ∷ d → ((2 ≤ l) × (l / 2 < n)) × HasMarks n d

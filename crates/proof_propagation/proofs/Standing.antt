@@ -1,21 +1,21 @@
 -- Clauses that have numbers, where they stand, and the literal that a hint makes true. Assumes nothing.
-use Prim.Native.Nat.{ℕ, zero, suc, ◌-◌, ◌/◌, ◌<◌, ◌≤◌}
-use mathlib.Core.Path.{◌≡◌, refl, sym, subst, ◌∙◌}
+use Prim.Native.Nat.{ℕ, zero, suc, ◌+◌, ◌-◌, ◌*◌, ◌/◌, ◌<◌, ◌≤◌}
+use mathlib.Core.Path.{◌≡◌, refl, sym, ap, subst, ◌∙◌}
 use mathlib.Core.List.{List, [], ◌∷◌, ◌++◌}
 use mathlib.Core.Bool.{Bool, ◌&&◌, cond}
 use mathlib.Core.Logic.{◌⊎◌, inl, inr, ⊎_elim}
 use native.Mathlib.Omega.{arith}
-use lib.ListN.{length, get_or, length-append, get_or-append}
-use lib.Seq.{get_or-append_seam}
+use lib.ListN.{length, get_or, take, drop, length-append, get_or-append}
+use lib.Seq.{get_or-append_seam, slice}
+use Rattle.std.proofs.lemmas.List.{drop-take}
 use borrow.Author.Tests.{lt-ltb, le-ltb}
 use Rattle.cnf.specs.Clause.{Clause}
 use Rattle.proof_reader.specs.Inner.Literals.{run_at}
 use Rattle.proof_reader.specs.Inner.Runs.{Runs}
-use Rattle.proof_reader.proofs.Running.{run_append}
-use Rattle.proof_reader.proofs.Past.{run_past}
+use Rattle.proof_reader.proofs.Running.{run_is, run_length, runs-within}
 use Rattle.proof_propagation.specs.Marks.{is_false, undecided}
 use Rattle.proof_propagation.specs.Hint.{not_false, all_same, of_left, hint_of}
-use Rattle.proof_propagation.specs.Stored.{start_of, clause_at, first_of, clauses_of}
+use Rattle.proof_propagation.specs.Stored.{start_of, end_of, clause_at, first_of, clauses_of}
 use Rattle.proof_propagation.specs.Inner.Standing.{stored_at, stored_of, HasMarks}
 use Rattle.proof_propagation.specs.declared.Hint.{Hint}
 use Rattle.proof_propagation.proofs.Cases.{both, below_or}
@@ -44,6 +44,13 @@ unfolding first_of
 first-same f g zero e = refl
 first-same f g (suc n) e = rw (first-same f g n (λ i h. e i (omega arith)), e n (omega arith)) refl
 
+-- ---- a part of the words, as the code lends it
+
+pub lent_part : (xs : List ℕ) (from to : ℕ) → from ≤ to → take (to - from) (drop from xs) ≡ slice from to xs
+lent_part xs from to h =
+    let e : from + (to - from) ≡ to = omega arith in
+    sym (subst (λ (k : ℕ). slice from k xs ≡ take (to - from) (drop from xs)) e (drop-take from (to - from) xs))
+
 -- ---- where a clause stands
 
 module _ (w s r : List ℕ) (given i : ℕ) where
@@ -55,16 +62,14 @@ module _ (w s r : List ℕ) (given i : ℕ) where
   unfolding stored_at
   stored_step h = rw (le-ltb i given h) refl
 
--- of two parts of a proof it stands in the one where it begins
-module _ (w s a b : List ℕ) (given i : ℕ) (h : given ≤ i) where
-  pub stored_first : Runs a (start_of s i) → stored_at w s (a ++ b) given i ≡ run_at a (start_of s i)
-  stored_first r = stored_step w s (a ++ b) given i h ∙ (run_append a b (start_of s i) r).1
+  -- one that was given is the part of the words that the code lends
+  pub stored_lent : i < given → take (end_of w s i - (start_of s i + 1)) (drop (start_of s i + 1) w) ≡ stored_at w s r given i
+  unfolding clause_at
+  stored_lent h = lent_part w (start_of s i + 1) (end_of w s i) (omega arith) ∙ sym (stored_given h)
 
-  pub stored_second : length a ≤ start_of s i → Runs (a ++ b) (start_of s i)
-      → (Runs b (start_of s i - length a)) × (stored_at w s (a ++ b) given i ≡ run_at b (start_of s i - length a))
-  stored_second k r =
-      let y = run_past a b (start_of s i) (start_of s i - length a) (omega arith) r in
-      (y.0, stored_step w s (a ++ b) given i h ∙ y.1)
+-- a run has fewer literals than the proof has bytes
+pub run_few : (r : List ℕ) (at : ℕ) → Runs r at → length (run_at r at) * 5 < length r
+run_few r at h = omega (arith, runs-within r at h.0 h.1, run_length r at h.0, ap length (run_is r at h.0 h.1))
 
 -- those given are those in the words
 pub stored_all_given : (w s r : List ℕ) (n : ℕ) → stored_of w s r n n ≡ clauses_of w s n

@@ -11,7 +11,7 @@ pub fn is_false(marks: &[u8], literal: u32) -> bool
     ensures { result ≡ is_false marks.now literal }
 {
     let v = (literal / 2) as usize;
-    (marks[v] as u32) == 2 - literal % 2
+    u32::from(marks[v]) == 2 - literal % 2
 }
 
 // The mark that makes a literal true.

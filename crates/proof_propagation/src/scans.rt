@@ -1,34 +1,50 @@
-// What a stored clause says under the marks.
-ghost use Rattle.std.specs.Prelude.{◌≡◌, ◌++◌, length};
+// What the literals of a clause say under the marks.
+ghost use Rattle.std.specs.Prelude.{◌≡◌, length};
 ghost use Rattle.proof_propagation.specs.Hint.{hint_of};
-ghost use Rattle.proof_propagation.specs.Inner.Standing.{stored_at, Stands, InPart};
+ghost use Rattle.proof_propagation.specs.Inner.Standing.{HasMarks};
 
 use crate::Hint;
-use crate::runs::scan_run;
-use crate::words::scan_words;
+use crate::literals::Literals;
+use crate::marks::{is_false, told};
 
-// The clause of a number: it stands in the words where it was given, and else in one of the proof's two slices, by its offset.
-pub fn scan_stored(
-    closed: &[u8],
-    proof: &[u8],
-    words: &[u32],
-    starts: &[u32],
-    marks: &[u8],
-    given: usize,
-    number: usize,
-) -> Hint
-    requires stands { Stands words.now starts.now (closed.now ++ proof.now) given (length marks.now) number }
-    requires in_part { InPart closed.now starts.now given number }
-    ensures { result ≡ hint_of marks.now (stored_at words.now starts.now (closed.now ++ proof.now) given number) }
+// What literals say, each compared with the one found: one that comes again is the same one.
+fn compare<L: Literals>(literals: L, marks: &[u8]) -> Hint
+    requires readable { L.readable literals }
+    requires has_marks { HasMarks (length marks.now) (L.left literals) }
+    ensures { result ≡ hint_of marks.now (L.left literals) }
 {
-    let start = starts[number] as usize;
-    if number < given {
-        let from = start + 1;
-        return scan_words(words, marks, from, from + words[start] as usize);
+    let mut found: u32 = 0;
+    let mut rest = literals;
+    while let Some(l) = rest.next() {
+        if !is_false(marks, l) {
+            if found == 0 {
+                found = l;
+            } else if found != l {
+                return Hint::Neither;
+            }
+        }
     }
-    if start < closed.len() {
-        scan_run(closed, marks, start)
-    } else {
-        scan_run(proof, marks, start - closed.len())
+    told(marks, found)
+}
+
+// The same. How many literals are not false, and the last of these, tell of a clause that has one or none. Which are false cannot be foretold, so nothing is left early,
+// and the loop is compiled without a jump by them.
+pub fn scan<L: Literals>(literals: L, marks: &[u8]) -> Hint
+    requires readable { L.readable literals }
+    requires has_marks { HasMarks (length marks.now) (L.left literals) }
+    ensures { result ≡ hint_of marks.now (L.left literals) }
+{
+    let mut left: usize = 0;
+    let mut found: u32 = 0;
+    let mut rest = literals;
+    while let Some(l) = rest.next() {
+        if !is_false(marks, l) {
+            left += 1;
+            found = l;
+        }
     }
+    if left < 2 {
+        return told(marks, found);
+    }
+    compare(literals, marks)
 }

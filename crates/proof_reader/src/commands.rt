@@ -1,4 +1,4 @@
-// The command at an offset of a report, read from the plain slice.
+// The command at an offset of a report, read from the plain slice, by its byte.
 ghost use Rattle.std.specs.Prelude.{◌≡◌};
 ghost use Rattle.proof_reader.specs.Command.{command_at};
 

@@ -1,5 +1,4 @@
 use native.Mathlib.Omega.{arith}
-use Rattle.slices.proofs.Used.{used-length, used-short}
 use Rattle.proof_propagation.specs.Stored.{clauses_of}
 use Rattle.proof.specs.Checking.{part}
 use Rattle.proof.proofs.Asking.{unsatisfied_unfit, check_unfit, too_long, too_far, too_few, check_over, unsatisfied_over}
@@ -16,23 +15,6 @@ returns-then-report-from c =
 pub returns-then-m-variables : goal.returns-then-m-variables
 returns-then-m-variables c =
     record { checks = check_unfit c.args.words.now c.args.starts.now c.args.marks.now c.args.report.now c.args.from c.args.clauses c.args.variables (too_few c.args.words.now c.args.starts.now c.args.marks.now c.args.report.now c.args.from c.args.clauses c.args.variables c.if-report-gt16777216.false c.if-report-from.false (omega (arith, c.usable-m.ensures, c.if-m-variables.true))); unsatisfied = unsatisfied_unfit (clauses_of (part c.args.words.now) (part c.args.starts.now) c.args.clauses) }
-
-pub slice_bounds-check_parts-end : goal.slice_bounds-check_parts-end
-slice_bounds-check_parts-end c = used-length c.args.words.now _ c.usable-w.ensures
-
-pub slice_bounds-check_parts-end-3 : goal.slice_bounds-check_parts-end-3
-slice_bounds-check_parts-end-3 c = used-length c.args.starts.now _ c.usable-s.ensures
-
-pub slice_bounds-check_parts-end-5 : goal.slice_bounds-check_parts-end-5
-slice_bounds-check_parts-end-5 c = used-length c.args.marks.now _ c.usable-m.ensures
-
-pub check_parts-requires : goal.check_parts-requires
-check_parts-requires c = (
-  used-short c.args.words.now _ c.usable-w.ensures,
-  omega (arith, used-length c.args.marks.now _ c.usable-m.ensures, c.if-m-variables.false),
-  c.if-report-from.false,
-  c.if-report-gt16777216.false,
-)
 
 pub returns : goal.returns
 returns c =

@@ -1,9 +1,15 @@
-use Rattle.proof_check.proofs.Going.{ready_start, parted_start, answered, refuted}
+use Rattle.std.proofs.Common.{refl}
+use Rattle.proof_check.proofs.Going.{between_start, answered, refuted}
 use Rattle.proof_check.proofs.check_proof.Goals as goal
 
-pub finish-checked-requires : goal.finish-checked-requires
-finish-checked-requires c = record { ready = ready_start c.args.proof.now c.args.from c.args.base c.args.count c.args.used c.args.words.now c.args.starts.now c.args.marks.now c.requires c.zero_bytes.new.bytes c.zero_bytes.ensures _; parted = parted_start c.args.proof.now c.args.from c.args.base c.args.count c.args.used c.args.words.now c.args.starts.now c.args.marks.now c.requires c.zero_bytes.new.bytes c.zero_bytes.ensures; base_bound = c.requires.based }
+pub finish-checked-requires-clause-between : goal.finish-checked-requires-clause-between
+finish-checked-requires-clause-between c =
+    between_start _ refl c.args.from c.args.base c.args.count c.args.used c.args.starts.now c.args.marks.now c.requires c.fill.new.self (c.fill.ensures.after (λ y e. e)) _
 
 pub returns : goal.returns
 returns c =
-    record { value = answered c.args.proof.now c.args.from c.args.base c.args.count c.args.used c.args.words.now c.args.starts.now c.args.marks.now c.requires c.zero_bytes.new.bytes c.zero_bytes.ensures c.finish-checked.new.starts c.finish-checked.new.marks c.finish-checked.new.trail c.finish-checked.result c.finish-checked.ensures; refutes = refuted c.args.proof.now c.args.from c.args.base c.args.count c.args.used c.args.words.now c.args.starts.now c.args.marks.now c.requires c.zero_bytes.new.bytes c.zero_bytes.ensures c.finish-checked.new.starts c.finish-checked.new.marks c.finish-checked.new.trail c.finish-checked.result c.finish-checked.ensures }
+    let e = c.finish-checked.ensures in
+    record {
+      value = answered _ refl c.args.from c.args.base c.args.count c.args.used c.args.starts.now c.args.marks.now c.requires c.fill.new.self (c.fill.ensures.after (λ y e. e)) _ _ _ _ e;
+      refutes = refuted _ refl c.args.from c.args.base c.args.count c.args.used c.args.starts.now c.args.marks.now c.requires c.fill.new.self (c.fill.ensures.after (λ y e. e)) _ _ _ _ e;
+    }

@@ -1,8 +1,8 @@
 -- What the check of a proof asks and tells.
 use Rattle.std.specs.Prelude.{◌≡◌, ℕ, ◌≤◌, List, length}
-use Rattle.proof_check.specs.Check.{Outcome, finish}
-use Rattle.proof_check.specs.Lent.{limits_of}
-use Rattle.proof_check.specs.Inner.Held.{Store, state_of, Ready, Onward}
+use Rattle.proof_propagation.specs.declared.stored.ClauseStore.{ClauseStore}
+use Rattle.proof_check.specs.Check.{Outcome}
+use Rattle.proof_check.specs.Inner.Held.{Store, state_in, Between, Onward, finish_in}
 use Rattle.proof_check.specs.declared.Ended.{Ended}
 use Rattle.proof_check.specs.declared.Progress.{Progress}
 
@@ -16,7 +16,7 @@ pub record Begins (r : List ℕ) (from base count used : ℕ) (words starts mark
   pub based : base ≤ 16777216
 
 -- what going on from p to the end of the proof did: the definition comes to the same verdict, in the state that is handed back, and from there it can be gone on
-pub record Finished (r : List ℕ) (base : ℕ) (words starts marks : List ℕ) (p : Progress) (starts₁ marks₁ trail₁ : List ℕ) (c : Ended) : Type 0 where
-  pub same : ◌≡◌ {A = Outcome} (record { verdict = c.verdict; last = state_of words starts₁ marks₁ r c.progress }) (finish (limits_of base words starts marks) r (state_of words starts marks r p))
-  pub ready : Ready words starts₁ marks₁ trail₁ r c.progress
-  pub onward : Onward starts starts₁ p c.progress
+pub record Finished (c : ClauseStore) (base : ℕ) (starts marks : List ℕ) (p : Progress) (starts₁ marks₁ trail₁ : List ℕ) (e : Ended) : Type 0 where
+  pub same : ◌≡◌ {A = Outcome} (record { verdict = e.verdict; last = state_in c starts₁ marks₁ e.progress }) (finish_in base c starts marks (state_in c starts marks p))
+  pub between : Between c starts₁ marks₁ trail₁ e.progress
+  pub onward : Onward starts starts₁ p e.progress

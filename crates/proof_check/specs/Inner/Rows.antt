@@ -6,9 +6,9 @@ use Rattle.proof_reader.specs.Command.{command_at}
 use Rattle.proof_reader.specs.declared.Command.{Command}
 use Rattle.proof_check.specs.Phase.{going, conflicted}
 use Rattle.proof_check.specs.State.{State}
-use Rattle.proof_check.specs.Check.{finish}
-use Rattle.proof_check.specs.Lent.{limits_of}
-use Rattle.proof_check.specs.Inner.Held.{state_of, Ready, Onward}
+use Rattle.proof_propagation.specs.Inner.Store.{proof_of}
+use Rattle.proof_propagation.specs.declared.stored.ClauseStore.{ClauseStore}
+use Rattle.proof_check.specs.Inner.Held.{state_in, Between, Onward, finish_in}
 use Rattle.proof_check.specs.declared.Progress.{Progress}
 use Rattle.proof_check.specs.declared.Row.{Row}
 
@@ -25,10 +25,10 @@ said_by s Command.End = Hint.Neither
 said_by s Command.Unreadable = Hint.Neither
 
 -- what going over a row of hints from p on did: the definition goes on from there to the same outcome; the command that follows is no hint of the row
-pub record Rowed (r words starts marks : List ℕ) (p : Progress) (marks₁ trail₁ : List ℕ) (x : Row) : Type 0 where
-  pub ready : Ready words starts marks₁ trail₁ r x.progress
+pub record Rowed (c : ClauseStore) (starts marks : List ℕ) (p : Progress) (marks₁ trail₁ : List ℕ) (x : Row) : Type 0 where
+  pub between : Between c starts marks₁ trail₁ x.progress
   pub onward : Onward starts starts p x.progress
   pub further : p.at ≤ x.progress.at
-  pub goes : (base : ℕ) → finish (limits_of base words starts marks) r (state_of words starts marks r p) ≡ finish (limits_of base words starts marks) r (state_of words starts marks₁ r x.progress)
-  pub read : x.command ≡ command_at r x.progress.at
-  pub neither : said_by (state_of words starts marks₁ r x.progress) x.command ≡ Hint.Neither
+  pub goes : (base : ℕ) → finish_in base c starts marks (state_in c starts marks p) ≡ finish_in base c starts marks (state_in c starts marks₁ x.progress)
+  pub read : x.command ≡ command_at (proof_of c) x.progress.at
+  pub neither : said_by (state_in c starts marks₁ x.progress) x.command ≡ Hint.Neither

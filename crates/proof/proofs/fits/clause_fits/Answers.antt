@@ -6,9 +6,6 @@ pub returns-then-starts-number : goal.returns-then-starts-number
 returns-then-starts-number c =
     clause_unlisted c.args.words.now c.args.starts.now c.args.variables c.args.number c.args.at c.if-starts-number.true
 
-pub overflow_cast-starts : goal.overflow_cast-starts
-overflow_cast-starts c = omega (arith, c.type_inv.starts c.args.number)
-
 pub returns-then-starts-number-2 : goal.returns-then-starts-number-2
 returns-then-starts-number-2 c =
     clause_elsewhere c.args.words.now c.args.starts.now c.args.variables c.args.number c.args.at c.if-starts-number.false c.if-starts-number-2.true
@@ -16,12 +13,6 @@ returns-then-starts-number-2 c =
 pub returns-then-words-at : goal.returns-then-words-at
 returns-then-words-at c =
     clause_outside c.args.words.now c.args.starts.now c.args.variables c.args.number c.args.at c.if-starts-number.false c.if-starts-number-2.false (omega arith)
-
-pub overflow_cast-to : goal.overflow_cast-to
-overflow_cast-to c = omega (arith, c.type_inv.words c.args.at)
-
-pub overflow_add-to-2 : goal.overflow_add-to-2
-overflow_add-to-2 c = omega (arith, c.type_inv.words c.args.at, c.requires)
 
 pub returns-then-words-to : goal.returns-then-words-to
 returns-then-words-to c =

@@ -1,22 +1,13 @@
-use native.Mathlib.Omega.{arith}
-use mathlib.Core.Path.{refl, sym, ◌∙◌}
-use Rattle.proof.proofs.Fitting.{fit_next, fit_not, fit_end}
+use Rattle.std.proofs.Common.{◌-◌, take, drop, rules, tests, ◌∙◌, ap}
+use Rattle.std.proofs.lemmas.Iterator.{YieldsList-from_slice}
+use Rattle.std.proofs.lemmas.Iterator.Search.{all_from_yields_List}
+use Rattle.proof_propagation.proofs.Standing.{lent_part}
+use Rattle.proof_check.specs.Check.{of_variable}
+use Rattle.proof.specs.Fit.{literals_fit}
 use Rattle.proof.proofs.fits.literals_fit.Goals as goal
-
-pub loop-i-init : goal.loop-i-init
-loop-i-init c = (omega arith, omega arith, refl)
-
-pub returns-then-not-of_variable : goal.returns-then-not-of_variable
-returns-then-not-of_variable c =
-    fit_not c.args.words.now c.args.variables c.loop-i.i c.args.to c.loop-i-test.true c.requires.1 (sym c.of_variable.ensures ∙ c.if-not-of_variable.true) ∙ c.loop-i.invariant.2
-
-pub loop-i-preserved : goal.loop-i-preserved
-loop-i-preserved c = (
-  omega arith,
-  omega arith,
-  fit_next c.args.words.now c.args.variables c.loop-i.i c.args.to c.loop-i-test.true c.requires.1 (sym c.of_variable.ensures ∙ c.if-not-of_variable.false) ∙ c.loop-i.invariant.2,
-)
 
 pub returns : goal.returns
 returns c =
-    sym (fit_end c.args.words.now c.args.variables c.loop-i.i c.args.to c.loop-i.invariant.1 c.loop-i-test.false) ∙ c.loop-i.invariant.2
+    let xs = take (c.args.to - c.args.from) (drop c.args.from c.args.words.now) in
+    all_from_yields_List (of_variable c.args.variables) _ _ _ c.all.ensures.ran (YieldsList-from_slice xs cc) (λ x b q k. search (rules, tests))
+    ∙ ap (literals_fit c.args.variables) (lent_part c.args.words.now c.args.from c.args.to c.requires.0)

@@ -1,36 +1,16 @@
 use native.Mathlib.Omega.{arith}
 use mathlib.Core.Path.{sym, ◌∙◌}
-use Rattle.proof.proofs.Fitting.{clause_fits_lem, stand_start, stand_next, stand_not, stand_end}
+use Rattle.proof.proofs.Fitting.{clause_fits_lem, stand_next, stand_not, stand_end}
 use Rattle.proof.proofs.fits.stand.Goals as goal
-
-pub loop-i-init : goal.loop-i-init
-loop-i-init c =
-    (omega arith, omega arith, stand_start c.args.words.now c.args.starts.now c.args.variables c.args.count)
 
 pub returns-then-not-clause_fits : goal.returns-then-not-clause_fits
 returns-then-not-clause_fits c =
     sym (stand_not c.args.words.now c.args.starts.now c.args.variables c.args.count c.loop-i.i c.loop-i.at c.loop-i-test.true (sym c.clause_fits.ensures ∙ c.if-not-clause_fits.true)) ∙ c.loop-i.invariant.2
 
-pub offset_bounds-words-at : goal.offset_bounds-words-at
-offset_bounds-words-at c =
-    let f = clause_fits_lem c.args.words.now c.args.starts.now c.args.variables c.loop-i.i c.loop-i.at (sym c.clause_fits.ensures ∙ c.if-not-clause_fits.false) in
-    omega (arith, f.inside)
-
 pub bounds-words-at : goal.bounds-words-at
 bounds-words-at c =
     let f = clause_fits_lem c.args.words.now c.args.starts.now c.args.variables c.loop-i.i c.loop-i.at (sym c.clause_fits.ensures ∙ c.if-not-clause_fits.false) in
     omega (arith, f.inside)
-
-pub overflow_cast-at : goal.overflow_cast-at
-overflow_cast-at c = omega (arith, c.type_inv.words c.loop-i.at)
-
-pub overflow_add-at : goal.overflow_add-at
-overflow_add-at c = omega (arith, c.type_inv.words c.loop-i.at)
-
-pub overflow_add-at-in-loop-i : goal.overflow_add-at-in-loop-i
-overflow_add-at-in-loop-i c =
-    let f = clause_fits_lem c.args.words.now c.args.starts.now c.args.variables c.loop-i.i c.loop-i.at (sym c.clause_fits.ensures ∙ c.if-not-clause_fits.false) in
-    omega (arith, f.inside, c.requires)
 
 pub loop-i-preserved : goal.loop-i-preserved
 loop-i-preserved c =

@@ -8,9 +8,6 @@ use Rattle.proof_propagation.proofs.marks.told.Goals as goal
 pub returns-then-found-eq0 : goal.returns-then-found-eq0
 returns-then-found-eq0 c = sym (ap (λ k. scan_of c.args.marks.now k []) c.if-found-eq0.true ∙ scan_none c.args.marks.now)
 
-pub bounds-marks-v : goal.bounds-marks-v
-bounds-marks-v c = c.requires c.if-found-eq0.false
-
 pub returns-then-marks-v-eq0 : goal.returns-then-marks-v-eq0
 returns-then-marks-v-eq0 c = sym (scan_one c.args.marks.now c.args.found c.if-found-eq0.false (eq-eqb _ 0 c.if-marks-v-eq0.true))
 
