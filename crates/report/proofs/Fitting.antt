@@ -1,4 +1,5 @@
 -- 16 and the proof, from what the translation and the check answered. Assumes nothing.
+use Rattle.std.specs.Prelude.{Result, Ok, Err}
 use mathlib.Core.Path.{◌≡◌, refl, sym, ap, subst, ◌∙◌}
 use mathlib.Core.List.{List}
 use mathlib.Core.Bool.{Bool, true, false, cond}
@@ -16,7 +17,7 @@ use Rattle.routine_faults.specs.declared.Counts.{Counts}
 use Rattle.routine.specs.Routine.{Arm}
 use Rattle.routine.specs.Decode.{routine, decode, commands_in}
 use Rattle.routine.specs.Inner.Known.{IsRoutineWith}
-use Rattle.routine.proofs.Accepted.{commands_are}
+use Rattle.routine.proofs.Decoded.{commands_are}
 use Rattle.cnf.specs.Clause.{Clause, flatten, offsets}
 use Rattle.translation_command.specs.Command.{Encoding}
 use Rattle.translation.specs.Answer.{TranslationAnswer, fitted}
@@ -24,7 +25,6 @@ use Rattle.translation.specs.Inner.Fitted.{Fitted}
 use Rattle.translation_meaning.specs.Translation.{translation_of, clauses_of_all, translation_size}
 use Rattle.translation.specs.declared.Refusal as translating
 use Rattle.translation_meaning.specs.declared.Size.{Size}
-use Rattle.translation.specs.declared.Translated.{Translated}
 use Rattle.proof_propagation.specs.Stored.{clauses_of}
 use Rattle.proof_check.specs.Inner.Begins.{Begins}
 use Rattle.proof_check.specs.Lent.{limits_of}
@@ -36,7 +36,7 @@ use Rattle.report_judgement.specs.Proof.{Room, by_verdict, proved_by}
 use Rattle.report.specs.Inner.Parts.{room_of}
 use Rattle.report.specs.Inner.Translation.{by_translation}
 use Rattle.report_judgement.specs.declared.Refusal.{Refusal}
-use Rattle.report_judgement.specs.declared.Proved.{Proved}
+use Rattle.proof_check.specs.declared.Tally.{Tally}
 use Rattle.report.proofs.Proper.{whole_proper}
 
 -- a buffer that is not too long is used whole
@@ -53,20 +53,20 @@ pub record Made (words starts words₁ starts₁ : List ℕ) (size : Size) (x : 
   pub words_are : words₁ ≡ sets words 0 (flatten (clauses_of_all x))
   pub starts_are : starts₁ ≡ sets starts 0 (offsets 0 (clauses_of_all x))
 
-module _ (words starts words₁ starts₁ : List ℕ) (short : length words ≤ 16777216) (few : length starts ≤ 16777216) (z : Translated) (x : Encoding)
+module _ (words starts words₁ starts₁ : List ℕ) (short : length words ≤ 16777216) (few : length starts ≤ 16777216) (z : Result Size translating.Refusal) (x : Encoding)
     (e : ◌≡◌ {A = TranslationAnswer} (record { translated = z; words = words₁; starts = starts₁ }) (fitted words starts x)) where
   abbrev by : (b c : Bool) → TranslationAnswer
   by b c =
       cond b
       (cond c
-      (record { translated = Translated.Clauses (translation_size x); words = sets words 0 (flatten (clauses_of_all x)); starts = sets starts 0 (offsets 0 (clauses_of_all x)) })
-      (record { translated = Translated.Refused (translating.Refusal.TooSmall Buffer.Starts); words = words; starts = starts }))
-      (record { translated = Translated.Refused (translating.Refusal.TooSmall Buffer.Words); words = words; starts = starts })
+      (record { translated = Ok (translation_size x); words = sets words 0 (flatten (clauses_of_all x)); starts = sets starts 0 (offsets 0 (clauses_of_all x)) })
+      (record { translated = Err (translating.Refusal.TooSmall Buffer.Starts); words = words; starts = starts }))
+      (record { translated = Err (translating.Refusal.TooSmall Buffer.Words); words = words; starts = starts })
 
-  made_by : (size : Size) → z ≡ Translated.Clauses size → (b c : Bool) → leb (translation_size x).words (usable words) ≡ b → leb (translation_size x).clauses (usable starts) ≡ c
+  made_by : (size : Size) → z ≡ Ok size → (b c : Bool) → leb (translation_size x).words (usable words) ≡ b → leb (translation_size x).clauses (usable starts) ≡ c
       → ◌≡◌ {A = TranslationAnswer} (record { translated = z; words = words₁; starts = starts₁ }) (by b c) → Made words starts words₁ starts₁ size x
   made_by size is true true p q f =
-      let y : Translated.Clauses size ≡ Translated.Clauses (translation_size x) = sym is ∙ ap (λ (v : TranslationAnswer). v.translated) f in
+      let y : Ok size ≡ Ok (translation_size x) = sym is ∙ ap (λ (v : TranslationAnswer). v.translated) f in
       record {
         sized = cc;
         words-room = rw (used-whole words short) at (leb-true (translation_size x).words (usable words) p);
@@ -75,37 +75,37 @@ module _ (words starts words₁ starts₁ : List ℕ) (short : length words ≤ 
         starts_are = ap (λ (v : TranslationAnswer). v.starts) f;
       }
   made_by size is true false p q f =
-      let y : Translated.Clauses size ≡ Translated.Refused (translating.Refusal.TooSmall Buffer.Starts) = sym is ∙ ap (λ (v : TranslationAnswer). v.translated) f in
+      let y : Ok size ≡ Err (translating.Refusal.TooSmall Buffer.Starts) = sym is ∙ ap (λ (v : TranslationAnswer). v.translated) f in
       let n : ◌≡◌ {A = ℕ} 0 1 = cc in
       absurd (omega arith)
   made_by size is false c p q f =
-      let y : Translated.Clauses size ≡ Translated.Refused (translating.Refusal.TooSmall Buffer.Words) = sym is ∙ ap (λ (v : TranslationAnswer). v.translated) f in
+      let y : Ok size ≡ Err (translating.Refusal.TooSmall Buffer.Words) = sym is ∙ ap (λ (v : TranslationAnswer). v.translated) f in
       let n : ◌≡◌ {A = ℕ} 0 1 = cc in
       absurd (omega arith)
 
-  made : (size : Size) → z ≡ Translated.Clauses size → Made words starts words₁ starts₁ size x
+  made : (size : Size) → z ≡ Ok size → Made words starts words₁ starts₁ size x
   made size is = made_by size is (leb (translation_size x).words (usable words)) (leb (translation_size x).clauses (usable starts)) refl refl e
 
   -- what was not made has no room in words, or in starts
   refused_by_lem : (r : List ℕ) (from base : ℕ) (m : Room) (h : Header) (k : Counts) → m.words ≡ length words → m.starts ≡ length starts
-      → (refusal : translating.Refusal) → z ≡ Translated.Refused refusal → (b c : Bool) → leb (translation_size x).words (usable words) ≡ b → leb (translation_size x).clauses (usable starts) ≡ c
-      → ◌≡◌ {A = TranslationAnswer} (record { translated = z; words = words₁; starts = starts₁ }) (by b c) → Proved.Refused (by_translation refusal) ≡ proved_by r from base m h k x
+      → (refusal : translating.Refusal) → z ≡ Err refusal → (b c : Bool) → leb (translation_size x).words (usable words) ≡ b → leb (translation_size x).clauses (usable starts) ≡ c
+      → ◌≡◌ {A = TranslationAnswer} (record { translated = z; words = words₁; starts = starts₁ }) (by b c) → Err (by_translation refusal) ≡ proved_by r from base m h k x
   unfolding proved_by
   refused_by_lem r from base m h k mw ms refusal is true true p q f =
-      let y : Translated.Refused refusal ≡ Translated.Clauses (translation_size x) = sym is ∙ ap (λ (v : TranslationAnswer). v.translated) f in
+      let y : Err refusal ≡ Ok (translation_size x) = sym is ∙ ap (λ (v : TranslationAnswer). v.translated) f in
       let n : ◌≡◌ {A = ℕ} 0 1 = cc in
       absurd (omega arith)
   refused_by_lem r from base m h k mw ms refusal is true false p q f =
-      let y : Translated.Refused refusal ≡ Translated.Refused (translating.Refusal.TooSmall Buffer.Starts) = sym is ∙ ap (λ (v : TranslationAnswer). v.translated) f in
+      let y : Err refusal ≡ Err (translating.Refusal.TooSmall Buffer.Starts) = sym is ∙ ap (λ (v : TranslationAnswer). v.translated) f in
       let n : refusal ≡ translating.Refusal.TooSmall Buffer.Starts = cc in
       rw (n, mw, ms, ← used-whole words short, ← used-whole starts few, p, q) refl
   refused_by_lem r from base m h k mw ms refusal is false c p q f =
-      let y : Translated.Refused refusal ≡ Translated.Refused (translating.Refusal.TooSmall Buffer.Words) = sym is ∙ ap (λ (v : TranslationAnswer). v.translated) f in
+      let y : Err refusal ≡ Err (translating.Refusal.TooSmall Buffer.Words) = sym is ∙ ap (λ (v : TranslationAnswer). v.translated) f in
       let n : refusal ≡ translating.Refusal.TooSmall Buffer.Words = cc in
       rw (n, mw, ← used-whole words short, p) refl
 
   not_made : (r : List ℕ) (from base : ℕ) (m : Room) (h : Header) (k : Counts) → m.words ≡ length words → m.starts ≡ length starts
-      → (refusal : translating.Refusal) → z ≡ Translated.Refused refusal → Proved.Refused (by_translation refusal) ≡ proved_by r from base m h k x
+      → (refusal : translating.Refusal) → z ≡ Err refusal → Err (by_translation refusal) ≡ proved_by r from base m h k x
   not_made r from base m h k mw ms refusal is =
       refused_by_lem r from base m h k mw ms refusal is (leb (translation_size x).words (usable words)) (leb (translation_size x).clauses (usable starts)) refl refl e
 
@@ -125,7 +125,7 @@ verdict-same r from base cs cs₁ v v₁ w w₁ s s₁ p q x y = rw (p, q, x, y)
 
 module _ (bs r : List ℕ) (from base : ℕ) (h : Header) (k : Counts) (i : IsRoutineWith bs h k) (lead : Lead) (words starts marks : List ℕ) (values trail : ℕ)
     (short : length words ≤ 16777216) (few : length starts ≤ 16777216)
-    (words₁ starts₁ : List ℕ) (z : Translated) (fit : Fitted bs h lead.target (decisions_of lead k) words starts words₁ starts₁ z) where
+    (words₁ starts₁ : List ℕ) (z : Result Size translating.Refusal) (fit : Fitted bs h lead.target (decisions_of lead k) words starts words₁ starts₁ z) where
   abbrev room : Room
   room = room_of words starts marks values trail
 
@@ -137,14 +137,14 @@ module _ (bs r : List ℕ) (from base : ℕ) (h : Header) (k : Counts) (i : IsRo
   d = i.decodes ∙ ap (λ (a : Arm). routine h a k) (sym (commands_are bs h i.commands k i.decodes))
 
   -- what is answered
-  abbrev Answer : Proved → Type 0
+  abbrev Answer : Result Tally Refusal → Type 0
   Answer p = p ≡ proved_by r from base room h k x
 
-  pub prove_refused : (refusal : translating.Refusal) → z ≡ Translated.Refused refusal → (why : Refusal) → why ≡ by_translation refusal → Answer (Proved.Refused why)
+  pub prove_refused : (refusal : translating.Refusal) → z ≡ Err refusal → (why : Refusal) → why ≡ by_translation refusal → Answer (Err why)
   prove_refused refusal is why by =
-      ap Proved.Refused by ∙ not_made words starts words₁ starts₁ short few z x (fit.tells (commands_in bs) k d) r from base room h k refl refl refusal is
+      ap Err by ∙ not_made words starts words₁ starts₁ short few z x (fit.tells (commands_in bs) k d) r from base room h k refl refl refusal is
 
-  module _ (size : Size) (is : z ≡ Translated.Clauses size) where
+  module _ (size : Size) (is : z ≡ Ok size) where
     y : Made words starts words₁ starts₁ size x
     y = made words starts words₁ starts₁ short few z x (fit.tells (commands_in bs) k d) size is
 
@@ -157,17 +157,17 @@ module _ (bs r : List ℕ) (from base : ℕ) (h : Header) (k : Counts) (i : IsRo
         clauses-same _ words₁ _ starts₁ _ size.clauses y.words_are y.starts_are (ap (λ (v : Size). v.clauses) y.sized)
         ∙ clauses-laid words starts (clauses_of_all x) y.words-room y.starts-room
 
-    pub prove_marks : length marks < size.variables + 1 → Answer (Proved.Refused (Refusal.TooSmall Buffer.Marks))
+    pub prove_marks : length marks < size.variables + 1 → Answer (Err (Refusal.TooSmall Buffer.Marks))
     unfolding proved_by
     prove_marks l = rw (le-leb _ _ y.words-room, le-leb _ _ y.starts-room, lt-leb _ _ (rw variables_are at l)) refl
 
     module _ (enough : size.variables + 1 ≤ length marks) where
-      pub prove_values : values < h.variables → Answer (Proved.Refused (Refusal.TooSmall Buffer.Values))
+      pub prove_values : values < h.variables → Answer (Err (Refusal.TooSmall Buffer.Values))
       unfolding proved_by
       prove_values l = rw (le-leb _ _ y.words-room, le-leb _ _ y.starts-room, le-leb _ _ (rw variables_are at enough), lt-leb _ _ l) refl
 
       module _ (valued : h.variables ≤ values) where
-        pub prove_trail : trail < k.ifs → Answer (Proved.Refused (Refusal.TooSmall Buffer.Trail))
+        pub prove_trail : trail < k.ifs → Answer (Err (Refusal.TooSmall Buffer.Trail))
         unfolding proved_by
         prove_trail l =
             rw (le-leb _ _ y.words-room, le-leb _ _ y.starts-room, le-leb _ _ (rw variables_are at enough), le-leb _ _ valued, lt-leb _ _ l) refl
@@ -183,7 +183,7 @@ module _ (bs r : List ℕ) (from base : ℕ) (h : Header) (k : Counts) (i : IsRo
             (subst (λ (v : ℕ). Proper v (clauses_of_all x)) (sym l) (whole_proper bs lead.target (decisions_of lead k) h (commands_in bs) k d))
             (omega (arith, l)) short within limit based)
 
-        pub proved : k.ifs ≤ trail → (p : Proved)
+        pub proved : k.ifs ≤ trail → (p : Result Tally Refusal)
             → p ≡ by_verdict (check_proof (clauses_of words₁ starts₁ size.clauses) (limits_of base words₁ starts₁ (take (size.variables + 1) marks)) r from).verdict
             → Answer p
         unfolding proved_by

@@ -1,4 +1,5 @@
 -- The clauses of a translation have literals of its variables only. Assumes nothing.
+use Rattle.std.proofs.Common.{Option, None, Some}
 use mathlib.Core.Path.{◌≡◌, refl}
 use mathlib.Core.List.{List, [], ◌∷◌, ◌++◌}
 use Prim.Native.Nat.{ℕ, zero, suc, ◌+◌, ◌/◌, ◌<◌, ◌≤◌}
@@ -10,7 +11,7 @@ use Rattle.routine_faults.specs.declared.Counts.{Counts}
 use Rattle.routine_faults.proofs.Fine.{fine}
 use Rattle.routine.specs.Routine.{Arm}
 use Rattle.routine.specs.Decode.{routine, decode, no_counts}
-use Rattle.routine.proofs.Accepted.{decoded}
+use Rattle.routine.proofs.Decoded.{decoded}
 use Rattle.cnf.specs.Clause.{Clause}
 use Rattle.netlist.specs.Node.{netlist_clauses}
 use Rattle.netlist.proofs.Formed.{before-opp}
@@ -39,11 +40,11 @@ module _ (bs : List ℕ) (t : Target) (ds : List ℕ) (h : Header) (a : Arm) (k 
   abbrev n : ℕ
   n = 1 + length (translation_of bs t ds h a).nodes
 
-  last_within : (c : Claim) → (translation_of bs t ds h a).wires.claim ≡ c → AllWithin n (last_clauses c)
-  last_within Claim.Open e = tt
-  last_within (Claim.Made arrival side) e =
+  last_within : (c : Option Claim) → (translation_of bs t ds h a).wires.claim ≡ c → AllWithin n (last_clauses c)
+  last_within None e = tt
+  last_within (Some made) e =
       let w = decoded bs h a k d in
-      let p = whole-named bs h (fine bs h w.header) t ds a (first_command h) no_counts (length bs) k w.stands arrival side e in
+      let p = whole-named bs h (fine bs h w.header) t ds a (first_command h) no_counts (length bs) k w.stands made.arrival made.side e in
       ((p.0, tt), ((before-opp p.1, tt), tt))
 
   pub whole_proper : Proper n (clauses_of_all (translation_of bs t ds h a))

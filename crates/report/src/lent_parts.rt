@@ -3,8 +3,7 @@ ghost use Rattle.std.specs.Prelude.{◌≤◌, length};
 ghost use Rattle.report.specs.Inner.Parts.{JudgesParts};
 
 use crate::checks::decide;
-use report_judgement::Judged;
-use slices::{zero_bytes, zero_words};
+use report_judgement::{Finding, Refusal};
 
 // Decides, then zeroes what was lent, whatever the answer.
 pub fn judge_parts(
@@ -15,7 +14,7 @@ pub fn judge_parts(
     marks: &mut [u8],
     values: &mut [u32],
     trail: &mut [u8],
-) -> Judged
+) -> Result<Finding, Refusal>
     requires { (length words.old ≤ 16777216) × (length starts.old ≤ 16777216) }
     ensures { JudgesParts routine.now report.now words.old starts.old marks.old values.old trail.old words.new starts.new marks.new values.new trail.new result }
 {
@@ -28,10 +27,10 @@ pub fn judge_parts(
         values.len(),
         trail.len(),
     );
-    zero_words(words);
-    zero_words(starts);
-    zero_bytes(marks);
-    zero_words(values);
-    zero_bytes(trail);
+    words.fill(0);
+    starts.fill(0);
+    marks.fill(0);
+    values.fill(0);
+    trail.fill(0);
     answer
 }

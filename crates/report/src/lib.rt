@@ -10,10 +10,8 @@ ghost use Rattle.report_judgement.specs.Demand.{Demand3};
 ghost use Rattle.report.specs.Zeroed.{Judges};
 ghost use Rattle.report.specs.Alike.{alike};
 
-use report_judgement::Judged;
+use report_judgement::{Finding, Refusal};
 use report_witness::pairs::compare;
-use report_witness::{Compared, Refusal};
-use routine::Checked;
 use slices::usable;
 
 // Judges a report on a routine. If it is accepted, every run that goes the report's way and comes to the named access stops there, its index outside the array, on
@@ -26,7 +24,7 @@ pub fn judge(
     marks: &mut [u8],
     values: &mut [u32],
     trail: &mut [u8],
-) -> Judged
+) -> Result<Finding, Refusal>
     ensures judges { Judges routine.now report.now words.old starts.old marks.old values.old trail.old words.new starts.new marks.new values.new trail.new result }
     ensures demand3 { Demand3 routine.now report.now result }
 {
@@ -47,13 +45,11 @@ pub fn judge(
 }
 
 // Whether two reports name the same access and the same side.
-pub fn alike(routine: &[u8], first: &[u8], second: &[u8]) -> Compared
+pub fn alike(routine: &[u8], first: &[u8], second: &[u8]) -> Result<bool, report_witness::Refusal>
     ensures { result ≡ alike routine.now first.now second.now }
 {
     match routine::check(routine) {
-        Checked::Refused(refusal) => Compared::Refused(Refusal::Lead(lead::Refusal::Routine(
-            refusal,
-        ))),
-        Checked::Accepted { header, counts } => compare(first, second, header, counts),
+        Err(refusal) => Err(report_witness::Refusal::Lead(lead::Refusal::Routine(refusal))),
+        Ok(accepted) => compare(first, second, accepted),
     }
 }

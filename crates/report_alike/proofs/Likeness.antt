@@ -1,5 +1,6 @@
 -- What two reports have that are alike. Assumes nothing.
 use Prim.Native.Nat.{ℕ, ◌<◌}
+use Rattle.std.specs.Prelude.{Result, Ok, Err}
 use mathlib.Core.Path.{◌≡◌, refl, sym, ap₂, ◌∙◌}
 use mathlib.Core.List.{List}
 use mathlib.Core.Bool.{Bool, true}
@@ -14,19 +15,24 @@ use Rattle.routine.specs.Routine.{Arm}
 use Rattle.routine.specs.Access.{ifs_before}
 use Rattle.lead.specs.declared.Target.{Target}
 use Rattle.report_witness.specs.Lead.{lead_in, decisions_of, opened}
-use Rattle.report_alike.specs.Alike.{same_target, same_decisions, alike_leads, if_whole, compared_by, compared}
+use Rattle.report_alike.specs.Alike.{same_target, same_decisions, alike_leads, by_leads, compared_by, compared}
 use Rattle.report_witness.specs.declared.Lead.{Lead}
-use Rattle.report_alike.specs.declared.Compared.{Compared}
-use Rattle.report_witness.specs.declared.Opening.{Opening}
+use Rattle.report_witness.specs.declared.Refusal.{Refusal}
 use Rattle.report_witness.proofs.Reading.{lets}
 use Rattle.report_alike.proofs.Deciding.{same_at}
 
 -- both were let through, and the leads are alike
-by_leads : (one other : Opening) (b : Bool) → if_whole one (if_whole other (Compared.Alike b)) ≡ Compared.Alike true
-    → (one ≡ Opening.Whole) × (other ≡ Opening.Whole) × (b ≡ true)
-by_leads Opening.Whole Opening.Whole b e = let q : b ≡ true = cc in (refl, refl, q)
-by_leads Opening.Whole (Opening.Refused refusal) b e = let z : ◌≡◌ {A = ℕ} 0 1 = cc in absurd (omega arith)
-by_leads (Opening.Refused refusal) other b e = let z : ◌≡◌ {A = ℕ} 0 1 = cc in absurd (omega arith)
+record Both (same : Lead → Lead → Bool) (x y : Result Lead Refusal) : Type 0 where
+  one : Lead
+  other : Lead
+  first : x ≡ Ok one
+  second : y ≡ Ok other
+  alike : same one other ≡ true
+
+by_both : (same : Lead → Lead → Bool) (x y : Result Lead Refusal) → by_leads same x y ≡ Ok true → Both same x y
+by_both same (Ok l) (Ok m) e = let q : same l m ≡ true = cc in record { one = l; other = m; first = refl; second = refl; alike = q }
+by_both same (Ok l) (Err refusal) e = let z : ◌≡◌ {A = ℕ} 0 1 = cc in absurd (omega arith)
+by_both same (Err refusal) y e = let z : ◌≡◌ {A = ℕ} 0 1 = cc in absurd (omega arith)
 
 -- two targets that are the same
 pub same-access : (t u : Target) → same_target t u ≡ true → t.access ≡ u.access
@@ -43,14 +49,13 @@ parted : (a : Arm) (k : Counts) (l m : Lead) → alike_leads a k l m ≡ true
 unfolding alike_leads
 parted a k l m e = both (same_target l.target m.target) (same_decisions (decisions_of l k) (decisions_of m k) (ifs_before a l.target.access)) e
 
-module _ (first second : List ℕ) (h : Header) (a : Arm) (k : Counts) (e : compared first second h a k ≡ Compared.Alike true) where
-  said : ((opened first h k).verdict ≡ Opening.Whole) × ((opened second h k).verdict ≡ Opening.Whole)
-      × (alike_leads a k (opened first h k).lead (opened second h k).lead ≡ true)
+module _ (first second : List ℕ) (h : Header) (a : Arm) (k : Counts) (e : compared first second h a k ≡ Ok true) where
+  said : Both (alike_leads a k) (opened first h k) (opened second h k)
   unfolding compared
-  said = by_leads _ _ _ e
+  said = by_both (alike_leads a k) (opened first h k) (opened second h k) e
 
   leads : alike_leads a k (lead_in first h k) (lead_in second h k) ≡ true
-  leads = sym (ap₂ (alike_leads a k) (lets first h k said.0).lead (lets second h k said.1).lead) ∙ said.2
+  leads = sym (ap₂ (alike_leads a k) (lets first h k said.one said.first).lead (lets second h k said.other said.second).lead) ∙ said.alike
 
   -- they name the same
   pub alike_target : same_target (lead_in first h k).target (lead_in second h k).target ≡ true
@@ -63,5 +68,5 @@ module _ (first second : List ℕ) (h : Header) (a : Arm) (k : Counts) (e : comp
       (parted a k (lead_in first h k) (lead_in second h k) leads).1 number l
 
   -- they are alike by what they name alone
-  pub alike_by_target : compared_by (λ l m. same_target l.target m.target) first second h k ≡ Compared.Alike true
-  alike_by_target = rw (said.0, said.1, (parted a k (opened first h k).lead (opened second h k).lead said.2).0) refl
+  pub alike_by_target : compared_by (λ l m. same_target l.target m.target) first second h k ≡ Ok true
+  alike_by_target = rw (said.first, said.second, (parted a k said.one said.other said.alike).0) refl

@@ -1,5 +1,6 @@
 -- Two reports that are alike are one finding. Assumes nothing.
 use Prim.Native.Nat.{ℕ}
+use Rattle.std.specs.Prelude.{Bool, Result, Ok}
 use mathlib.Core.Path.{◌≡◌, sym, ap, ◌∙◌}
 use mathlib.Core.List.{List}
 use mathlib.Core.Bool.{true}
@@ -18,16 +19,16 @@ use Rattle.report_alike.proofs.Likeness.{same-access, same-side, alike_target, a
 use Rattle.report_judgement.specs.Demand.{Overflows}
 use Rattle.report_judgement.specs.declared.Finding.{Finding}
 use Rattle.report_alike.specs.Alike.{same_target, compared_by, compared, by_routine, alike}
-use Rattle.report_alike.specs.declared.Compared.{Compared}
+use Rattle.report_witness.specs.declared.Refusal.{Refusal}
 use Rattle.report_alike.specs.OneFinding.{alike_before, SameFinding, OneFinding}
 
 module _ (first second : List ℕ) where
-  were_by : (d : Decoded) → by_routine (compared first second) d ≡ Compared.Alike true
-      → by_routine (λ h a k. compared_by (λ l m. same_target l.target m.target) first second h k) d ≡ Compared.Alike true
+  were_by : (d : Decoded) → by_routine (compared first second) d ≡ Ok true
+      → by_routine (λ h a k. compared_by (λ l m. same_target l.target m.target) first second h k) d ≡ Ok true
   were_by (rejected refusal) e = let z : ◌≡◌ {A = ℕ} 0 1 = cc in absurd (omega arith)
   were_by (routine h a k) e = alike_by_target first second h a k e
 
-  module _ (bs : List ℕ) (h : Header) (a : Arm) (k : Counts) (e : compared first second h a k ≡ Compared.Alike true) where
+  module _ (bs : List ℕ) (h : Header) (a : Arm) (k : Counts) (e : compared first second h a k ≡ Ok true) where
     one_access : entry first 0 ≡ entry second 0
     one_access = same-access _ _ (alike_target first second h a k e)
 
@@ -59,7 +60,7 @@ module _ (first second : List ℕ) where
           overflows = one_overflow;
         }
 
-pub merges : (bs first second : List ℕ) (r : Compared) → r ≡ alike bs first second → OneFinding bs first second r
+pub merges : (bs first second : List ℕ) (r : Result Bool Refusal) → r ≡ alike bs first second → OneFinding bs first second r
 unfolding alike alike_before
 merges bs first second r is =
     record {

@@ -1,5 +1,5 @@
 -- Whether two reports on one routine are alike.
-use Rattle.std.specs.Prelude.{ℕ, zero, suc, List, Bool, true, ◌&&◌, eqb}
+use Rattle.std.specs.Prelude.{ℕ, zero, suc, List, Bool, true, ◌&&◌, eqb, Result, Ok, Err}
 use Rattle.slices.specs.Bytes.{entry}
 use Rattle.routine_header.specs.declared.Header.{Header}
 use Rattle.routine_faults.specs.declared.Counts.{Counts}
@@ -10,9 +10,7 @@ use Rattle.lead.specs.declared.Target.{Target}
 use Rattle.lead.specs.declared.Refusal as lead
 use Rattle.report_witness.specs.Lead.{decisions_of, opened}
 use Rattle.report_witness.specs.declared.Lead.{Lead}
-use Rattle.report_witness.specs.declared.Opening.{Opening}
 use Rattle.report_witness.specs.declared.Refusal as witness
-use Rattle.report_alike.specs.declared.Compared.{Compared}
 
 -- the same access and the same side
 unfoldable pub same_target : Target → Target → Bool
@@ -31,27 +29,25 @@ unfoldable pub alike_leads : Arm → Counts → Lead → Lead → Bool
 alike_leads a k l m =
     same_target l.target m.target && same_decisions (decisions_of l k) (decisions_of m k) (ifs_before a l.target.access)
 
--- the refusal of a lead, or what goes on
-abbrev pub if_whole : Opening → Compared → Compared
-if_whole (Opening.Refused refusal) go = Compared.Refused refusal
-if_whole Opening.Whole go = go
+-- the first refusal of two leads, or what `same` says of them
+abbrev pub by_leads : (same : Lead → Lead → Bool) → (one other : Result Lead witness.Refusal) → Result Bool witness.Refusal
+by_leads same (Err refusal) other = Err refusal
+by_leads same (Ok one) (Err refusal) = Err refusal
+by_leads same (Ok one) (Ok other) = Ok (same one other)
 
 -- 11 and 12 of the first, then of the second, then what `same` says of the two leads
-abbrev pub compared_by : (same : Lead → Lead → Bool) → (first second : List ℕ) → Header → Counts → Compared
-compared_by same first second h k =
-    if_whole (opened first h k).verdict
-    (if_whole (opened second h k).verdict
-    (Compared.Alike (same (opened first h k).lead (opened second h k).lead)))
+abbrev pub compared_by : (same : Lead → Lead → Bool) → (first second : List ℕ) → Header → Counts → Result Bool witness.Refusal
+compared_by same first second h k = by_leads same (opened first h k) (opened second h k)
 
 -- whether two reports on a routine are alike
-unfoldable pub compared : (first second : List ℕ) → Header → Arm → Counts → Compared
+unfoldable pub compared : (first second : List ℕ) → Header → Arm → Counts → Result Bool witness.Refusal
 compared first second h a k = compared_by (alike_leads a k) first second h k
 
 -- 1 to 8, then the leads
-abbrev pub by_routine : (leads : Header → Arm → Counts → Compared) → Decoded → Compared
-by_routine leads (rejected refusal) = Compared.Refused (witness.Refusal.Lead (lead.Refusal.Routine refusal))
+abbrev pub by_routine : (leads : Header → Arm → Counts → Result Bool witness.Refusal) → Decoded → Result Bool witness.Refusal
+by_routine leads (rejected refusal) = Err (witness.Refusal.Lead (lead.Refusal.Routine refusal))
 by_routine leads (routine h a k) = leads h a k
 
 -- what `alike` answers
-unfoldable pub alike : (bs first second : List ℕ) → Compared
+unfoldable pub alike : (bs first second : List ℕ) → Result Bool witness.Refusal
 alike bs first second = by_routine (compared first second) (decode bs)

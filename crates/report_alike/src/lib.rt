@@ -8,26 +8,14 @@ ghost use Rattle.report_alike.specs.Alike.{alike};
 ghost use Rattle.report_alike.specs.OneFinding.{OneFinding};
 
 use report_witness::Refusal;
-use routine::Checked;
-
-// Whether two reports are alike, or why one of them, or the routine, is turned down.
-#[derive(Clone, Copy)]
-pub enum Compared {
-    Alike(bool),
-    Refused(Refusal),
-}
 
 // Whether two reports name the same access and the same side, with equal decisions at every if that stands before that access in the text.
-pub fn alike(routine: &[u8], first: &[u8], second: &[u8]) -> Compared
+pub fn alike(routine: &[u8], first: &[u8], second: &[u8]) -> Result<bool, Refusal>
     ensures value { result ≡ alike routine.now first.now second.now }
     ensures one_finding { OneFinding routine.now first.now second.now result }
 {
     match routine::check(routine) {
-        Checked::Refused(refusal) => Compared::Refused(Refusal::Lead(lead::Refusal::Routine(
-            refusal,
-        ))),
-        Checked::Accepted { header, counts } => {
-            pairs::compare(routine, first, second, header, counts)
-        }
+        Err(refusal) => Err(Refusal::Lead(lead::Refusal::Routine(refusal))),
+        Ok(accepted) => pairs::compare(routine, first, second, accepted),
     }
 }

@@ -1,5 +1,5 @@
 -- Demand 3: what an accepted report says of every run.
-use Rattle.std.specs.Prelude.{ℕ, ◌≡◌, List, true}
+use Rattle.std.specs.Prelude.{ℕ, ◌≡◌, List, true, Some, Result, Ok}
 use Rattle.slices.specs.Bytes.{entry}
 use Rattle.bitvec.specs.declared.Whole.{Whole}
 use Rattle.routine_header.specs.Header.{array_size}
@@ -9,31 +9,28 @@ use Rattle.routine.specs.Routine.{Arm}
 use Rattle.routine.specs.Access.{ifs_before}
 use Rattle.routine.specs.Decode.{routine, decode}
 use Rattle.run_state.specs.Side.{side_number, is_on}
-use Rattle.run_state.specs.State.{lies}
+use Rattle.run_state.specs.State.{lies, stop_at}
 use Rattle.run_state.specs.declared.Side.{Side}
-use Rattle.run.specs.Answer.{ran_by}
 use Rattle.run_inputs.specs.Inputs.{listed}
 use Rattle.run_state.specs.Run.{Execution, run_of}
-use Rattle.run_inputs.specs.declared.Listed.{Listed}
-use Rattle.run.specs.declared.Ran.{Ran}
 use Rattle.run_state.specs.Goes.{goes_way, Comes}
 use Rattle.report_witness.specs.Lead.{lead_in, decisions_of, inputs_of}
 use Rattle.report_judgement.specs.declared.Finding.{Finding}
-use Rattle.report_judgement.specs.declared.Judged.{Judged}
+use Rattle.report_judgement.specs.declared.Refusal.{Refusal}
 
 -- the run stops at the access, with the index, which lies outside the array, on the side of the number
 pub record StopsOutside (bs : List ℕ) (h : Header) (access side array : ℕ) (index : Whole) (x : Execution) : Type 0 where
   pub on : Side
   pub named : side_number on ≡ side
-  pub stops : ran_by x.state.outcome ≡ Ran.Stopped access index on
+  pub stops : x.state.stop ≡ Some (stop_at access index on)
   pub outside : is_on side (lies (array_size bs h array) index) ≡ true
 
 -- the access of a finding overflows, on its side, on the way of the decisions; the witness goes there
 pub record Overflows (bs ds witness : List ℕ) (h : Header) (a : Arm) (k : Counts) (f : Finding) : Type 0 where
-  pub accepted : listed bs witness h a k ≡ Listed.Accepted
+  pub accepted : listed bs witness h a k ≡ Ok tt
   pub goes : goes_way ds (ifs_before a f.access) (run_of bs witness h a).events ≡ true
   pub comes : Comes f.access f.array f.index (run_of bs witness h a).events
-  pub every : (ins : List ℕ) → listed bs ins h a k ≡ Listed.Accepted → goes_way ds (ifs_before a f.access) (run_of bs ins h a).events ≡ true
+  pub every : (ins : List ℕ) → listed bs ins h a k ≡ Ok tt → goes_way ds (ifs_before a f.access) (run_of bs ins h a).events ≡ true
       → (array : ℕ) (index : Whole) → Comes f.access array index (run_of bs ins h a).events
       → StopsOutside bs h f.access f.side array index (run_of bs ins h a)
 
@@ -52,5 +49,5 @@ pub record Found (bs r : List ℕ) (f : Finding) : Type 0 where
 -- Whatever the report holds: if it is accepted, the witness's run goes the report's way and comes to the named access; and every run, of the witness or of
 -- any other accepted input list, that goes that way and comes to it stops there, its index outside the array that it reaches there, on the side named. An
 -- accepted input list has a word for every variable, parameter or not, and so a finding covers runs from any leftovers (note 4).
-pub record Demand3 (bs r : List ℕ) (j : Judged) : Type 0 where
-  pub holds : (f : Finding) → j ≡ Judged.Accepted f → Found bs r f
+pub record Demand3 (bs r : List ℕ) (j : Result Finding Refusal) : Type 0 where
+  pub holds : (f : Finding) → j ≡ Ok f → Found bs r f

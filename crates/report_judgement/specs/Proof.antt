@@ -1,5 +1,5 @@
 -- The claim of a report, proved: 16, then the proof.
-use Rattle.std.specs.Prelude.{ℕ, ◌+◌, List, leb}
+use Rattle.std.specs.Prelude.{ℕ, ◌+◌, List, leb, Result, Ok, Err}
 use Rattle.slices.specs.Guard.{unless}
 use Rattle.slices.specs.declared.Buffer.{Buffer}
 use Rattle.routine_header.specs.declared.Header.{Header}
@@ -8,9 +8,9 @@ use Rattle.translation_command.specs.Command.{Encoding}
 use Rattle.translation_meaning.specs.Translation.{clauses_of_all, translation_size}
 use Rattle.proof_check.specs.State.{Limits}
 use Rattle.proof_check.specs.Check.{check_proof}
-use Rattle.proof_check.specs.declared.Verdict.{Verdict}
+use Rattle.proof_check.specs.declared.Tally.{Tally}
+use Rattle.proof_check.specs.declared.Refusal as proof
 use Rattle.report_judgement.specs.declared.Refusal.{Refusal}
-use Rattle.report_judgement.specs.declared.Proved.{Proved}
 
 -- how many entries of each buffer are lent and used
 pub record Room : Type 0 where
@@ -21,21 +21,21 @@ pub record Room : Type 0 where
   pub trail : ℕ
 
 -- a verdict on the proof
-abbrev pub by_verdict : Verdict → Proved
-by_verdict (Verdict.Accepted steps hints) = Proved.Closed steps hints
-by_verdict (Verdict.Refused refusal) = Proved.Refused (Refusal.Proof refusal)
+abbrev pub by_verdict : Result Tally proof.Refusal → Result Tally Refusal
+by_verdict (Ok tally) = Ok tally
+by_verdict (Err refusal) = Err (Refusal.Proof refusal)
 
 -- what the proof has room for, and what is added to its offsets
 abbrev pub limits_in : (base : ℕ) → Room → Encoding → Limits
 limits_in base m x = record { variables = (translation_size x).variables; words = m.words; starts = m.starts; base = base }
 
 -- 16, then the proof from an offset of the bytes on, whose places are offsets plus a base, over the clauses of the translation x
-unfoldable pub proved_by : (r : List ℕ) → (from base : ℕ) → Room → Header → Counts → Encoding → Proved
+unfoldable pub proved_by : (r : List ℕ) → (from base : ℕ) → Room → Header → Counts → Encoding → Result Tally Refusal
 unfolding unless
 proved_by r from base m h k x =
-    unless (leb (translation_size x).words m.words) (Proved.Refused (Refusal.TooSmall Buffer.Words))
-    (unless (leb (translation_size x).clauses m.starts) (Proved.Refused (Refusal.TooSmall Buffer.Starts))
-    (unless (leb ((translation_size x).variables + 1) m.marks) (Proved.Refused (Refusal.TooSmall Buffer.Marks))
-    (unless (leb h.variables m.values) (Proved.Refused (Refusal.TooSmall Buffer.Values))
-    (unless (leb k.ifs m.trail) (Proved.Refused (Refusal.TooSmall Buffer.Trail))
+    unless (leb (translation_size x).words m.words) (Err (Refusal.TooSmall Buffer.Words))
+    (unless (leb (translation_size x).clauses m.starts) (Err (Refusal.TooSmall Buffer.Starts))
+    (unless (leb ((translation_size x).variables + 1) m.marks) (Err (Refusal.TooSmall Buffer.Marks))
+    (unless (leb h.variables m.values) (Err (Refusal.TooSmall Buffer.Values))
+    (unless (leb k.ifs m.trail) (Err (Refusal.TooSmall Buffer.Trail))
     (by_verdict (check_proof (clauses_of_all x) (limits_in base m x) r from).verdict)))))

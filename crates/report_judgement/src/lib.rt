@@ -14,15 +14,8 @@ pub enum Refusal {
     Proof(proof_check::Refusal),
 }
 
-// What is said of the proof: the steps that it closes and the hints that it has, or why it is turned down.
-#[derive(Clone, Copy)]
-pub enum Proved {
-    Refused(Refusal),
-    Closed { steps: usize, hints: usize },
-}
-
 // What an accepted report says: the access and the side that it names; the array that its witness reaches there, the size of that array, and the index;
-// the steps and the hints of its proof.
+// the steps and the hints of its proof. Access and side are bytes 0 and 1 of the report, as `Found` says, and so numbers.
 #[derive(Clone, Copy)]
 pub struct Finding {
     pub access: u8,
@@ -32,11 +25,4 @@ pub struct Finding {
     pub index: Whole,
     pub steps: usize,
     pub hints: usize,
-}
-
-// What is said of a report.
-#[derive(Clone, Copy)]
-pub enum Judged {
-    Accepted(Finding),
-    Refused(Refusal),
 }

@@ -1,4 +1,5 @@
 -- What is handed back, from what was compared. Assumes nothing.
+use Rattle.std.specs.Prelude.{Result, Ok, Err}
 use Prim.Native.Nat.{ℕ, ◌<◌, ◌≤◌}
 use mathlib.Core.Path.{◌≡◌, refl, ap, subst, ◌∙◌}
 use mathlib.Core.List.{List}
@@ -8,22 +9,21 @@ use lib.ListN.{length}
 use lib.Dec.{ltb}
 use borrow.Author.Tests.{lt-ltb, le-ltb}
 use denote.Ref.{Bor}
-use Rattle.report_alike.specs.declared.Compared.{Compared}
 use Rattle.report_witness.specs.declared.Refusal.{Refusal}
 use Rattle.report_shorter.specs.Shorter.{is_second, NoBytes, HandsBack}
 
-module _ (first second : Bor (List ℕ)) (x : Compared) where
-  pub keeps-second : x ≡ Compared.Alike true → length second.now < length first.now → HandsBack x first second second
+module _ (first second : Bor (List ℕ)) (x : Result Bool Refusal) where
+  pub keeps-second : x ≡ Ok true → length second.now < length first.now → HandsBack x first second second
   keeps-second e l = rw (e, lt-ltb (length second.now) (length first.now) l) refl
 
-  pub keeps-first : x ≡ Compared.Alike true → length first.now ≤ length second.now → HandsBack x first second first
+  pub keeps-first : x ≡ Ok true → length first.now ≤ length second.now → HandsBack x first second first
   keeps-first e l = rw (e, le-ltb (length second.now) (length first.now) l) refl
 
   module _ (r : Bor (List ℕ)) (none : NoBytes first r) where
-    pub not_alike : x ≡ Compared.Alike false → HandsBack x first second r
+    pub not_alike : x ≡ Ok false → HandsBack x first second r
     not_alike e = rw e none
 
-    pub refused : (refusal : Refusal) → x ≡ Compared.Refused refusal → HandsBack x first second r
+    pub refused : (refusal : Refusal) → x ≡ Err refusal → HandsBack x first second r
     refused refusal e = rw e none
 
 -- ---- what was handed back of two that are alike, by its length
@@ -36,9 +36,9 @@ module _ (first second r : Bor (List ℕ)) where
       let n : ℕ = length first.now in
       (ap (λ (x : Bor (List ℕ)). length x.now) is, ap (λ (x : Bor (List ℕ)). ltb (length x.now) n) is ∙ le-ltb n n (omega arith))
 
-  module _ (x : Compared) (alike : x ≡ Compared.Alike true) (back : HandsBack x first second r) where
+  module _ (x : Result Bool Refusal) (alike : x ≡ Ok true) (back : HandsBack x first second r) where
     kept : r ≡ cond (is_second first.now second.now) second first
-    kept = subst (λ (y : Compared). HandsBack y first second r) alike back
+    kept = subst (λ (y : Result Bool Refusal). HandsBack y first second r) alike back
 
     -- it is as long as the shorter one
     pub kept_long : length r.now ≡ length (cond (is_second first.now second.now) second.now first.now)

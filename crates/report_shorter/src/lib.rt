@@ -7,7 +7,7 @@ ghost use Rattle.refusals.specs.Table.{row, pair_row};
 ghost use Rattle.report_shorter.specs.Shorter.{HandsBack};
 
 use refusals::row_of_pair;
-use report_alike::{Compared, alike};
+use report_alike::alike;
 
 // Hands back the shorter of two reports that are alike, the first when they are equal in length, and tells 0 and 0. Otherwise it tells the number and the
 // place of the refusal, and hands back the first 0 bytes of the first.
@@ -26,8 +26,8 @@ pub fn shorter<'a>(
     *number = told.number;
     *place = told.place;
     match compared {
-        Compared::Refused(_) => &first[..0],
-        Compared::Alike(same) => {
+        Err(_) => &first[..0],
+        Ok(same) => {
             if !same {
                 return &first[..0];
             }

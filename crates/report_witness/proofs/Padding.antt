@@ -6,8 +6,9 @@ use native.Mathlib.Nat.{add-zero}
 use native.Mathlib.Numerals.{add-one}
 use native.Mathlib.Omega.{arith}
 use lib.ListN.{length, set, take, drop, replicate, length-append, length-drop}
-use lib.Seq.{set_at, take-suc, length-take-le, get_or-drop}
-use Rattle.slices.specs.Bytes.{entry, word}
+use Rattle.std.proofs.lemmas.List.{drop-replicate}
+use lib.Seq.{set_at, length-take-le}
+use Rattle.slices.specs.Bytes.{word}
 use Rattle.report_witness.specs.Lead.{words_from, padded}
 
 -- one entry more
@@ -23,15 +24,16 @@ more n xs i is l v =
 
 -- ---- bytes
 
-module _ (r : List ℕ) (from n i : ℕ) (few : n ≤ 32) (room : from + n ≤ length r) (l : i < n) where
-  pub bytes_next : (v : ℕ) → v ≡ entry r (from + i) → set (padded 32 (take i (drop from r))) i v ≡ padded 32 (take (i + 1) (drop from r))
-  bytes_next v e =
-      let xs : List ℕ = drop from r in
-      let long : n ≤ length xs = omega (arith, length-drop from r) in
-      more 32 (take i xs) i (length-take-le i xs (omega arith)) (omega arith) v
-      ∙ ap (λ (x : ℕ). padded 32 (take i xs ++ x ∷ [])) (e ∙ sym (get_or-drop from r i 0))
-      ∙ ap (padded 32) (sym (take-suc xs i 0 (omega arith)))
-      ∙ ap (λ (j : ℕ). padded 32 (take j xs)) (sym (add-one i))
+-- bytes that were copied over the first zeros
+pub bytes_copied : (r : List ℕ) (from n : ℕ) → n ≤ 32 → from + n ≤ length r → (xs : List ℕ) → xs ≡ take (from + n - from) (drop from r)
+    → xs ++ drop n (replicate 32 0) ≡ padded 32 (take n (drop from r))
+bytes_copied r from n few room xs is =
+    let long : n ≤ length (drop from r) = omega (arith, length-drop from r) in
+    let q : from + n - from ≡ n = omega arith in
+    let e : xs ≡ take n (drop from r) = is ∙ ap (λ (j : ℕ). take j (drop from r)) q in
+    rw e
+    (ap (λ (ys : List ℕ). take n (drop from r) ++ ys)
+    (drop-replicate n 32 0 ∙ ap (λ (j : ℕ). replicate (32 - j) 0) (sym (length-take-le n (drop from r) long))))
 
 -- ---- words
 

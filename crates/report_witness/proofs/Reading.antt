@@ -1,5 +1,6 @@
 -- What a lead has that was read from a report. Assumes nothing.
-use mathlib.Core.Path.{◌≡◌, refl, ap, ◌∙◌}
+use Rattle.std.specs.Prelude.{Result, Ok, Err}
+use mathlib.Core.Path.{◌≡◌, refl, ap, sym, ◌∙◌}
 use mathlib.Core.List.{List}
 use mathlib.Core.Bool.{Bool, true, false, cond}
 use Prim.Native.Nat.{ℕ, ◌+◌, ◌-◌, ◌≤◌, ◌<◌}
@@ -14,16 +15,14 @@ use Rattle.routine_faults.specs.declared.Counts.{Counts}
 use Rattle.routine_faults.proofs.Fine.{fine}
 use Rattle.routine.specs.Decode.{IsRoutine}
 use Rattle.routine.specs.Inner.Known.{IsRoutineWith}
-use Rattle.routine.proofs.Accepted.{decoded}
+use Rattle.routine.proofs.Decoded.{decoded}
 use Rattle.routine.proofs.Counting.{few-ifs, few-accesses}
 use Rattle.lead.specs.Lead.{admitted_lead}
-use Rattle.lead.specs.declared.AdmittedLead.{AdmittedLead}
-use Rattle.report_witness.specs.Lead.{proof_at, words_from, lead_in, decisions_of, inputs_of, turned_down, by_admitted, opened}
+use Rattle.lead.specs.declared.Refusal as lead
+use Rattle.report_witness.specs.Lead.{proof_at, words_from, lead_in, decisions_of, inputs_of, by_admitted, opened}
 use Rattle.report_witness.specs.Inner.LeadFits.{LeadFits}
 use Rattle.report_witness.specs.declared.Lead.{Lead}
 use Rattle.report_witness.specs.declared.Refusal.{Refusal}
-use Rattle.report_witness.specs.declared.Opening.{Opening}
-use Rattle.report_witness.specs.declared.Opened.{Opened}
 use Rattle.report_witness.proofs.Padding.{words-length}
 
 -- ---- a routine's lead fits the arrays
@@ -72,17 +71,17 @@ decisions-room r h k few l is =
     rw is (omega (arith, length-append xs (replicate (32 - length xs) 0), length-replicate {A = ℕ} (32 - length xs) 0))
 
 module _ (r : List ℕ) (h : Header) (k : Counts) where
-  pub too_long : 16777216 < length r → turned_down (Refusal.Cut (length r)) ≡ opened r h k
+  pub too_long : 16777216 < length r → Err (Refusal.Cut (length r)) ≡ opened r h k
   unfolding opened
   too_long l = rw (lt-leb _ _ l) refl
 
   module _ (short : length r ≤ 16777216) where
-    pub cut_short : length r < proof_at h k → turned_down (Refusal.Cut (length r)) ≡ opened r h k
+    pub cut_short : length r < proof_at h k → Err (Refusal.Cut (length r)) ≡ opened r h k
     unfolding opened
     cut_short l = rw (le-leb _ _ short, lt-leb _ _ l) refl
 
     -- what 12 says, once 11 is past
-    pub opened_by : proof_at h k ≤ length r → (l : Lead) → l ≡ lead_in r h k → (x : AdmittedLead) → x ≡ admitted_lead l.target (decisions_of l k) k
+    pub opened_by : proof_at h k ≤ length r → (l : Lead) → l ≡ lead_in r h k → (x : Result (Unit {0}) lead.Refusal) → x ≡ admitted_lead l.target (decisions_of l k) k
         → by_admitted l x ≡ opened r h k
     unfolding opened
     opened_by long l is x by = rw (le-leb _ _ short, le-leb _ _ long, by, is) refl
@@ -90,24 +89,26 @@ module _ (r : List ℕ) (h : Header) (k : Counts) where
 -- ---- a lead that was let through
 
 -- what it has
-pub record Lets (r : List ℕ) (h : Header) (k : Counts) : Type 0 where
+pub record Lets (r : List ℕ) (h : Header) (k : Counts) (l : Lead) : Type 0 where
   pub short : length r ≤ 16777216
   pub long : proof_at h k ≤ length r
-  pub lead : (opened r h k).lead ≡ lead_in r h k
-  pub admits : admitted_lead (lead_in r h k).target (decisions_of (lead_in r h k) k) k ≡ AdmittedLead.Passes
+  pub lead : l ≡ lead_in r h k
+  pub admits : admitted_lead (lead_in r h k).target (decisions_of (lead_in r h k) k) k ≡ Ok tt
 
-module _ (r : List ℕ) (h : Header) (k : Counts) where
-  abbrev by : Bool → Bool → AdmittedLead → Opened
-  by b c x = cond b (cond c (by_admitted (lead_in r h k) x) (turned_down (Refusal.Cut (length r)))) (turned_down (Refusal.Cut (length r)))
+module _ (r : List ℕ) (h : Header) (k : Counts) (l : Lead) where
+  abbrev by : Bool → Bool → Result (Unit {0}) lead.Refusal → Result Lead Refusal
+  by b c x = cond b (cond c (by_admitted (lead_in r h k) x) (Err (Refusal.Cut (length r)))) (Err (Refusal.Cut (length r)))
 
-  let_by : (b c : Bool) (x : AdmittedLead) → leb (length r) 16777216 ≡ b → leb (proof_at h k) (length r) ≡ c
-      → admitted_lead (lead_in r h k).target (decisions_of (lead_in r h k) k) k ≡ x → opened r h k ≡ by b c x → (by b c x).verdict ≡ Opening.Whole → Lets r h k
-  let_by true true AdmittedLead.Passes p q s e w = record { short = leb-true _ _ p; long = leb-true _ _ q; lead = ap (λ (y : Opened). y.lead) e; admits = s }
-  let_by true true (AdmittedLead.Refused refusal) p q s e w = let z : ◌≡◌ {A = ℕ} 0 1 = cc in absurd (omega arith)
-  let_by true false x p q s e w = let z : ◌≡◌ {A = ℕ} 0 1 = cc in absurd (omega arith)
-  let_by false c x p q s e w = let z : ◌≡◌ {A = ℕ} 0 1 = cc in absurd (omega arith)
+  let_by : (b c : Bool) (x : Result (Unit {0}) lead.Refusal) → leb (length r) 16777216 ≡ b → leb (proof_at h k) (length r) ≡ c
+      → admitted_lead (lead_in r h k).target (decisions_of (lead_in r h k) k) k ≡ x → by b c x ≡ Ok l → Lets r h k l
+  let_by true true (Ok tt) p q s e =
+      let same : lead_in r h k ≡ l = cc in
+      record { short = leb-true _ _ p; long = leb-true _ _ q; lead = sym same; admits = s }
+  let_by true true (Err refusal) p q s e = let z : ◌≡◌ {A = ℕ} 0 1 = cc in absurd (omega arith)
+  let_by true false x p q s e = let z : ◌≡◌ {A = ℕ} 0 1 = cc in absurd (omega arith)
+  let_by false c x p q s e = let z : ◌≡◌ {A = ℕ} 0 1 = cc in absurd (omega arith)
 
-  pub lets : (opened r h k).verdict ≡ Opening.Whole → Lets r h k
+  pub lets : opened r h k ≡ Ok l → Lets r h k l
   unfolding opened
   lets w =
-      let_by (leb (length r) 16777216) (leb (proof_at h k) (length r)) (admitted_lead (lead_in r h k).target (decisions_of (lead_in r h k) k) k) refl refl refl refl w
+      let_by (leb (length r) 16777216) (leb (proof_at h k) (length r)) (admitted_lead (lead_in r h k).target (decisions_of (lead_in r h k) k) k) refl refl refl w

@@ -10,11 +10,7 @@ pub fn bytes_from(report: &[u8], from: usize, n: usize) -> [u8; 32]
     ensures { result ≡ padded 32 (take n (drop from report.now)) }
 {
     let mut bytes = [0u8; 32];
-    let mut i: usize = 0;
-    while i < n {
-        bytes[i] = report[from + i];
-        i += 1;
-    }
+    bytes[..n].copy_from_slice(&report[from..from + n]);
     bytes
 }
 
@@ -24,12 +20,8 @@ pub fn words_from(report: &[u8], from: usize, n: usize) -> [u32; 96]
     ensures { result ≡ padded 96 (words_from report.now from n) }
 {
     let mut words = [0u32; 96];
-    let mut i: usize = 0;
-    let mut at = from;
-    while i < n {
-        words[i] = word_at(report, at);
-        at += 4;
-        i += 1;
+    for i in 0..n {
+        words[i] = word_at(report, from + 4 * i);
     }
     words
 }

@@ -6,11 +6,10 @@ pub mod leads;
 pub mod pairs;
 pub mod runs;
 
-use bitvec::Whole;
 use lead::Target;
 
 // The lead of a report: what it names, a decision for each if, and the witness's input words. A routine has at most 32 ifs, and words for at most 32
-// variables and 64 reads; zeros stand after those that it has.
+// variables and 64 reads; zeros stand after those that it has, since nothing is allocated.
 #[derive(Clone, Copy)]
 pub struct Lead {
     pub target: Target,
@@ -32,32 +31,4 @@ pub enum Refusal {
     Missed(u8),
     // the index there is not on the side
     OffSide(u8),
-}
-
-// What 11 and 12 say of the lead of a report.
-#[derive(Clone, Copy)]
-pub enum Opening {
-    Refused(Refusal),
-    Whole,
-}
-
-// What is said of the lead of a report, and the lead.
-#[derive(Clone, Copy)]
-pub struct Opened {
-    pub verdict: Opening,
-    pub lead: Lead,
-}
-
-// What is said of the witness in a lead: the array that it reaches at the named access, and the index that it has there.
-#[derive(Clone, Copy)]
-pub enum Witness {
-    Refused(Refusal),
-    Stands { array: u8, index: Whole },
-}
-
-// Whether two reports are alike.
-#[derive(Clone, Copy)]
-pub enum Compared {
-    Alike(bool),
-    Refused(Refusal),
 }

@@ -1,29 +1,20 @@
-use Rattle.std.proofs.Common.{rules}
 use mathlib.Core.Path.{sym, ap, ◌∙◌}
-use lib.Seq.{length-take-le}
-use Rattle.report_alike.specs.Alike.{same_decisions}
-use Rattle.report_witness.proofs.Reading.{decisions_held, counted_routine}
+use Rattle.report_alike.specs.Alike.{same_target, same_decisions}
+use Rattle.report_witness.proofs.Reading.{fits, counted_routine}
 use Rattle.report_alike.proofs.Paired.{other_target, same-named}
 use Rattle.report_alike.proofs.pairs.alike_leads.Goals as goal
 
-pub returns-then-not-same_target : goal.returns-then-not-same_target
-returns-then-not-same_target c = other_target _ _ _ _ _ c.same_target.ensures (c.if-not-same_target.true)
+pub returns-then-ne : goal.returns-then-ne
+unfolding same_target
+returns-then-ne c = other_target _ _ _ _ (sym c.ne.ensures ∙ c.if-ne.true)
+
+pub shared_ref_as_front-same_decisions : goal.shared_ref_as_front-same_decisions
+shared_ref_as_front-same_decisions c = (fits _ _ _ c.requires).decisions
 
 pub ifs_before-before-requires : goal.ifs_before-before-requires
 ifs_before-before-requires c = counted_routine _ _ _ c.requires
 
-pub slice_bounds-ds-end : goal.slice_bounds-ds-end
-slice_bounds-ds-end c = decisions_held _ _ _ c.requires c.args.l (search rules)
-
-pub slice_bounds-same_decisions-end : goal.slice_bounds-same_decisions-end
-slice_bounds-same_decisions-end c = sym (length-take-le _ _ (decisions_held _ _ _ c.requires c.args.l (search rules)))
-
-pub slice_bounds-es-end : goal.slice_bounds-es-end
-slice_bounds-es-end c = decisions_held _ _ _ c.requires c.args.m (search rules)
-
-pub slice_bounds-same_decisions-end-2 : goal.slice_bounds-same_decisions-end-2
-slice_bounds-same_decisions-end-2 c = sym (length-take-le _ _ (decisions_held _ _ _ c.requires c.args.m (search rules)))
-
 pub returns : goal.returns
+unfolding same_target
 returns c =
-    same-named _ _ _ _ _ c.same_target.ensures (c.if-not-same_target.false) _ (c.same_decisions.ensures ∙ ap (same_decisions _ _) c.ifs_before-before.ensures)
+    same-named _ _ _ _ (sym c.ne.ensures ∙ c.if-ne.false) _ (c.same_decisions.ensures ∙ ap (same_decisions _ _) c.ifs_before-before.ensures)

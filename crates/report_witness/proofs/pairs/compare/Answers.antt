@@ -1,14 +1,19 @@
-use Rattle.report_witness.proofs.Paired.{first-refused, second-refused, both_whole}
+use Rattle.std.proofs.lemmas.Result.{err_from_is_err_and}
+use mathlib.Core.Path.{sym}
+use Rattle.report_witness.specs.Pair.{same_target}
+use Rattle.report_witness.proofs.Paired.{first-refused, second-refused, both_open}
 use Rattle.report_witness.proofs.pairs.compare.Goals as goal
 
-pub returns-in-Refused : goal.returns-in-Refused
-returns-in-Refused c = first-refused _ _ _ _ _ c.open-one.ensures _ c.in-Refused.is
+pub returns-in_err-one : goal.returns-in_err-one
+returns-in_err-one c =
+    let p = err_from_is_err_and c.from_residual.result c.from_residual.ensures.1 in
+    rw (p.1, p.2) (first-refused _ _ _ _ _ (sym c.in_err-one.ensures))
 
-pub returns-in-Refused-of_other : goal.returns-in-Refused-of_other
-returns-in-Refused-of_other c =
-    second-refused _ _ _ _ _ c.open-one.ensures c.in-Whole.is _ c.open-other.ensures _ c.in-Refused-of_other.is
+pub returns-in_err-other : goal.returns-in_err-other
+returns-in_err-other c =
+    let p = err_from_is_err_and c.from_residual-in_err-other.result c.from_residual-in_err-other.ensures.1 in
+    rw (p.1, p.2) (second-refused _ _ _ _ _ (sym c.in_ok-one.ensures) _ (sym c.in_err-other.ensures))
 
-pub returns-in-Whole-of_other : goal.returns-in-Whole-of_other
-returns-in-Whole-of_other c =
-    both_whole _ _ _ _ _ c.open-one.ensures c.in-Whole.is _ c.open-other.ensures c.in-Whole-of_other.is
-    _ c.same_target.ensures
+pub returns : goal.returns
+unfolding same_target
+returns c = rw c.eq.ensures (both_open _ _ _ _ _ (sym c.in_ok-one.ensures) _ (sym c.in_ok-other.ensures))

@@ -12,8 +12,8 @@ returns-in-Passing c = rw c.in-Passing.is refl
 
 pub returns-then-is_on : goal.returns-then-is_on
 unfolding by_course
-returns-then-is_on c = rw (c.in-Arrived.is, ← c.size_of_array.ensures, ← c.lies_at.ensures, ← c.is_on.ensures, c.if-is_on.true) refl
+returns-then-is_on c = rw (c.in-Arrived.is, ← c.size_of_array-size.ensures, ← c.lies_at.ensures, ← c.is_on.ensures, c.if-is_on.true) refl
 
 pub returns-else-is_on : goal.returns-else-is_on
 unfolding by_course
-returns-else-is_on c = rw (c.in-Arrived.is, ← c.size_of_array.ensures, ← c.lies_at.ensures, ← c.is_on.ensures, c.if-is_on.false) refl
+returns-else-is_on c = rw (c.in-Arrived.is, ← c.size_of_array-size.ensures, ← c.lies_at.ensures, ← c.is_on.ensures, c.if-is_on.false) refl
