@@ -1,13 +1,13 @@
 -- 0 is no refusal's number. Assumes nothing.
+use Rattle.std.specs.Prelude.{Result, Ok, Err}
 use Prim.Native.Nat.{◌<◌}
 use mathlib.Core.Path.{◌≡◌, refl}
-use mathlib.Core.Bool.{true, false}
+use mathlib.Core.Bool.{Bool, true, false}
 use native.Mathlib.Omega.{arith}
 use Rattle.routine_faults.specs.declared.Fault.{Fault}
 use Rattle.routine.specs.declared.Refusal as routine
 use Rattle.lead.specs.declared.Refusal as lead
 use Rattle.report_witness.specs.declared.Refusal as witness
-use Rattle.report_alike.specs.declared.Compared.{Compared}
 use Rattle.refusals.specs.Table.{number_of_fault, routine_row, lead_row, witness_row, pair_row}
 
 of_fault : (fault : Fault) → 0 < number_of_fault fault
@@ -37,7 +37,7 @@ of_witness (witness.Refusal.Missed access) = omega arith
 of_witness (witness.Refusal.OffSide access) = omega arith
 
 -- 0 is told of two reports only where they are alike
-pub zero_alike : (compared : Compared) → (pair_row compared).number ≡ 0 → compared ≡ Compared.Alike true
-zero_alike (Compared.Alike true) e = refl
-zero_alike (Compared.Alike false) e = absurd (omega arith)
-zero_alike (Compared.Refused refusal) e = absurd (omega (arith, of_witness refusal, e))
+pub zero_alike : (compared : Result Bool witness.Refusal) → (pair_row compared).number ≡ 0 → compared ≡ Ok true
+zero_alike (Ok true) e = refl
+zero_alike (Ok false) e = absurd (omega arith)
+zero_alike (Err refusal) e = absurd (omega (arith, of_witness refusal, e))

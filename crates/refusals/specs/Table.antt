@@ -1,5 +1,5 @@
 -- The table of documents 01 and 02: the number and the place of each refusal, one definition a layer. A refusal that holds one of a lower layer has that one's row.
-use Rattle.std.specs.Prelude.{ℕ, true, false}
+use Rattle.std.specs.Prelude.{ℕ, Bool, true, false, Result, Ok, Err}
 use Rattle.slices.specs.Lent.{buffer_number}
 use Rattle.routine_faults.specs.declared.Fault.{Fault}
 use Rattle.routine.specs.declared.Refusal as routine
@@ -7,7 +7,6 @@ use Rattle.run.specs.declared.Refusal as run
 use Rattle.lead.specs.declared.Refusal as lead
 use Rattle.translation.specs.declared.Refusal as translation
 use Rattle.report_witness.specs.declared.Refusal as witness
-use Rattle.report_alike.specs.declared.Compared.{Compared}
 use Rattle.proof_check.specs.declared.Refusal as proof
 use Rattle.report_judgement.specs.declared.Refusal as report
 use Rattle.refusals.specs.declared.Row.{Row}
@@ -59,10 +58,10 @@ witness_row (witness.Refusal.Missed access) = row 14 access
 witness_row (witness.Refusal.OffSide access) = row 15 access
 
 -- what the call that hands back one of two reports tells: 26 where they are not alike (02, note 5), 0 and 0 where there is no refusal
-abbrev pub pair_row : Compared → Row
-pair_row (Compared.Refused refusal) = witness_row refusal
-pair_row (Compared.Alike false) = row 26 0
-pair_row (Compared.Alike true) = row 0 0
+abbrev pub pair_row : Result Bool witness.Refusal → Row
+pair_row (Err refusal) = witness_row refusal
+pair_row (Ok false) = row 26 0
+pair_row (Ok true) = row 0 0
 
 -- refusals of a proof
 abbrev pub proof_row : proof.Refusal → Row
