@@ -6,14 +6,13 @@ ghost use Rattle.judge_line.specs.Writes.{Writes};
 ghost use Rattle.judge_files.specs.Inner.Read.{Within, file_of};
 ghost use Rattle.judge_files.specs.Printed.{readable, lent, printed};
 
-use crate::reading::Reading;
 use judge_line::text::write_text;
 use judge_line::write_line;
 use report::judge;
-use report_judgement::Judged;
+use report_judgement::{Finding, Refusal};
 
 // Judges with buffers of its own.
-fn judge_lent(routine: &[u8], report: &[u8]) -> Judged
+fn judge_lent(routine: &[u8], report: &[u8]) -> Result<Finding, Refusal>
     ensures { result ≡ judgement routine.now report.now lent }
 {
     let mut words = [0u32; 16384];
@@ -46,9 +45,9 @@ fn answer_bytes(routine: &[u8], report: &[u8], out: &mut [u8]) -> usize
 
 // The same of two files, as far as they were read: the routine's into `first`, the report's into `second`.
 pub fn answer(
-    routine: Reading,
+    routine: Option<usize>,
     first: &[u8],
-    report: Reading,
+    report: Option<usize>,
     second: &[u8],
     out: &mut [u8],
 ) -> usize
@@ -58,10 +57,10 @@ pub fn answer(
     ensures writes { Writes out.old 0 (printed (file_of routine first.now) (file_of report second.now)) out.new result }
     ensures prefix_len { IsPrefixLen result out.new }
 {
-    let Reading::Bytes(n) = routine else {
+    let Some(n) = routine else {
         return write_text(b"cannot read routine\n", out, 0);
     };
-    let Reading::Bytes(m) = report else {
+    let Some(m) = report else {
         return write_text(b"cannot read report\n", out, 0);
     };
     answer_bytes(&first[..n], &second[..m], out)

@@ -14,7 +14,7 @@ use reading::read_file;
 use std::rt::Files;
 
 // Writes what is printed of the report in one file on the routine in another at the beginning of `out`, and returns its length. One byte more than a routine and
-// a report have is read, so that a longer file is told and not cut short.
+// a report have is read, so that a longer file is told and not cut short. Nothing is allocated: both stand in arrays.
 pub fn judge_files<R: Files>(
     rt: &R,
     routine_name: &[u8],

@@ -6,46 +6,40 @@ use std::io::{ErrorKind, Read};
 use std::rt::Files;
 use std::str::from_utf8;
 
-// What reading a file gave: so many bytes, or that it cannot be read to its end.
-#[derive(Clone, Copy)]
-pub enum Reading {
-    Bytes(usize),
-    Unreadable,
-}
-
-// Reads a file into `buffer`, as far as it fits. A missing file is empty. A name is text: no file is found by another.
-pub fn read_file<R: Files>(rt: &R, name: &[u8], buffer: &mut [u8]) -> Reading
+// Reads a file into `buffer`, as far as it fits, and returns how many bytes it gave, if it can be read to its end. A missing file is empty. A name is text: no
+// file is found by another.
+pub fn read_file<R: Files>(rt: &R, name: &[u8], buffer: &mut [u8]) -> Option<usize>
     ensures { Within result buffer.new }
 {
     let Ok(path) = from_utf8(name) else {
-        return Reading::Unreadable;
+        return None;
     };
     match fs::open(rt, path) {
         Ok(file) => read_to_end(file, buffer),
         Err(e) => {
             if e.kind() == ErrorKind::NotFound {
-                Reading::Bytes(0)
+                Some(0)
             } else {
-                Reading::Unreadable
+                None
             }
         }
     }
 }
 
-// Reads until `buffer` is full or the file ends.
-fn read_to_end<F: Read + Drop>(file: F, buffer: &mut [u8]) -> Reading
+// Reads until `buffer` is full or the file ends: how many bytes a turn reads is the file's to say.
+fn read_to_end<F: Read + Drop>(file: F, buffer: &mut [u8]) -> Option<usize>
     ensures { Within result buffer.new }
 {
     let mut file = file;
     let mut n = 0;
     while n < buffer.len() {
         let Ok(more) = file.read(&mut buffer[n..]) else {
-            return Reading::Unreadable;
+            return None;
         };
         if more == 0 {
             break;
         }
         n += more;
     }
-    Reading::Bytes(n)
+    Some(n)
 }

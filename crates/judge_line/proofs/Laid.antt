@@ -1,12 +1,16 @@
 -- Bytes that are put one after the other are put together. Assumes nothing.
-use Prim.Native.Nat.{ℕ, suc, ◌+◌, ◌≤◌, ◌<◌}
+use Prim.Native.Nat.{ℕ, suc, ◌+◌, ◌≤◌}
 use native.Mathlib.Nat.{add_assoc, add-zero}
-use native.Mathlib.Numerals.{add-one}
 use mathlib.Core.Path.{◌≡◌, refl, sym, ap, subst, ◌∙◌}
-use mathlib.Core.List.{List, [], ◌∷◌, ◌++◌}
-use lib.ListN.{length, length-append, take, get_or}
-use lib.Seq.{sets, take-suc, take_all}
+use mathlib.Core.List.{List, [], ◌∷◌, ◌++◌, append_assoc}
+use lib.ListN.{length, length-append, take, drop}
+use lib.Seq.{sets, sets-eq}
+use borrow.Rule.Slice.PartMut.{put_mid}
+use Rattle.std.proofs.lemmas.List.Edits.{paste_all}
+use Rattle.std.proofs.lemmas.Slice.{put_mid-paste}
 use native.Mathlib.Omega.{arith}
+use Rattle.judge_line.specs.declared.line.Line.{Line}
+use Rattle.judge_line.specs.Inner.Appends.{Appends}
 use Rattle.judge_line.specs.Writes.{Writes}
 
 -- laying one text after the other
@@ -22,20 +26,20 @@ onward {out} {out₁} {out₂} {a} {b} {at} {next₁} p q = record {
   ends = q.ends ∙ ap (λ (i : ℕ). i + length b) p.ends ∙ add_assoc at (length a) (length b) ∙ ap (λ (i : ℕ). at + i) (sym (length-append a b));
 }
 
--- no text at all
-pub nothing : (out : List ℕ) (at : ℕ) → Writes out at [] out at
-nothing out at = record { laid = refl; ends = sym (add-zero at) }
-
--- one byte more of a text
-pub one_more : {out out₁ out₂ : List ℕ} {at next₁ next₂ : ℕ} (text : List ℕ) (i : ℕ) → i < length text → Writes out at (take i text) out₁ next₁
-    → Writes out₁ next₁ (get_or text i 0 ∷ []) out₂ next₂ → Writes out at (take (i + 1) text) out₂ next₂
-one_more {out} {out₁} {out₂} {at} {next₁} {next₂} text i l p q =
-    subst (λ (a : List ℕ). Writes out at a out₂ next₂) (sym (ap (λ (j : ℕ). take j text) (add-one i) ∙ take-suc text i 0 l)) (onward p q)
-
--- all of a text
-pub all_of : {out out₁ : List ℕ} {at next : ℕ} (text : List ℕ) (i : ℕ) → length text ≤ i → Writes out at (take i text) out₁ next → Writes out at text out₁ next
-all_of {out} {out₁} {at} {next} text i l p = subst (λ (a : List ℕ). Writes out at a out₁ next) (take_all i text l) p
+-- a text that is copied over a part of the buffer
+pub copied : (out : List ℕ) (at k : ℕ) (part text : List ℕ) → part ≡ text → k ≡ length text → at + length text ≤ length out → put_mid at k out part ≡ sets out at text
+copied out at k part text e f h =
+    put_mid-paste at k out part text (length text) e (sym f) refl ∙ paste_all out at text (length text) refl
+    ∙ sym (append_assoc (take at out) text (drop (at + length text) out)) ∙ sym (sets-eq text out at h)
 
 -- the same bytes, said another way
 pub said : {out out₁ a b : List ℕ} {at next : ℕ} → Writes out at a out₁ next → a ≡ b → Writes out at b out₁ next
 said {out} {out₁} {a} {b} {at} {next} p e = subst (λ (x : List ℕ). Writes out at x out₁ next) e p
+
+-- one text on the line, then another
+pub appended : {line line₁ line₂ : Line} {a b : List ℕ} → Appends line a line₁ → Appends line₁ b line₂ → Appends line (a ++ b) line₂
+appended p q = record { buffer = q.buffer ∙ p.buffer; size = q.size ∙ p.size; writes = onward p.writes q.writes }
+
+-- the same bytes on the line, said another way
+pub meant : {line line₁ : Line} {a b : List ℕ} → Appends line a line₁ → a ≡ b → Appends line b line₁
+meant {line} {line₁} p e = subst (λ (x : List ℕ). Appends line x line₁) e p

@@ -1,3 +1,4 @@
 pub mod Text
 pub mod Writes
 pub mod Line
+pub mod Inner

@@ -1,11 +1,10 @@
 -- The line that is printed of a judgement.
-use Rattle.std.specs.Prelude.{ℕ, zero, suc, List, ◌++◌}
+use Rattle.std.specs.Prelude.{ℕ, zero, suc, List, ◌++◌, Result, Ok, Err}
 use Prim.Native.String.{String}
 use Rattle.bitvec.specs.declared.Whole.{Whole}
 use Rattle.refusals.specs.Table.{report_row}
 use Rattle.report_judgement.specs.declared.Refusal.{Refusal}
 use Rattle.report_judgement.specs.declared.Finding.{Finding}
-use Rattle.report_judgement.specs.declared.Judged.{Judged}
 use Rattle.judge_line.specs.Text.{bytes, decimal}
 
 -- a word and a number
@@ -36,6 +35,6 @@ unfoldable pub refused : Refusal → List ℕ
 refused refusal = named "refused " (report_row refusal).number ++ named " place " (report_row refusal).place ++ bytes "\n"
 
 -- the whole line
-unfoldable pub line_of : Judged → List ℕ
-line_of (Judged.Accepted f) = claimed f ++ shown f
-line_of (Judged.Refused refusal) = refused refusal
+unfoldable pub line_of : Result Finding Refusal → List ℕ
+line_of (Ok f) = claimed f ++ shown f
+line_of (Err refusal) = refused refusal

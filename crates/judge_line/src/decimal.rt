@@ -1,9 +1,9 @@
-// Numbers in decimal, written into a lent buffer.
+// Numbers in decimal, written on the line.
 ghost use Rattle.std.specs.Prelude.{◌≡◌, ◌++◌, ◌+◌, ◌<◌, ◌≤◌, length};
 ghost use Rattle.judge_line.specs.Text.{decimal};
-ghost use Rattle.judge_line.specs.Writes.{Writes};
+ghost use Rattle.judge_line.specs.Inner.Appends.{Appends};
 
-use crate::text::{write_byte, write_text};
+use crate::line::Line;
 
 // The byte of a digit.
 fn digit(d: usize) -> u8
@@ -13,33 +13,37 @@ fn digit(d: usize) -> u8
     48 + d as u8
 }
 
-// Writes the digits of n, the last of them after those of a tenth of n.
-fn write_digits(n: usize, out: &mut [u8], at: usize) -> usize
-    requires { at + length (decimal n) ≤ length out.old }
-    ensures { Writes out.old at (decimal n) out.new result }
-{
-    if n < 10 {
-        return write_byte(digit(n), out, at);
+impl Line<'_> {
+    // Writes the digits of n, the last of them after those of a tenth of n.
+    #[tactic(auto, using(crate::proofs::Digits::single_length, crate::proofs::Digits::longer))]
+    fn digits(&mut self, n: usize)
+        requires { self.old.at + length (decimal n) ≤ length self.old.out.now }
+        ensures { Appends self.old (decimal n) self.new }
+    {
+        if n < 10 {
+            return self.byte(digit(n));
+        }
+        self.digits(n / 10);
+        self.byte(digit(n % 10));
     }
-    let next = write_digits(n / 10, out, at);
-    write_byte(digit(n % 10), out, next)
-}
 
-// Writes n, which has at most 20 digits.
-pub fn write_decimal(n: usize, out: &mut [u8], at: usize) -> usize
-    requires { at + 20 ≤ length out.old }
-    ensures writes { Writes out.old at (decimal n) out.new result }
-    ensures upper_bound { result ≤ at + 20 }
-{
-    write_digits(n, out, at)
-}
+    // Writes n, which has at most 20 digits.
+    #[tactic(auto, using(crate::proofs::Digits::twenty))]
+    pub fn decimal(&mut self, n: usize)
+        requires { self.old.at + 20 ≤ length self.old.out.now }
+        ensures appends { Appends self.old (decimal n) self.new }
+        ensures upper_bound { self.new.at ≤ self.old.at + 20 }
+    {
+        self.digits(n);
+    }
 
-// Writes a word and a number.
-pub fn write_named(word: &[u8], n: usize, out: &mut [u8], at: usize) -> usize
-    requires { at + length word.now + 20 ≤ length out.old }
-    ensures writes { Writes out.old at (word.now ++ decimal n) out.new result }
-    ensures upper_bound { result ≤ at + length word.now + 20 }
-{
-    let next = write_text(word, out, at);
-    write_decimal(n, out, next)
+    // Writes a word and a number.
+    pub fn named(&mut self, word: &[u8], n: usize)
+        requires { self.old.at + length word.now + 20 ≤ length self.old.out.now }
+        ensures appends { Appends self.old (word.now ++ decimal n) self.new }
+        ensures upper_bound { self.new.at ≤ self.old.at + length word.now + 20 }
+    {
+        self.text(word);
+        self.decimal(n);
+    }
 }

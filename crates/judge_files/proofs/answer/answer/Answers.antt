@@ -13,16 +13,16 @@ returns-in_default c =
 pub returns-in_default-report : goal.returns-in_default-report
 unfolding bytes
 returns-in_default-report c =
-    record { writes = said c.write_text-in_default-report.ensures (no_report _ _ _ _ _ c.in-Bytes.is c.in_default-report.is); prefix_len = counted _ _ (omega (arith, c.write_text-in_default-report.ensures.ends, c.write_text-in_default-report.auto.out)) }
+    record { writes = said c.write_text-in_default-report.ensures (no_report _ _ _ _ _ c.in-Some.is c.in_default-report.is); prefix_len = counted _ _ (omega (arith, c.write_text-in_default-report.ensures.ends, c.write_text-in_default-report.auto.out)) }
 
 pub slice_bounds-answer_bytes-end : goal.slice_bounds-answer_bytes-end
 slice_bounds-answer_bytes-end c =
-    (within _ _ _ c.in-Bytes.is c.requires.within).1
+    (within _ _ _ c.in-Some.is c.requires.within).1
 
 pub slice_bounds-answer_bytes-end-2 : goal.slice_bounds-answer_bytes-end-2
 slice_bounds-answer_bytes-end-2 c =
-    (within _ _ _ c.in-Bytes-report.is c.requires.within_2).1
+    (within _ _ _ c.in-Some-report.is c.requires.within_2).1
 
 pub returns : goal.returns
 returns c =
-    record { writes = said c.answer_bytes.ensures.writes (both _ _ _ _ _ _ c.in-Bytes.is c.in-Bytes-report.is); prefix_len = c.answer_bytes.ensures.prefix_len }
+    record { writes = said c.answer_bytes.ensures.writes (both _ _ _ _ _ _ c.in-Some.is c.in-Some-report.is); prefix_len = c.answer_bytes.ensures.prefix_len }
