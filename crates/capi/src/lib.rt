@@ -6,10 +6,7 @@ ghost use Rattle.lead.specs.Lead.{target_of};
 ghost use Rattle.translation_meaning.specs.Faithful.{Demand2};
 ghost use Rattle.capi_answer.specs.Left.{Leaves, check_leaves, run_leaves, translate_leaves, space_leaves, prove_leaves, judge_leaves, Finds, alike_leaves};
 
-use capi_answer::{
-    ANSWER_ENTRIES, fill_alike, fill_check, fill_judge, fill_prove, fill_run, fill_space,
-    fill_translate,
-};
+use capi_answer::{ANSWER_ENTRIES, fill, fill_prove};
 
 // Checks a routine.
 #[unsafe(no_mangle)]
@@ -19,7 +16,7 @@ pub extern "C" fn pellet_check(routine: &[u8], answer: &mut [u64]) -> u8
     if answer.len() < ANSWER_ENTRIES {
         return 255;
     }
-    fill_check(routine::check(routine), answer)
+    fill(routine::check(routine), answer)
 }
 
 // Runs a routine on an input list.
@@ -36,7 +33,7 @@ pub extern "C" fn pellet_run(
     if answer.len() < ANSWER_ENTRIES {
         return 255;
     }
-    fill_run(run::run(routine, inputs, values, trail), answer)
+    fill(run::run(routine, inputs, values, trail), answer)
 }
 
 // Translates a claim on a routine into clauses.
@@ -56,7 +53,7 @@ pub extern "C" fn pellet_translate(
     if answer.len() < ANSWER_ENTRIES {
         return 255;
     }
-    fill_translate(
+    fill(
         translation::translate(routine, access, side, decisions, words, starts),
         answer,
     )
@@ -76,7 +73,7 @@ pub extern "C" fn pellet_space(
     if answer.len() < ANSWER_ENTRIES {
         return 255;
     }
-    fill_space(
+    fill(
         translation_space::space(routine, access, side, decisions),
         answer,
     )
@@ -125,7 +122,7 @@ pub extern "C" fn pellet_judge(
     if answer.len() < ANSWER_ENTRIES {
         return 255;
     }
-    fill_judge(judged, answer)
+    fill(judged, answer)
 }
 
 // Whether two reports on one routine are alike.
@@ -141,5 +138,5 @@ pub extern "C" fn pellet_alike(
     if answer.len() < ANSWER_ENTRIES {
         return 255;
     }
-    fill_alike(report::alike(routine, first, second), answer)
+    fill(report::alike(routine, first, second), answer)
 }

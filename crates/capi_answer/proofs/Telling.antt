@@ -1,4 +1,5 @@
 -- What a return of 0 of judging tells: no refusal has that number, so it is an accepted report's. Assumes nothing.
+use Rattle.std.specs.Prelude.{Result, Ok, Err}
 use mathlib.Core.Path.{◌≡◌, refl, ap}
 use mathlib.Core.List.{List}
 use Prim.Native.Nat.{ℕ, ◌≤◌}
@@ -11,7 +12,7 @@ use Rattle.proof_check.specs.declared.Refusal as proof
 use Rattle.report_judgement.specs.declared.Refusal as report
 use Rattle.refusals.specs.Table.{number_of_fault, routine_row, lead_row, witness_row, proof_row, report_row}
 use Rattle.report_judgement.specs.Demand.{Demand3}
-use Rattle.report_judgement.specs.declared.Judged.{Judged}
+use Rattle.report_judgement.specs.declared.Finding.{Finding}
 use Rattle.capi_answer.specs.Reply.{Reply, Fills, judge_fills}
 use Rattle.capi_answer.specs.Left.{Finds}
 
@@ -61,11 +62,11 @@ of_report (report.Refusal.Proof x) = of_proof x
 
 -- ---- demand 3
 
-pub finds : (bs r ans ans₁ : List ℕ) (code : ℕ) (j : Judged) → Fills (judge_fills j ans) ans₁ code → Demand3 bs r j → Finds bs r ans ans₁ code
-finds bs r ans ans₁ code (Judged.Accepted f) x d = record {
+pub finds : (bs r ans ans₁ : List ℕ) (code : ℕ) (j : Result Finding report.Refusal) → Fills (judge_fills j ans) ans₁ code → Demand3 bs r j → Finds bs r ans ans₁ code
+finds bs r ans ans₁ code (Ok f) x d = record {
   tells = λ z. record { finding = f; told = ap (λ (y : Reply). y.answer) x.equal; found = d.holds f refl };
 }
-finds bs r ans ans₁ code (Judged.Refused refusal) x d = record {
+finds bs r ans ans₁ code (Err refusal) x d = record {
   tells = λ z.
       let p = of_report refusal in
       let q : code ≡ (report_row refusal).number = ap (λ (y : Reply). y.code) x.equal in

@@ -1,16 +1,21 @@
 -- What is returned, and what is written into `answer`, whose other entries are left alone.
-use Rattle.std.specs.Prelude.{ℕ, ◌≡◌, List, [], ◌∷◌}
+use Rattle.std.specs.Prelude.{ℕ, ◌≡◌, List, [], ◌∷◌, Bool, Option, Result, Ok, Err}
 use Rattle.std.proofs.lemmas.List.Edits.{sets}
-use Rattle.routine.specs.declared.Checked.{Checked}
-use Rattle.run.specs.declared.Ran.{Ran}
-use Rattle.translation_space.specs.declared.Spaced.{Spaced}
-use Rattle.translation.specs.declared.Translated.{Translated}
-use Rattle.proof.specs.declared.Checked as proof
-use Rattle.report_judgement.specs.declared.Judged.{Judged}
-use Rattle.report_witness.specs.declared.Compared.{Compared}
+use Rattle.routine.specs.declared.Accepted.{Accepted}
+use Rattle.routine.specs.declared.Refusal as routine
+use Rattle.run_state.specs.declared.Stop.{Stop}
+use Rattle.run.specs.declared.Refusal as run
+use Rattle.lead.specs.declared.Refusal as lead
+use Rattle.translation_meaning.specs.declared.Size.{Size}
+use Rattle.translation.specs.declared.Refusal as translation
+use Rattle.proof_check.specs.declared.Tally.{Tally}
+use Rattle.proof.specs.declared.Refusal as proof
+use Rattle.report_witness.specs.declared.Refusal as witness
+use Rattle.report_judgement.specs.declared.Finding.{Finding}
+use Rattle.report_judgement.specs.declared.Refusal as report
 use Rattle.refusals.specs.Table.{routine_row, run_row, lead_row, translation_row, proof_row, witness_row, report_row}
 use Rattle.refusals.specs.declared.Row.{Row}
-use Rattle.capi_answer.specs.Entry.{counts_of, stopped_of, sizes_of, judged_of, answer_number}
+use Rattle.capi_answer.specs.Entry.{accepted_of, ran_of, sizes_of, tally_of, judged_of, alike_of}
 
 -- the number returned, and the answer
 pub record Reply : Type 0 where
@@ -25,42 +30,40 @@ done entries ans = record { code = 0; answer = sets ans 0 entries }
 abbrev pub refused : Row → (ans : List ℕ) → Reply
 refused row ans = record { code = row.number; answer = sets ans 0 (row.place ∷ []) }
 
--- what checking a routine gives
-abbrev pub check_fills : Checked → (ans : List ℕ) → Reply
-check_fills (Checked.Accepted h k) ans = done (counts_of h k) ans
-check_fills (Checked.Refused refusal) ans = refused (routine_row refusal) ans
+-- what a call gives: entries that tell what it found, or the row of its refusal
+abbrev pub replied : {A E : Type 0} → (entries : A → List ℕ) → (row_of : E → Row) → Result A E → (ans : List ℕ) → Reply
+replied entries row_of (Ok told) ans = done (entries told) ans
+replied entries row_of (Err refusal) ans = refused (row_of refusal) ans
 
--- what a run gives: 0 for an end, and nothing more
-abbrev pub run_fills : Ran → (ans : List ℕ) → Reply
-run_fills Ran.Ended ans = done (0 ∷ []) ans
-run_fills (Ran.Stopped access index side) ans = done (stopped_of access index side) ans
-run_fills (Ran.Refused refusal) ans = refused (run_row refusal) ans
+-- what checking a routine gives
+abbrev pub check_fills : Result Accepted routine.Refusal → (ans : List ℕ) → Reply
+check_fills = replied accepted_of routine_row
+
+-- what a run gives
+abbrev pub run_fills : Result (Option Stop) run.Refusal → (ans : List ℕ) → Reply
+run_fills = replied ran_of run_row
 
 -- what a translation gives
-abbrev pub translate_fills : Translated → (ans : List ℕ) → Reply
-translate_fills (Translated.Clauses size) ans = done (sizes_of size) ans
-translate_fills (Translated.Refused refusal) ans = refused (translation_row refusal) ans
+abbrev pub translate_fills : Result Size translation.Refusal → (ans : List ℕ) → Reply
+translate_fills = replied sizes_of translation_row
 
 -- what is told of a translation's space
-abbrev pub space_fills : Spaced → (ans : List ℕ) → Reply
-space_fills (Spaced.Told size) ans = done (sizes_of size) ans
-space_fills (Spaced.Refused refusal) ans = refused (lead_row refusal) ans
+abbrev pub space_fills : Result Size lead.Refusal → (ans : List ℕ) → Reply
+space_fills = replied sizes_of lead_row
 
--- what checking a proof gives: steps closed and hints read; 254, no number of document 01, where the buffers do not hold what is asked
-abbrev pub prove_fills : proof.Checked → (ans : List ℕ) → Reply
-prove_fills (proof.Checked.Accepted steps hints) ans = done (steps ∷ hints ∷ []) ans
-prove_fills (proof.Checked.Refused refusal) ans = refused (proof_row refusal) ans
-prove_fills proof.Checked.Unfit ans = record { code = 254; answer = ans }
+-- what checking a proof gives; 254, no number of document 01, where the buffers do not hold what is asked
+abbrev pub prove_fills : Result Tally proof.Refusal → (ans : List ℕ) → Reply
+prove_fills (Ok tally) ans = done (tally_of tally) ans
+prove_fills (Err (proof.Refusal.Proof refusal)) ans = refused (proof_row refusal) ans
+prove_fills (Err proof.Refusal.Unfit) ans = record { code = 254; answer = ans }
 
 -- what judging a report gives
-abbrev pub judge_fills : Judged → (ans : List ℕ) → Reply
-judge_fills (Judged.Accepted f) ans = done (judged_of f) ans
-judge_fills (Judged.Refused refusal) ans = refused (report_row refusal) ans
+abbrev pub judge_fills : Result Finding report.Refusal → (ans : List ℕ) → Reply
+judge_fills = replied judged_of report_row
 
 -- what comparing two reports gives
-abbrev pub alike_fills : Compared → (ans : List ℕ) → Reply
-alike_fills (Compared.Alike b) ans = done (answer_number b ∷ []) ans
-alike_fills (Compared.Refused refusal) ans = refused (witness_row refusal) ans
+abbrev pub alike_fills : Result Bool witness.Refusal → (ans : List ℕ) → Reply
+alike_fills = replied alike_of witness_row
 
 -- the reply is the number r, and the answer became ans₁
 pub record Fills (reply : Reply) (ans₁ : List ℕ) (r : ℕ) : Type 0 where

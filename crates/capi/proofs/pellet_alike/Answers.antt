@@ -10,5 +10,5 @@ returns-then-answer-lt-ANSWER_ENTRIES c = short _ _ _ _ (lt-ltb _ _ c.if-answer-
 pub returns : goal.returns
 unfolding alike_leaves
 returns c =
-    alike_leaves_lem _ _ _ _ _ _ c.fill_alike.ensures c.alike.ensures
+    alike_leaves_lem _ _ _ _ _ _ c.fill.ensures c.alike.ensures
     (le-ltb _ _ c.if-answer-lt-ANSWER_ENTRIES.false)

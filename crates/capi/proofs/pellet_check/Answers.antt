@@ -10,5 +10,5 @@ returns-then-answer-lt-ANSWER_ENTRIES c = short _ _ _ _ (lt-ltb _ _ c.if-answer-
 pub returns : goal.returns
 unfolding check_leaves
 returns c =
-    check_leaves_lem _ _ _ _ c.fill_check.ensures c.check.ensures
+    check_leaves_lem _ _ _ _ c.fill.ensures c.check.ensures
     (le-ltb _ _ c.if-answer-lt-ANSWER_ENTRIES.false)

@@ -9,4 +9,4 @@ returns-then-answer-lt-ANSWER_ENTRIES c =
 
 pub returns : goal.returns
 returns c =
-    record { leaves = judge_leaves_lem _ _ _ _ _ _ _ _ _ _ _ _ _ _ _ c.fill_judge.ensures c.judge-judged.ensures.judges (le-ltb _ _ c.if-answer-lt-ANSWER_ENTRIES.false); finds = finds _ _ _ _ _ c.judge-judged.result c.fill_judge.ensures c.judge-judged.ensures.demand3 }
+    record { leaves = judge_leaves_lem _ _ _ _ _ _ _ _ _ _ _ _ _ _ _ c.fill.ensures c.judge-judged.ensures.judges (le-ltb _ _ c.if-answer-lt-ANSWER_ENTRIES.false); finds = finds _ _ _ _ _ c.judge-judged.result c.fill.ensures c.judge-judged.ensures.demand3 }

@@ -9,4 +9,4 @@ returns-then-answer-lt-ANSWER_ENTRIES c = short _ _ _ _ (lt-ltb _ _ c.if-answer-
 
 pub returns : goal.returns
 unfolding run_leaves
-returns c = run_leaves_lem _ _ _ _ _ _ _ _ _ c.fill_run.ensures c.run.ensures.run_answers (le-ltb _ _ c.if-answer-lt-ANSWER_ENTRIES.false)
+returns c = run_leaves_lem _ _ _ _ _ _ _ _ _ c.fill.ensures c.run.ensures.run_answers (le-ltb _ _ c.if-answer-lt-ANSWER_ENTRIES.false)

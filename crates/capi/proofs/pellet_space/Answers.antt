@@ -10,5 +10,5 @@ returns-then-answer-lt-ANSWER_ENTRIES c = short _ _ _ _ (lt-ltb _ _ c.if-answer-
 pub returns : goal.returns
 unfolding space_leaves
 returns c =
-    space_leaves_lem _ _ _ _ _ _ _ c.fill_space.ensures c.space.ensures.value
+    space_leaves_lem _ _ _ _ _ _ _ c.fill.ensures c.space.ensures.value
     (le-ltb _ _ c.if-answer-lt-ANSWER_ENTRIES.false)

@@ -11,4 +11,4 @@ returns-then-answer-lt-ANSWER_ENTRIES c = record { leaves = short _ _ _ _ (lt-lt
 pub returns : goal.returns
 unfolding translate_leaves
 returns c =
-    record { leaves = translate_leaves_lem _ _ _ _ _ _ _ _ _ _ _ c.fill_translate.ensures c.translate.ensures.translation_answers (le-ltb _ _ c.if-answer-lt-ANSWER_ENTRIES.false); demand2 = c.translate.ensures.demand2 }
+    record { leaves = translate_leaves_lem _ _ _ _ _ _ _ _ _ _ _ c.fill.ensures c.translate.ensures.translation_answers (le-ltb _ _ c.if-answer-lt-ANSWER_ENTRIES.false); demand2 = c.translate.ensures.demand2 }
