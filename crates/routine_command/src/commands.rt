@@ -1,5 +1,5 @@
 // The command at an offset, and its size in bytes.
-ghost use Rattle.std.specs.Prelude.{◌≡◌, ◌+◌, ◌≤◌, length};
+ghost use Rattle.std.specs.Prelude.{◌≡◌, ◌+◌, ◌≤◌, Some, length};
 ghost use Rattle.slices.specs.Bytes.{entry, word};
 ghost use Rattle.routine_command.specs.Command.{opcode_of, opcode_size, command_with, command_at, size_by_op, simple_size, touches, touches_of};
 
@@ -69,20 +69,6 @@ pub fn opcode_of(op: u8) -> Option<Opcode>
     Some(opcode)
 }
 
-fn opcode_size(opcode: Opcode) -> usize
-    ensures { result ≡ opcode_size opcode }
-{
-    match opcode {
-        Opcode::Close(_) => 1,
-        Opcode::Set => 6,
-        Opcode::Convert(_) => 3,
-        Opcode::Compute(_) => 4,
-        Opcode::Read => 4,
-        Opcode::Write => 4,
-        Opcode::If => 4,
-    }
-}
-
 // How many bytes a command takes, by its own byte alone.
 #[tactic(auto, unfolding(crate::specs::Command::command_by, crate::specs::Command::opcode_of))]
 pub fn size_by_op(op: u8) -> usize
@@ -136,22 +122,41 @@ fn with_operands(bytes: &[u8], at: usize, opcode: Opcode) -> Command
     }
 }
 
-// The whole command at `at`. The operands are read once the size has told that they are there. So it is small enough that a compiler puts it into each walk,
-// where its match and the walk's become one.
+// The conversion that a command of three bytes is: no other command has so many. The copy is the rest, so that the kind is the byte less five, or 0, and a compiler
+// needs no table for it.
+fn conversion_of(op: u8) -> Conversion
+    requires { size_by_op op ≡ 3 }
+    ensures { opcode_of op ≡ Some (Opcode.Convert result) }
+{
+    match op {
+        0x06 => Conversion::Cut,
+        0x07 => Conversion::ZeroExtend,
+        0x08 => Conversion::SignExtend,
+        _ => Conversion::Copy,
+    }
+}
+
+// The whole command at `at`. The operands are read once the size has told that they are there. The size comes from the byte and not from the kind: so nothing stands
+// between the match that finds the kind and the one on it, and a compiler makes one of both. Conversions are told by their size, which takes comparisons; for the other
+// commands it makes one table of jumps. All of it is put into each walk, where its match and the walk's become one.
+#[inline(always)]
 pub fn command_at(bytes: &[u8], at: usize) -> Command
     ensures { result ≡ command_at bytes.now at }
 {
     if bytes.len() <= at {
         return Command::Missing;
     }
-    match opcode_of(bytes[at]) {
+    let op = bytes[at];
+    let size = size_by_op(op);
+    if bytes.len() - at < size {
+        return Command::Missing;
+    }
+    if size == 3 {
+        let op = conversion_of(op);
+        return with_operands(bytes, at, Opcode::Convert(op));
+    }
+    match opcode_of(op) {
         None => Command::Missing,
-        Some(opcode) => {
-            let size = opcode_size(opcode);
-            if bytes.len() - at < size {
-                return Command::Missing;
-            }
-            with_operands(bytes, at, opcode)
-        }
+        Some(opcode) => with_operands(bytes, at, opcode),
     }
 }
