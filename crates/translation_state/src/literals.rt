@@ -29,12 +29,15 @@ pub fn places_in(h: Header) -> usize
     VARIABLE_PLACES * (h.variables as usize)
 }
 
-// The literals, copied: an else starts from those at its if.
+// The literals, copied: an else starts from those at its if. One by one, since a compiler cannot see that the two lie apart: the library's copy would then ask for C's
+// `memmove`, which nothing else here needs from outside.
 pub fn copy_bits(to: &mut [u32], from: &[u32])
     requires { length to.old ≡ length from.now }
     ensures { to.new ≡ from.now }
 {
-    to.copy_from_slice(from);
+    for j in 0..from.len() {
+        to[j] = from[j];
+    }
 }
 
 // Another arrival.
