@@ -2,7 +2,7 @@
 ghost use Rattle.std.specs.Prelude.{[], ◌∷◌, ◌+◌, ◌<◌, ◌≤◌, length};
 ghost use Rattle.judge_line.specs.Inner.Appends.{Appends};
 
-use crate::text::write_text;
+use crate::text::{write_byte, write_text};
 
 // The line that is being written: the buffer, and the number of the byte that is written next.
 #[derive(Drop)]
@@ -17,8 +17,7 @@ impl Line<'_> {
         requires { self.old.at < length self.old.out.now }
         ensures { Appends self.old (byte ∷ []) self.new }
     {
-        self.out[self.at] = byte;
-        self.at += 1;
+        self.at = write_byte(byte, self.out, self.at);
     }
 
     // Writes a text.
