@@ -1,6 +1,7 @@
 -- The operands of a command in the bytes and in the syntax. Assumes nothing.
 use mathlib.Core.Path.{◌≡◌, refl, sym, ◌∙◌}
 use mathlib.Core.List.{List}
+use mathlib.Core.Logic.{inl, inr}
 use mathlib.Core.Bool.{true}
 use Prim.Native.Nat.{ℕ, ◌^◌, ◌≤◌, ◌<◌}
 use native.Mathlib.Omega.{arith}
@@ -13,9 +14,10 @@ use Rattle.routine_header.specs.Header.{width}
 use Rattle.routine_faults.specs.Step.{in_range, converts, widths_fit}
 use Rattle.routine_faults.specs.Inner.Sound.{Sound, SoundIf}
 use Rattle.routine_rendering.specs.Syntax.{Syntax}
-use Rattle.routine_rendering.specs.WellFormed.{Variable, width_of, Converts, Good, GoodIf}
+use Rattle.routine_rendering.specs.WellFormed.{Variable, width_of, Converts, Computes, Good, GoodIf}
 use Rattle.routine_header.specs.declared.Header.{Header}
 use Rattle.routine_command.specs.declared.Conversion.{Conversion}
+use Rattle.routine_command.specs.declared.Operation.{Operation}
 use Rattle.routine_command.specs.declared.Simple.{Simple}
 use Rattle.routine_command.specs.declared.Condition.{Condition}
 use Rattle.routine_faults.proofs.Fine.{set_fine, convert_fine, compute_fine, read_fine, write_fine, condition_fine}
@@ -39,6 +41,14 @@ converts-holds Conversion.Copy w x e = eq-eqb w x e
 converts-holds Conversion.Cut w x l = lt-ltb w x l
 converts-holds Conversion.ZeroExtend w x l = lt-ltb x w l
 converts-holds Conversion.SignExtend w x l = lt-ltb x w l
+
+-- a computation's byte is one of theirs
+pub computes : (op : Operation) → Computes op
+computes Operation.Add = inl (record { low = omega arith; high = omega arith })
+computes Operation.Subtract = inl (record { low = omega arith; high = omega arith })
+computes Operation.Multiply = inl (record { low = omega arith; high = omega arith })
+computes Operation.Quotient = inr (record { low = omega arith; high = omega arith })
+computes Operation.Remainder = inr (record { low = omega arith; high = omega arith })
 
 -- the constant of a good command has four bytes
 pub good_kind : (p : Syntax) → ((v : ℕ) → Variable p v → width_of p v ≤ 32) → (c : Simple) → Good p c → Kind c
@@ -69,7 +79,7 @@ module _ (bs : List ℕ) (h : Header) (p : Syntax) (same : Same bs h p) where
       (variable d f.0, variable s f.1, converts_says op _ _ (rw (width_is d f.0, width_is s f.1) at x.widths))
   good (Simple.Compute op d s t) x =
       let f = compute_fine bs h op d s t x in
-      (variable d f.0, variable s f.1, variable t f.2, sym (width_is d f.0) ∙ f.3 ∙ width_is s f.1, sym (width_is d f.0) ∙ f.4 ∙ width_is t f.2)
+      (computes op, variable d f.0, variable s f.1, variable t f.2, sym (width_is d f.0) ∙ f.3 ∙ width_is s f.1, sym (width_is d f.0) ∙ f.4 ∙ width_is t f.2)
   good (Simple.Read d a i) x = let f = read_fine bs h d a i x in (variable d f.0, array a f.1, variable i f.2)
   good (Simple.Write a i s) x = let f = write_fine bs h a i s x in (array a f.0, variable i f.1, variable s f.2)
 
@@ -96,8 +106,8 @@ module _ (bs : List ℕ) (h : Header) (p : Syntax) (same : Same bs h p) where
     widths = rw (same.widths d g.0, same.widths s g.1) (converts-holds op _ _ g.2);
   }
   sound (Simple.Compute op d s t) g = record {
-    ranges = simp (below d g.0, below s g.1, below t g.2);
-    widths = simp (same_width d s g.0 g.1 g.3, same_width d t g.0 g.2 g.4);
+    ranges = simp (below d g.1, below s g.2, below t g.3);
+    widths = simp (same_width d s g.1 g.2 g.4, same_width d t g.1 g.3 g.5);
   }
   sound (Simple.Read d a i) g = record { ranges = simp (below d g.0, below-arrays a g.1, below i g.2); widths = refl }
   sound (Simple.Write a i s) g = record { ranges = simp (below-arrays a g.0, below i g.1, below s g.2); widths = refl }

@@ -1,9 +1,10 @@
 -- When a routine is well-formed: the rules of document 01, in its order, on the syntax alone.
-use Rattle.std.specs.Prelude.{ℕ, ◌+◌, ◌^◌, ◌≤◌, ◌<◌, max, ◌≡◌, length, get_or}
+use Rattle.std.specs.Prelude.{ℕ, ◌+◌, ◌^◌, ◌≤◌, ◌<◌, max, ◌≡◌, ◌⊎◌, length, get_or}
 use Rattle.routine_command.specs.Command.{touches}
 use Rattle.routine_rendering.specs.Syntax.{Text, no_more, simple, if_text, Syntax}
-use Rattle.routine_rendering.specs.Render.{render}
+use Rattle.routine_rendering.specs.Render.{operation_byte, render}
 use Rattle.routine_command.specs.declared.Conversion.{Conversion}
+use Rattle.routine_command.specs.declared.Operation.{Operation}
 use Rattle.routine_command.specs.declared.Simple.{Simple}
 use Rattle.routine_command.specs.declared.Touch.{Touch}
 use Rattle.routine_command.specs.declared.Condition.{Condition}
@@ -36,12 +37,16 @@ Converts Conversion.Cut w x = w < x
 Converts Conversion.ZeroExtend w x = x < w
 Converts Conversion.SignExtend w x = x < w
 
+-- the command bytes of the computations: 0x03 add, 0x04 subtract, 0x05 multiply; 0x0E quotient, 0x0F remainder
+abbrev pub Computes : Operation → Type 0
+Computes op = Between 0x03 0x05 (operation_byte op) ⊎ Between 0x0E 0x0F (operation_byte op)
+
 -- a command that is no if: its operands are variables and arrays that there are, and its widths as it asks
 abbrev pub Good : Syntax → Simple → Type 0
 Good p (Simple.Set d c) = Variable p d × (c < 2 ^ width_of p d)
 Good p (Simple.Convert op d s) = Variable p d × Variable p s × Converts op (width_of p d) (width_of p s)
 Good p (Simple.Compute op d s t) =
-    Variable p d × Variable p s × Variable p t × (width_of p d ≡ width_of p s) × (width_of p d ≡ width_of p t)
+    Computes op × Variable p d × Variable p s × Variable p t × (width_of p d ≡ width_of p s) × (width_of p d ≡ width_of p t)
 Good p (Simple.Read d array i) = Variable p d × Array p array × Variable p i
 Good p (Simple.Write array i s) = Array p array × Variable p i × Variable p s
 
