@@ -25,6 +25,9 @@ module _ (xs ys : List ℕ) where
   over-length zero = refl
   over-length (suc i) = length-set (over i xs ys) i (entry xs i) ∙ over-length i
 
+  pub laid-length : (i : ℕ) (zs : List ℕ) → zs ≡ over i xs ys → length zs ≡ length ys
+  laid-length i zs e = ap length e ∙ over-length i
+
   -- what was laid over is there
   pub laid-entry : (n v : ℕ) → v < n → n ≤ length ys → entry (over n xs ys) v ≡ entry xs v
   unfolding over

@@ -55,7 +55,7 @@ module _ (bs : List ℕ) (t : Target) (ds words starts : List ℕ) where
   as_told_by (translates h a k) = fits_as_told words starts (translation_of bs t ds h a)
 
   -- whatever a translation answers was foretold
-  foretold : {words₁ starts₁ : List ℕ} {r : Result Size Refusal} → TranslationAnswers bs t ds words starts words₁ starts₁ r → Foretold bs t ds words starts r
+  pub foretold : {words₁ starts₁ : List ℕ} {r : Result Size Refusal} → TranslationAnswers bs t ds words starts words₁ starts₁ r → Foretold bs t ds words starts r
   unfolding translation_answer space_answer
   foretold x = record { equal = ap (λ (y : TranslationAnswer). y.translated) x.equal ∙ as_told_by (claim_admission bs t ds) }
 

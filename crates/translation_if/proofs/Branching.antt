@@ -45,6 +45,11 @@ pub arm-few : (other : Bool) (g arrival c : ℕ) → length (arm_arrival other g
 arm-few true g arrival c = omega arith
 arm-few false g arrival c = omega arith
 
+-- after any relation of words there is room for both arrivals
+pub relation_ready : {W U W₁ U₁ : List ℕ} {n : Net} {t : Test} (r w : ℕ) (a b : Bits) → Decides W U n (relation r n.next a b w) W₁ U₁ t → w ≤ 32 → Ready n 8192
+    → Ready t.net 2
+relation_ready {n = n} r w a b p l q = ready-after 2 p.emitted q (omega (arith, relation-short r n.next a b w))
+
 -- the condition, from the places of its two variables
 module _ (bs : List ℕ) (h : Header) (c : Condition) (lits : List ℕ) (sound : SoundIf bs h c) (fine : Fine bs h) (long : length lits ≡ all_places h) {a b w : ℕ}
     (ea : a ≡ place_of c.s) (eb : b ≡ place_of c.t) (ew : w ≡ width bs c.s)
@@ -67,13 +72,7 @@ module _ (bs : List ℕ) (h : Header) (c : Condition) (lits : List ℕ) (sound :
   pub condition_ready : Ready n 8192 → Ready t.net 2
   condition_ready q =
       let r = ranged_as bs h c.s a w fine in_range.1 ea ew in
-      ready-after 2 p.emitted q
-      (omega (
-        arith,
-        wide,
-        r,
-        relation-short c.relation n.next (lit_at (take (a + w - a) (drop a lits))) (lit_at (take (b + w - b) (drop b lits))) (length (take (a + w - a) (drop a lits))),
-      ))
+      relation_ready c.relation _ _ _ p (omega (arith, wide, r)) q
 
 -- the condition, and then both arrivals
 module _ {W U W₁ U₁ W₂ U₂ W₃ U₃ : List ℕ} {n : Net} {t a b : Test} (bs : List ℕ) (c : Condition) (d : ℕ) (s : Wires) (fails : ℕ)
