@@ -94,7 +94,7 @@ fn arm_at(bytes: &[u8], h: Header, c: Condition, a: u32, b: u32) -> u8
 }
 
 impl State {
-    // Follows the arm from an offset on, where the counts are `before`, inside `depth` ifs and ended by the command byte `close`. The value that a command
+    // Follows the arm from an offset on, where the counts are `before`, inside `depth` ifs and ended by the mark `close`. The value that a command
     // gives to a variable is stored in place: a state that is handed to a method and back is copied, for every command.
     #[cycle(follow_arm_follow_if)]
     #[tactic(auto, using(crate::proofs::Following::begun, crate::proofs::Following::room_here, crate::proofs::Reaching::arrives))]
