@@ -17,6 +17,8 @@ use Rattle.routine_faults.specs.Inner.Sound.{Sound, SoundIf}
 use Rattle.routine_header.specs.declared.Header.{Header}
 use Rattle.routine_command.specs.declared.Condition.{Condition}
 use Rattle.routine_faults.specs.declared.Counts.{Counts}
+use Rattle.routine_command.specs.declared.Conversion.{Conversion}
+use Rattle.routine_command.specs.declared.Operation.{Operation}
 use Rattle.routine_command.specs.declared.Simple.{Simple}
 use Rattle.routine_command.specs.declared.Command.{Command}
 use Rattle.routine_faults.specs.declared.Fault.{Fault}
@@ -29,7 +31,7 @@ use Rattle.routine_command.specs.declared.Mark.{Mark}
 
 -- ---- a command that stands at an offset is whole
 
-abbrev Room : List ℕ → ℕ → Command → Type 0
+abbrev Room : List ℕ → ℕ → Command Mark Conversion Operation → Type 0
 Room bs at c = (c ≡ Command.Missing → ⊥) → at + command_size c ≤ length bs
 
 room : (bs : List ℕ) (at : ℕ) → Room bs at (command_at bs at)
@@ -42,13 +44,13 @@ room bs at = go (leb (command_size (command_of bs at)) (length bs - at)) refl
 
 -- ---- what a step says of its command
 
-pub record PlainOf (bs : List ℕ) (h : Header) (k : Counts) (c : Command) (d : Simple) (k₁ : Counts) : Type 0 where
+pub record PlainOf (bs : List ℕ) (h : Header) (k : Counts) (c : Command Mark Conversion Operation) (d : Simple Conversion Operation) (k₁ : Counts) : Type 0 where
   pub command : c ≡ Command.Simple d
   pub sound : Sound bs h d
   pub few : too_many d k ≡ false
   pub counts : k₁ ≡ counts_after d k
 
-pub record ForkOf (bs : List ℕ) (h : Header) (depth : ℕ) (k : Counts) (c : Command) (d : Condition) (k₁ : Counts) : Type 0 where
+pub record ForkOf (bs : List ℕ) (h : Header) (depth : ℕ) (k : Counts) (c : Command Mark Conversion Operation) (d : Condition) (k₁ : Counts) : Type 0 where
   pub command : c ≡ Command.If d
   pub sound : SoundIf bs h d
   pub counts : k₁ ≡ counts_after_if k
@@ -56,13 +58,13 @@ pub record ForkOf (bs : List ℕ) (h : Header) (depth : ℕ) (k : Counts) (c : C
   pub few : k.ifs < 32
 
 module _ (bs : List ℕ) (h : Header) (depth : ℕ) (k : Counts) where
-  abbrev pub Of : Command → Step → Type 0
+  abbrev pub Of : Command Mark Conversion Operation → Step → Type 0
   Of c (faulty fault) = Unit {0}
   Of c closing = (mark : Mark) × (c ≡ Command.Close mark)
   Of c (simple_then d k₁) = PlainOf bs h k c d k₁
   Of c (if_then d k₁) = ForkOf bs h depth k c d k₁
 
-  of_unless : (c : Command) (b : Bool) (fault : Fault) (s : Step) → (b ≡ true → Of c s) → Of c (unless b (faulty fault) s)
+  of_unless : (c : Command Mark Conversion Operation) (b : Bool) (fault : Fault) (s : Step) → (b ≡ true → Of c s) → Of c (unless b (faulty fault) s)
   unfolding unless
   of_unless c true fault s p = p refl
   of_unless c false fault s p = tt
@@ -76,7 +78,7 @@ module _ (bs : List ℕ) (h : Header) (depth : ℕ) (k : Counts) where
       of_unless (Command.If d) (ltb k.ifs 32) Fault.TooMany (if_then d (counts_after_if k)) (λ f.
       record { command = refl; sound = record { ranges = r; widths = w }; counts = refl; shallow = ltb-true _ _ l; few = ltb-true _ _ f }))))
 
-  of_simple : (d : Simple) → Of (Command.Simple d) (simple_step bs h d k)
+  of_simple : (d : Simple Conversion Operation) → Of (Command.Simple d) (simple_step bs h d k)
   unfolding simple_step
   of_simple d =
       of_unless (Command.Simple d) (in_range bs h d) Fault.Operand _ (λ r.
@@ -84,7 +86,7 @@ module _ (bs : List ℕ) (h : Header) (depth : ℕ) (k : Counts) where
       of_unless (Command.Simple d) (not (too_many d k)) Fault.TooMany (simple_then d (counts_after d k)) (λ f.
       record { command = refl; sound = record { ranges = r; widths = w }; few = not-true _ f; counts = refl })))
 
-  pub of_step : (close : Mark) (c : Command) → Of c (step_of bs h depth close c k)
+  pub of_step : (close : Mark) (c : Command Mark Conversion Operation) → Of c (step_of bs h depth close c k)
   unfolding step_of
   of_step close Command.Missing = tt
   of_step close (Command.Close mark) = of_unless (Command.Close mark) (same_mark mark close) Fault.Misplaced closing (λ e. (mark, refl))
@@ -100,7 +102,7 @@ module _ (bs : List ℕ) where
   Fits depth at (simple_then c k) = at + simple_size c ≤ length bs
   Fits depth at (if_then c k) = (at + 4 ≤ length bs) × (depth < 8)
 
-  fits_of : (h : Header) (depth at : ℕ) (k : Counts) (c : Command) (s : Step) → Room bs at c → Of bs h depth k c s → Fits depth at s
+  fits_of : (h : Header) (depth at : ℕ) (k : Counts) (c : Command Mark Conversion Operation) (s : Step) → Room bs at c → Of bs h depth k c s → Fits depth at s
   fits_of h depth at k c (faulty fault) r o = tt
   fits_of h depth at k c closing r o = rw o.1 at (r (λ e. let z : ◌≡◌ {A = ℕ} 0 1 = cc in omega arith))
   fits_of h depth at k c (simple_then d k₁) r o = rw o.command at (r (λ e. let z : ◌≡◌ {A = ℕ} 0 1 = cc in omega arith))
@@ -249,7 +251,7 @@ fault_is (simple_then c k) fault e = let z : ◌≡◌ {A = ℕ} 0 1 = cc in abs
 fault_is (if_then c k) fault e = let z : ◌≡◌ {A = ℕ} 0 1 = cc in absurd (omega arith)
 
 module _ (bs : List ℕ) (h : Header) (depth : ℕ) (close : Mark) (at : ℕ) (k : Counts) where
-  good_simple : (d : Simple) (s : Step) → Of bs h depth k (Command.Simple d) s → fault_of s ≡ Ok tt → s ≡ simple_then d (counts_after d k)
+  good_simple : (d : Simple Conversion Operation) (s : Step) → Of bs h depth k (Command.Simple d) s → fault_of s ≡ Ok tt → s ≡ simple_then d (counts_after d k)
   good_simple d (faulty f) o e = let z : ◌≡◌ {A = ℕ} 0 1 = cc in absurd (omega arith)
   good_simple d closing o e = let f = o.1 in let z : ◌≡◌ {A = ℕ} 0 1 = cc in absurd (omega arith)
   good_simple d (simple_then c k₁) o e = let f = o.command in let z : c ≡ d = cc in rw (o.counts, z)
@@ -261,9 +263,9 @@ module _ (bs : List ℕ) (h : Header) (depth : ℕ) (close : Mark) (at : ℕ) (k
   good_if d (simple_then c k₁) o e = let f = o.command in let z : ◌≡◌ {A = ℕ} 0 1 = cc in absurd (omega arith)
   good_if d (if_then c k₁) o e = let f = o.command in let z : c ≡ d = cc in rw (o.counts, z)
 
-  module _ (c : Command) (stands : c ≡ command_at bs at) where
-    by_command : (d : Command) → c ≡ d → (s : Step) → step_of bs h depth close d k ≡ s → step_at bs h depth close at k ≡ s
-    by_command d e s f = ap (λ (x : Command). step_of bs h depth close x k) (sym stands ∙ e) ∙ f
+  module _ (c : Command Mark Conversion Operation) (stands : c ≡ command_at bs at) where
+    by_command : (d : Command Mark Conversion Operation) → c ≡ d → (s : Step) → step_of bs h depth close d k ≡ s → step_at bs h depth close at k ≡ s
+    by_command d e s f = ap (λ (x : Command Mark Conversion Operation). step_of bs h depth close x k) (sym stands ∙ e) ∙ f
 
     pub is_missing : c ≡ Command.Missing → step_at bs h depth close at k ≡ faulty Fault.Unknown
     unfolding step_of
@@ -277,7 +279,7 @@ module _ (bs : List ℕ) (h : Header) (depth : ℕ) (close : Mark) (at : ℕ) (k
     unfolding step_of unless
     is_closing mark e f = by_command (Command.Close mark) e closing (rw f)
 
-    module _ (d : Simple) (e : c ≡ Command.Simple d) (v : Result (Unit {0}) Fault) (by : v ≡ fault_of (simple_step bs h d k)) where
+    module _ (d : Simple Conversion Operation) (e : c ≡ Command.Simple d) (v : Result (Unit {0}) Fault) (by : v ≡ fault_of (simple_step bs h d k)) where
       pub faulty-simple : (fault : Fault) → v ≡ Err fault → step_at bs h depth close at k ≡ faulty fault
       unfolding step_of
       faulty-simple fault f = by_command (Command.Simple d) e (faulty fault) (fault_is (simple_step bs h d k) fault (sym by ∙ f))

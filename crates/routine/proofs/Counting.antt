@@ -11,13 +11,15 @@ use Rattle.routine.specs.Decode.{routine, decode}
 use Rattle.routine.specs.Inner.Stands.{Stands}
 use Rattle.routine_header.specs.declared.Header.{Header}
 use Rattle.routine_faults.specs.declared.Counts.{Counts}
+use Rattle.routine_command.specs.declared.Conversion.{Conversion}
+use Rattle.routine_command.specs.declared.Operation.{Operation}
 use Rattle.routine_command.specs.declared.Simple.{Simple}
 use Rattle.routine.proofs.Views.{induction}
 use Rattle.routine.proofs.Decoded.{decoded}
 use Rattle.routine_command.specs.declared.Mark.{Mark}
 
 -- a command that is no if leaves the count of the ifs
-pub same-ifs : (c : Simple) (k : Counts) → (counts_after c k).ifs ≡ k.ifs
+pub same-ifs : (c : Simple Conversion Operation) (k : Counts) → (counts_after c k).ifs ≡ k.ifs
 same-ifs (Simple.Set d x) k = refl
 same-ifs (Simple.Convert op d s) k = refl
 same-ifs (Simple.Compute op d s t) k = refl
@@ -36,7 +38,7 @@ pub few-ifs : (bs : List ℕ) (h : Header) (a : Arm) (k : Counts) → decode bs 
 few-ifs bs h a k e = few-ifs-after bs h a 0 Mark.End _ _ _ k (decoded bs h a k e).stands (omega arith)
 
 -- a command that is not the 65th access
-few-next : (c : Simple) (k : Counts) → too_many c k ≡ false → accesses k ≤ 64 → accesses (counts_after c k) ≤ 64
+few-next : (c : Simple Conversion Operation) (k : Counts) → too_many c k ≡ false → accesses k ≤ 64 → accesses (counts_after c k) ≤ 64
 unfolding too_many
 few-next (Simple.Set d x) k e l = l
 few-next (Simple.Convert op d s) k e l = l

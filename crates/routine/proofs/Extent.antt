@@ -13,6 +13,8 @@ use Rattle.routine.specs.Extent.{greatest_width, command_count}
 use Rattle.routine.specs.Inner.Stands.{Stands}
 use Rattle.routine_header.specs.declared.Header.{Header}
 use Rattle.routine_faults.specs.declared.Counts.{Counts}
+use Rattle.routine_command.specs.declared.Conversion.{Conversion}
+use Rattle.routine_command.specs.declared.Operation.{Operation}
 use Rattle.routine_command.specs.declared.Simple.{Simple}
 use Rattle.routine.proofs.Views.{induction}
 use Rattle.routine.proofs.Decoded.{decoded}
@@ -36,7 +38,7 @@ ifs_in (plain at c k rest) = ifs_in rest
 ifs_in (if_else at c k first second rest) = 1 + ifs_in first + ifs_in second + ifs_in rest
 
 -- a command that is no part of an if takes at least 3 bytes
-three_bytes : (c : Simple) → 3 ≤ simple_size c
+three_bytes : (c : Simple Conversion Operation) → 3 ≤ simple_size c
 three_bytes (Simple.Set d c) = omega arith
 three_bytes (Simple.Convert op d s) = omega arith
 three_bytes (Simple.Compute op d s t) = omega arith

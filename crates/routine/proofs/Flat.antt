@@ -16,6 +16,8 @@ use Rattle.routine.specs.Inner.Seeks.{Seeks}
 use Rattle.routine_header.specs.declared.Header.{Header}
 use Rattle.routine_command.specs.declared.Condition.{Condition}
 use Rattle.routine_faults.specs.declared.Counts.{Counts}
+use Rattle.routine_command.specs.declared.Conversion.{Conversion}
+use Rattle.routine_command.specs.declared.Operation.{Operation}
 use Rattle.routine_command.specs.declared.Simple.{Simple}
 use Rattle.routine_command.specs.declared.Command.{Command}
 use Rattle.std.specs.Prelude.{Option, Some, None}
@@ -39,7 +41,7 @@ pub data Flat (bs : List ℕ) (n : ℕ) : ℕ → Counts → Option Access → T
   closes : {at : ℕ} {k : Counts} {s : Option Access} (mark : Mark) → command_at bs at ≡ Command.Close mark → at + 1 ≤ length bs → Flat bs n (at + 1) k s → Flat bs n at k s
   forks : {at : ℕ} {k : Counts} {s : Option Access} (c : Condition) → command_at bs at ≡ Command.If c → k.ifs < 32 → at + 4 ≤ length bs → Flat bs n (at + 4) (counts_after_if k) s
       → Flat bs n at k s
-  steps : {at : ℕ} {k : Counts} {s s₁ : Option Access} (c : Simple) → command_at bs at ≡ Command.Simple c → too_many c k ≡ false → at + simple_size c ≤ length bs
+  steps : {at : ℕ} {k : Counts} {s s₁ : Option Access} (c : Simple Conversion Operation) → command_at bs at ≡ Command.Simple c → too_many c k ≡ false → at + simple_size c ≤ length bs
       → Flat bs n (at + simple_size c) (counts_after c k) s₁ → s ≡ or_else (access_here c k n) s₁ → Flat bs n at k s
 
 -- an arm, and then what follows it
@@ -70,13 +72,13 @@ pub seek_start : (bs : List ℕ) (n at : ℕ) (k : Counts) → Seeking bs n at k
 seek_start bs n at k = record { goes = λ s t. t }
 
 -- what is known of a command that is no part of an if
-record Stepped (bs : List ℕ) (n at : ℕ) (k : Counts) (c : Simple) (s : Option Access) : Type 0 where
+record Stepped (bs : List ℕ) (n at : ℕ) (k : Counts) (c : Simple Conversion Operation) (s : Option Access) : Type 0 where
   pub few : too_many c k ≡ false
   pub rest : Option Access
   pub flat : Flat bs n (at + simple_size c) (counts_after c k) rest
   pub same : s ≡ or_else (access_here c k n) rest
 
-module _ (bs : List ℕ) (n at : ℕ) (k : Counts) (s : Option Access) (r : Command) (is : r ≡ command_at bs at) (l : at < length bs) where
+module _ (bs : List ℕ) (n at : ℕ) (k : Counts) (s : Option Access) (r : Command Mark Conversion Operation) (is : r ≡ command_at bs at) (l : at < length bs) where
   flat_missing : r ≡ Command.Missing → Flat bs n at k s → ⊥
   flat_missing q (over e o) = omega arith
   flat_missing q (closes mark e room t) = let z : ◌≡◌ {A = ℕ} 0 1 = cc in omega arith
@@ -101,7 +103,7 @@ module _ (bs : List ℕ) (n at : ℕ) (k : Counts) (s : Option Access) (r : Comm
   flat_if d q (forks c e few room t) = (few, t)
   flat_if d q (steps c e few room t o) = let z : ◌≡◌ {A = ℕ} 0 1 = cc in absurd (omega arith)
 
-  flat_simple : (d : Simple) → r ≡ Command.Simple d → Flat bs n at k s → Stepped bs n at k d s
+  flat_simple : (d : Simple Conversion Operation) → r ≡ Command.Simple d → Flat bs n at k s → Stepped bs n at k d s
   flat_simple d q (over e o) = absurd (omega arith)
   flat_simple d q (closes mark e room t) = let z : ◌≡◌ {A = ℕ} 0 1 = cc in absurd (omega arith)
   flat_simple d q (forks c e few room t) = let z : ◌≡◌ {A = ℕ} 0 1 = cc in absurd (omega arith)
@@ -114,7 +116,7 @@ module _ (bs : List ℕ) (n at₀ : ℕ) (k₀ : Counts) (at : ℕ) (k : Counts)
   left : (h : Header) (i : IsRoutine bs h) → at₀ ≡ first_command h → k₀ ≡ no_counts → Flat bs n at k (access_at i.commands n)
   left h i e f = g.goes _ (rw (e, f) (whole_flat bs h n i.commands i.counts i.decodes))
 
-  module _ (r : Command) (is : r ≡ command_at bs at) (l : at < length bs) where
+  module _ (r : Command Mark Conversion Operation) (is : r ≡ command_at bs at) (l : at < length bs) where
     -- in a routine the command there is whole, and what is counted is within the limits
     module _ (h : Header) (i : IsRoutine bs h) (e : at₀ ≡ first_command h) (f : k₀ ≡ no_counts) where
       pub room : (at + command_size r ≤ length bs) × (0 < command_size r)
@@ -123,7 +125,7 @@ module _ (bs : List ℕ) (n at₀ : ℕ) (k₀ : Counts) (at : ℕ) (k : Counts)
       pub few_if : (d : Condition) → r ≡ Command.If d → k.ifs < 32
       few_if d q = (flat_if bs n at k _ r is l d q (left h i e f)).0
 
-      pub few-simple : (d : Simple) → r ≡ Command.Simple d → too_many d k ≡ false
+      pub few-simple : (d : Simple Conversion Operation) → r ≡ Command.Simple d → too_many d k ≡ false
       few-simple d q = (flat_simple bs n at k _ r is l d q (left h i e f)).few
 
     pub past_close : (m : Mark) → r ≡ Command.Close m → Seeking bs n at₀ k₀ (at + 1) k
@@ -132,7 +134,7 @@ module _ (bs : List ℕ) (n at₀ : ℕ) (k₀ : Counts) (at : ℕ) (k : Counts)
     pub past_if : (d : Condition) → r ≡ Command.If d → Seeking bs n at₀ k₀ (at + 4) (counts_after_if k)
     past_if d q = record { goes = λ s t. (flat_if bs n at k s r is l d q (g.goes s t)).1 }
 
-    module _ (d : Simple) (q : r ≡ Command.Simple d) (x : Option Access) (here : x ≡ access_here d k n) where
+    module _ (d : Simple Conversion Operation) (q : r ≡ Command.Simple d) (x : Option Access) (here : x ≡ access_here d k n) where
       pub past-simple : x ≡ None → Seeking bs n at₀ k₀ (at + simple_size d) (counts_after d k)
       past-simple e = record {
         goes = λ s t.

@@ -15,6 +15,8 @@ use Rattle.routine.specs.Access.{access_by, access_here, or_else, access_at, ifs
 use Rattle.routine.specs.Inner.Stands.{Stands}
 use Rattle.routine_header.specs.declared.Header.{Header}
 use Rattle.routine_command.specs.declared.Condition.{Condition}
+use Rattle.routine_command.specs.declared.Conversion.{Conversion}
+use Rattle.routine_command.specs.declared.Operation.{Operation}
 use Rattle.routine_command.specs.declared.Simple.{Simple}
 use Rattle.routine_command.specs.declared.Touch.{Touch}
 use Rattle.routine_faults.specs.declared.Counts.{Counts}
@@ -99,7 +101,7 @@ module _ (k : Counts) where
       go (inl l) = inl l
       go (inr l) = inr (let z = eqb-false (accesses k) n e in omega (arith, one_more t))
 
-  here_within : (n : ℕ) (c : Simple) → Within n k (counts_after c k) (access_here c k n)
+  here_within : (n : ℕ) (c : Simple Conversion Operation) → Within n k (counts_after c k) (access_here c k n)
   unfolding access_here
   here_within n c = by_touch n (touches c) (eqb (accesses k) n) refl
 
@@ -121,7 +123,7 @@ module _ (n : ℕ) where
   unfolding access_at
   spans_done k = record { ifs = omega arith; accessed = omega arith; each = tt; within = order n (accesses k) }
 
-  spans_plain : (at : ℕ) (c : Simple) (k : Counts) (rest : Arm) (k₁ : Counts) → Spans n (counts_after c k) rest k₁ → Spans n k (plain at c k rest) k₁
+  spans_plain : (at : ℕ) (c : Simple Conversion Operation) (k : Counts) (rest : Arm) (k₁ : Counts) → Spans n (counts_after c k) rest k₁ → Spans n k (plain at c k rest) k₁
   unfolding access_at
   spans_plain at c k rest k₁ s =
       let e = same-ifs c k in
@@ -206,7 +208,7 @@ module _ (j : Counts) (n : ℕ) where
     abbrev Here : Arm → Type 0
     Here a = access_at a n ≡ Some (record { counts = j; array = array; i = i })
 
-    before-plain : (c : Simple) (k : Counts) (rest : Arm) (k₁ : Counts) → Spans n (counts_after c k) rest k₁ → (Here rest → EachIf (Before j.ifs n) rest)
+    before-plain : (c : Simple Conversion Operation) (k : Counts) (rest : Arm) (k₁ : Counts) → Spans n (counts_after c k) rest k₁ → (Here rest → EachIf (Before j.ifs n) rest)
         → (x : Option Access) → Within n k (counts_after c k) x → or_else x (access_at rest n) ≡ Some (record { counts = j; array = array; i = i }) → EachIf (Before j.ifs n) rest
     before-plain c k rest k₁ s go None w e = go e
     before-plain c k rest k₁ s go (Some a₁) w e =

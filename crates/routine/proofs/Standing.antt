@@ -11,6 +11,8 @@ use Rattle.routine_faults.specs.Step.{too_many, counts_after_if}
 use Rattle.routine_faults.specs.Inner.Sound.{Sound, SoundIf}
 use Rattle.routine_command.specs.declared.Condition.{Condition}
 use Rattle.routine_faults.specs.declared.Counts.{Counts}
+use Rattle.routine_command.specs.declared.Conversion.{Conversion}
+use Rattle.routine_command.specs.declared.Operation.{Operation}
 use Rattle.routine_command.specs.declared.Simple.{Simple}
 use Rattle.routine_command.specs.declared.Command.{Command}
 use Rattle.routine.specs.Routine.{Arm}
@@ -37,7 +39,7 @@ arms_of v =
       stands-second = f.stands-second;
     }
 
-module _ (bs : List ℕ) (h : Header) (depth : ℕ) (close : Mark) (at : ℕ) (k : Counts) (w : SomeArm bs h depth close at k) (r : Command) (is : r ≡ command_at bs at) where
+module _ (bs : List ℕ) (h : Header) (depth : ℕ) (close : Mark) (at : ℕ) (k : Counts) (w : SomeArm bs h depth close at k) (r : Command Mark Conversion Operation) (is : r ≡ command_at bs at) where
   pub not_missing : r ≡ Command.Missing → ⊥
   not_missing q = by_missing bs h depth close at k w.arm w.end w.after r is w.stands q
 
@@ -45,7 +47,7 @@ module _ (bs : List ℕ) (h : Header) (depth : ℕ) (close : Mark) (at : ℕ) (k
   close_room m q = (by_close bs h depth close at k w.arm w.end w.after r is w.stands m q).room
 
   -- operands, counts and room of a command that is no if
-  pub simple_known : (c : Simple) → r ≡ Command.Simple c → Sound bs h c × (too_many c k ≡ false) × (at + simple_size c ≤ length bs)
+  pub simple_known : (c : Simple Conversion Operation) → r ≡ Command.Simple c → Sound bs h c × (too_many c k ≡ false) × (at + simple_size c ≤ length bs)
   simple_known c q =
       let v = (by_simple bs h depth close at k w.arm w.end w.after r is w.stands c q).known in
       (v.sound, v.few, v.room)

@@ -9,25 +9,27 @@ use Rattle.routine.specs.Inner.Stands.{Stands}
 use Rattle.routine_header.specs.declared.Header.{Header}
 use Rattle.routine_command.specs.declared.Condition.{Condition}
 use Rattle.routine_faults.specs.declared.Counts.{Counts}
+use Rattle.routine_command.specs.declared.Conversion.{Conversion}
+use Rattle.routine_command.specs.declared.Operation.{Operation}
 use Rattle.routine_command.specs.declared.Simple.{Simple}
 use Rattle.routine_command.specs.declared.Command.{Command}
 use Rattle.routine.proofs.Views.{induction}
 use Rattle.routine_command.specs.declared.Mark.{Mark}
 
 -- from `at` to the end of the bytes stand the commands cs, and marks of ifs and arms among them
-pub data Text (bs : List ℕ) : ℕ → List Simple → Type 0 where
+pub data Text (bs : List ℕ) : ℕ → List (Simple Conversion Operation) → Type 0 where
   over : {at : ℕ} → at ≡ length bs → Text bs at []
-  closes : {at : ℕ} {cs : List Simple} (mark : Mark) → command_at bs at ≡ Command.Close mark → at + 1 ≤ length bs → Text bs (at + 1) cs → Text bs at cs
-  forks : {at : ℕ} {cs : List Simple} (c : Condition) → command_at bs at ≡ Command.If c → at + 4 ≤ length bs → Text bs (at + 4) cs → Text bs at cs
-  steps : {at : ℕ} {cs : List Simple} (c : Simple) → command_at bs at ≡ Command.Simple c → at + simple_size c ≤ length bs → Text bs (at + simple_size c) cs
+  closes : {at : ℕ} {cs : List (Simple Conversion Operation)} (mark : Mark) → command_at bs at ≡ Command.Close mark → at + 1 ≤ length bs → Text bs (at + 1) cs → Text bs at cs
+  forks : {at : ℕ} {cs : List (Simple Conversion Operation)} (c : Condition) → command_at bs at ≡ Command.If c → at + 4 ≤ length bs → Text bs (at + 4) cs → Text bs at cs
+  steps : {at : ℕ} {cs : List (Simple Conversion Operation)} (c : Simple Conversion Operation) → command_at bs at ≡ Command.Simple c → at + simple_size c ≤ length bs → Text bs (at + simple_size c) cs
       → Text bs at (c ∷ cs)
 
 -- an arm, and then what follows it
 pub text : (bs : List ℕ) (h : Header) (depth : ℕ) (close : Mark) (at : ℕ) (k : Counts) (a : Arm) (end : ℕ) (k₁ : Counts) → Stands bs h depth close at k a end k₁
-    → (cs : List Simple) → Text bs end cs → Text bs at (text_of a ++ cs)
+    → (cs : List (Simple Conversion Operation)) → Text bs end cs → Text bs at (text_of a ++ cs)
 unfolding text_of
 text bs h depth close at k a end k₁ s =
-    induction bs h (λ depth close at k a end k₁. (cs : List Simple) → Text bs end cs → Text bs at (text_of a ++ cs))
+    induction bs h (λ depth close at k a end k₁. (cs : List (Simple Conversion Operation)) → Text bs end cs → Text bs at (text_of a ++ cs))
     (λ depth close at k mark e l cs t. closes mark e l t)
     (λ depth close at k c rest end k₁ v go cs t. steps c v.command v.room (go cs t))
     (λ depth close at k c first second rest end k₁ v go₁ go₂ go₃ cs t.

@@ -13,6 +13,8 @@ use Rattle.routine.specs.Inner.Stands.{Stands}
 use Rattle.routine_faults.specs.Inner.Sound.{Sound, SoundIf}
 use Rattle.routine_header.specs.declared.Header.{Header}
 use Rattle.routine_faults.specs.declared.Counts.{Counts}
+use Rattle.routine_command.specs.declared.Conversion.{Conversion}
+use Rattle.routine_command.specs.declared.Operation.{Operation}
 use Rattle.routine_command.specs.declared.Simple.{Simple}
 use Rattle.routine_command.specs.declared.Condition.{Condition}
 use Rattle.routine_command.specs.declared.Command.{Command}
@@ -20,7 +22,7 @@ use Rattle.routine.proofs.Arms.{Of, PlainOf, ForkOf, of_step, Fits, fits, Ahead,
 use Rattle.routine_command.specs.declared.Mark.{Mark}
 
 -- what is known of a command that stands at `at`, and of the rest of its arm
-pub record PlainAt (bs : List ℕ) (h : Header) (depth : ℕ) (close : Mark) (at : ℕ) (k : Counts) (c : Simple) (rest : Arm) (end : ℕ) (k₁ : Counts) : Type 0 where
+pub record PlainAt (bs : List ℕ) (h : Header) (depth : ℕ) (close : Mark) (at : ℕ) (k : Counts) (c : Simple Conversion Operation) (rest : Arm) (end : ℕ) (k₁ : Counts) : Type 0 where
   pub command : command_at bs at ≡ Command.Simple c
   pub sound : Sound bs h c
   pub few : too_many c k ≡ false
@@ -45,7 +47,7 @@ pub record ForkAt (bs : List ℕ) (h : Header) (depth : ℕ) (close : Mark) (at 
 -- how an arm stands: by its first command
 pub data View (bs : List ℕ) (h : Header) (depth : ℕ) (close : Mark) (at : ℕ) (k : Counts) : Arm → ℕ → Counts → Type 0 where
   closes : (mark : Mark) → command_at bs at ≡ Command.Close mark → at + 1 ≤ length bs → View bs h depth close at k done (at + 1) k
-  steps : {c : Simple} {rest : Arm} {end : ℕ} {k₁ : Counts} → PlainAt bs h depth close at k c rest end k₁ → View bs h depth close at k (plain at c k rest) end k₁
+  steps : {c : Simple Conversion Operation} {rest : Arm} {end : ℕ} {k₁ : Counts} → PlainAt bs h depth close at k c rest end k₁ → View bs h depth close at k (plain at c k rest) end k₁
   forks : {c : Condition} {first second rest : Arm} {end : ℕ} {k₁ : Counts} → ForkAt bs h depth close at k c first second rest end k₁
       → View bs h depth close at k (if_else at c k first second rest) end k₁
 
@@ -55,7 +57,7 @@ module _ (bs : List ℕ) (h : Header) (depth : ℕ) (close : Mark) (at : ℕ) (k
   Viewed (refused fault place) = Unit {0}
   Viewed (parsed a end k₁) = View bs h depth close at k a end k₁
 
-  view_plain : (c : Simple) (k₂ : Counts) → PlainOf bs h k (command_at bs at) c k₂ → at + simple_size c ≤ length bs → (p : Parsed Arm)
+  view_plain : (c : Simple Conversion Operation) (k₂ : Counts) → PlainOf bs h k (command_at bs at) c k₂ → at + simple_size c ≤ length bs → (p : Parsed Arm)
       → arm bs h depth close (at + simple_size c) k₂ ≡ p → Viewed (read_on p (λ rest end k₃. parsed (plain at c k rest) end k₃))
   view_plain c k₂ o f (refused fault place) e = tt
   view_plain c k₂ o f (parsed rest end k₃) e =
@@ -120,7 +122,7 @@ module _ (bs : List ℕ) (h : Header) (depth : ℕ) (close : Mark) (at : ℕ) (k
 
 module _ (bs : List ℕ) (h : Header) (P : (depth : ℕ) (close : Mark) (at : ℕ) → Counts → Arm → ℕ → Counts → Type 0)
     (on-done : (depth : ℕ) (close : Mark) (at : ℕ) (k : Counts) (mark : Mark) → command_at bs at ≡ Command.Close mark → at + 1 ≤ length bs → P depth close at k done (at + 1) k)
-    (on-plain : (depth : ℕ) (close : Mark) (at : ℕ) (k : Counts) (c : Simple) (rest : Arm) (end : ℕ) (k₁ : Counts) → PlainAt bs h depth close at k c rest end k₁
+    (on-plain : (depth : ℕ) (close : Mark) (at : ℕ) (k : Counts) (c : Simple Conversion Operation) (rest : Arm) (end : ℕ) (k₁ : Counts) → PlainAt bs h depth close at k c rest end k₁
     → P depth close (at + simple_size c) (counts_after c k) rest end k₁ → P depth close at k (plain at c k rest) end k₁)
     (on_fork : (depth : ℕ) (close : Mark) (at : ℕ) (k : Counts) (c : Condition) (first second rest : Arm) (end : ℕ) (k₁ : Counts)
     → (f : ForkAt bs h depth close at k c first second rest end k₁)
@@ -148,7 +150,7 @@ pub record ByClose (bs : List ℕ) (at : ℕ) (k : Counts) (a : Arm) (end : ℕ)
   pub counts : k₁ ≡ k
   pub room : at + 1 ≤ length bs
 
-pub record BySimple (bs : List ℕ) (h : Header) (depth : ℕ) (close : Mark) (at : ℕ) (k : Counts) (c : Simple) (a : Arm) (end : ℕ) (k₁ : Counts) : Type 0 where
+pub record BySimple (bs : List ℕ) (h : Header) (depth : ℕ) (close : Mark) (at : ℕ) (k : Counts) (c : Simple Conversion Operation) (a : Arm) (end : ℕ) (k₁ : Counts) : Type 0 where
   pub rest : Arm
   pub arm : a ≡ plain at c k rest
   pub known : PlainAt bs h depth close at k c rest end k₁
@@ -171,12 +173,12 @@ module _ (bs : List ℕ) (h : Header) (depth : ℕ) (close : Mark) (at : ℕ) (k
   view_close a end k₁ m q (steps v) = let z : ◌≡◌ {A = ℕ} 0 1 = cc v.command in absurd (omega arith)
   view_close a end k₁ m q (forks v) = let z : ◌≡◌ {A = ℕ} 0 1 = cc v.command in absurd (omega arith)
 
-  view_simple : (a : Arm) (end : ℕ) (k₁ : Counts) (d : Simple) → command_at bs at ≡ Command.Simple d → View bs h depth close at k a end k₁
+  view_simple : (a : Arm) (end : ℕ) (k₁ : Counts) (d : Simple Conversion Operation) → command_at bs at ≡ Command.Simple d → View bs h depth close at k a end k₁
       → BySimple bs h depth close at k d a end k₁
   view_simple a end k₁ d q (closes mark e l) = let z : ◌≡◌ {A = ℕ} 0 1 = cc in absurd (omega arith)
   view_simple a end k₁ d q (steps {c = c} {rest = rest} {end = e₁} {k₁ = k₂} v) =
       let z : c ≡ d = cc v.command in
-      subst (λ (x : Simple). BySimple bs h depth close at k x (plain at c k rest) e₁ k₂) z (record { rest = rest; arm = refl; known = v })
+      subst (λ (x : Simple Conversion Operation). BySimple bs h depth close at k x (plain at c k rest) e₁ k₂) z (record { rest = rest; arm = refl; known = v })
   view_simple a end k₁ d q (forks v) = let z : ◌≡◌ {A = ℕ} 0 1 = cc v.command in absurd (omega arith)
 
   view_if : (a : Arm) (end : ℕ) (k₁ : Counts) (d : Condition) → command_at bs at ≡ Command.If d → View bs h depth close at k a end k₁
@@ -188,14 +190,14 @@ module _ (bs : List ℕ) (h : Header) (depth : ℕ) (close : Mark) (at : ℕ) (k
       subst (λ (w : Condition). ByIf bs h depth close at k w (if_else at c k first second rest) e₁ k₄) z
       (record { first = first; second = second; rest = rest; arm = refl; known = v })
 
-  module _ (a : Arm) (end : ℕ) (k₁ : Counts) (r : Command) (is : r ≡ command_at bs at) (s : Stands bs h depth close at k a end k₁) where
+  module _ (a : Arm) (end : ℕ) (k₁ : Counts) (r : Command Mark Conversion Operation) (is : r ≡ command_at bs at) (s : Stands bs h depth close at k a end k₁) where
     pub by_missing : r ≡ Command.Missing → ⊥
     by_missing q = view_missing a end k₁ (sym is ∙ q) (view bs h depth close at k a end k₁ s)
 
     pub by_close : (m : Mark) → r ≡ Command.Close m → ByClose bs at k a end k₁
     by_close m q = view_close a end k₁ m (sym is ∙ q) (view bs h depth close at k a end k₁ s)
 
-    pub by_simple : (d : Simple) → r ≡ Command.Simple d → BySimple bs h depth close at k d a end k₁
+    pub by_simple : (d : Simple Conversion Operation) → r ≡ Command.Simple d → BySimple bs h depth close at k d a end k₁
     by_simple d q = view_simple a end k₁ d (sym is ∙ q) (view bs h depth close at k a end k₁ s)
 
     pub by_if : (d : Condition) → r ≡ Command.If d → ByIf bs h depth close at k d a end k₁

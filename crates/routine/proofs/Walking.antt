@@ -10,6 +10,8 @@ use Rattle.routine.specs.Inner.Stands.{Stands}
 use Rattle.routine_header.specs.declared.Header.{Header}
 use Rattle.routine_command.specs.declared.Condition.{Condition}
 use Rattle.routine_faults.specs.declared.Counts.{Counts}
+use Rattle.routine_command.specs.declared.Conversion.{Conversion}
+use Rattle.routine_command.specs.declared.Operation.{Operation}
 use Rattle.routine_command.specs.declared.Simple.{Simple}
 use Rattle.routine_command.specs.declared.Command.{Command}
 use Rattle.routine.proofs.Views.{by_close, by_simple, by_if}
@@ -31,7 +33,7 @@ module _ (bs : List ℕ) (h : Header) (depth : ℕ) (close : Mark) {S R : Type 0
   pub begin : (from : ℕ) (s : S) → Going bs h depth close M K from s from s
   begin from s = record { goes = λ k a end k₁ t x. record { counts = k; tied = t; rest = a; stands = x; same = refl } }
 
-  module _ (from : ℕ) (s₀ : S) (at : ℕ) (s : S) (g : Going bs h depth close M K from s₀ at s) (r : Command) (is : r ≡ command_at bs at) where
+  module _ (from : ℕ) (s₀ : S) (at : ℕ) (s : S) (g : Going bs h depth close M K from s₀ at s) (r : Command Mark Conversion Operation) (is : r ≡ command_at bs at) where
     -- at the arm's end
     pub at_close : (m : Mark) → r ≡ Command.Close m → (k : Counts) (a : Arm) (end : ℕ) (k₁ : Counts) → K k s₀ → Stands bs h depth close from k a end k₁
         → (at + 1 ≡ end) × K k₁ s × (M done s ≡ M a s₀)
@@ -41,7 +43,7 @@ module _ (bs : List ℕ) (h : Header) (depth : ℕ) (close : Mark) {S R : Type 0
         (sym v.ends, rw v.counts l.tied, rw v.arm at l.same)
 
     -- at a command after which nothing of the rest matters
-    pub over-simple : (c : Simple) → r ≡ Command.Simple c → (x : R) → ((k : Counts) (rest : Arm) → K k s → x ≡ M (plain at c k rest) s)
+    pub over-simple : (c : Simple Conversion Operation) → r ≡ Command.Simple c → (x : R) → ((k : Counts) (rest : Arm) → K k s → x ≡ M (plain at c k rest) s)
         → (k : Counts) (a : Arm) (end : ℕ) (k₁ : Counts) → K k s₀ → Stands bs h depth close from k a end k₁ → x ≡ M a s₀
     over-simple c q x step k a end k₁ t y =
         let l = g.goes k a end k₁ t y in
@@ -49,7 +51,7 @@ module _ (bs : List ℕ) (h : Header) (depth : ℕ) (close : Mark) {S R : Type 0
         step l.counts v.rest l.tied ∙ rw v.arm at l.same
 
     -- after a command, with the state s₁
-    pub at_simple : (c : Simple) → r ≡ Command.Simple c → (s₁ : S)
+    pub at_simple : (c : Simple Conversion Operation) → r ≡ Command.Simple c → (s₁ : S)
         → ((k : Counts) (rest : Arm) → K k s → (K (counts_after c k) s₁) × (M rest s₁ ≡ M (plain at c k rest) s))
         → Going bs h depth close M K from s₀ (at + simple_size c) s₁
     at_simple c q s₁ step = record {

@@ -3,6 +3,8 @@ use Rattle.std.specs.Prelude.{ℕ, Option, Some, None, cond, eqb}
 use Rattle.routine_command.specs.Command.{touches}
 use Rattle.routine_faults.specs.Step.{accesses}
 use Rattle.routine.specs.Routine.{Arm, done, plain, if_else}
+use Rattle.routine_command.specs.declared.Conversion.{Conversion}
+use Rattle.routine_command.specs.declared.Operation.{Operation}
 use Rattle.routine_command.specs.declared.Simple.{Simple}
 use Rattle.routine_command.specs.declared.Touch.{Touch}
 use Rattle.routine_faults.specs.declared.Counts.{Counts}
@@ -15,7 +17,7 @@ access_by (Touch.Reads d array i) k = Some (record { counts = k; array = array; 
 access_by (Touch.Writes array i) k = Some (record { counts = k; array = array; i = i })
 
 -- the command after the counts k, if it is the access of number n
-unfoldable pub access_here : Simple → Counts → (n : ℕ) → Option Access
+unfoldable pub access_here : Simple Conversion Operation → Counts → (n : ℕ) → Option Access
 access_here c k n = cond (eqb (accesses k) n) (access_by (touches c) k) None
 
 -- the first that is found

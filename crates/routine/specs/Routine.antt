@@ -5,6 +5,8 @@ use Rattle.routine_faults.specs.Step.{Step, faulty, closing, simple_then, if_the
 use Rattle.routine_header.specs.declared.Header.{Header}
 use Rattle.routine_command.specs.declared.Condition.{Condition}
 use Rattle.routine_faults.specs.declared.Counts.{Counts}
+use Rattle.routine_command.specs.declared.Conversion.{Conversion}
+use Rattle.routine_command.specs.declared.Operation.{Operation}
 use Rattle.routine_command.specs.declared.Simple.{Simple}
 use Rattle.routine_faults.specs.declared.Fault.{Fault}
 use Rattle.routine_command.specs.declared.Mark.{Mark}
@@ -13,11 +15,11 @@ use Rattle.routine_command.specs.declared.Mark.{Mark}
 -- access by its `accesses`. An if has two arms, and the arm that it stands in goes on after it.
 pub data Arm : Type 0 where
   done : Arm
-  plain : (at : ℕ) → Simple → Counts → (rest : Arm) → Arm
+  plain : (at : ℕ) → Simple Conversion Operation → Counts → (rest : Arm) → Arm
   if_else : (at : ℕ) → Condition → Counts → (first second rest : Arm) → Arm
 
 -- The commands of an arm that are no part of an if, in text order.
-unfoldable pub text_of : Arm → List Simple
+unfoldable pub text_of : Arm → List (Simple Conversion Operation)
 text_of done = []
 text_of (plain at c k rest) = c ∷ text_of rest
 text_of (if_else at c k first second rest) = text_of first ++ (text_of second ++ text_of rest)

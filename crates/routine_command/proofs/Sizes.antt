@@ -6,17 +6,18 @@ use Rattle.std.specs.Prelude.{Option, Some, None}
 use Prim.Native.Nat.{ℕ, ◌+◌, ◌≤◌, ◌<◌, ◌-◌}
 use native.Mathlib.Omega.{arith}
 use lib.ListN.{length}
-use lib.Dec.{lit<, leb}
-use lib.Dec.{eqb}
+use lib.Dec.{lit<, leb, eqb}
 use borrow.Author.Tests.{le-leb, lt-leb, eqb-true, ne_eqb}
 use Rattle.slices.specs.Bytes.{entry, word}
 use Rattle.routine_command.specs.Command.{command_size, simple_size, size_by_op, opcode_of, opcode_size, command_with, command_from, command_by, command_of, command_at}
 use Rattle.routine_command.specs.declared.Conversion.{Conversion}
+use Rattle.routine_command.specs.declared.Operation.{Operation}
+use Rattle.routine_command.specs.declared.Mark.{Mark}
 use Rattle.routine_command.specs.declared.Opcode.{Opcode}
 use Rattle.routine_command.specs.declared.Simple.{Simple}
 use Rattle.routine_command.specs.declared.Command.{Command}
 
-pub simple-size : (c : Simple) → 0 < simple_size c
+pub simple-size : {C O : Type 0} → (c : Simple C O) → 0 < simple_size c
 simple-size (Simple.Set d k) = lit< tt
 simple-size (Simple.Convert op d s) = lit< tt
 simple-size (Simple.Compute op d s t) = lit< tt
@@ -24,14 +25,14 @@ simple-size (Simple.Read d a i) = lit< tt
 simple-size (Simple.Write a i s) = lit< tt
 
 -- a command takes at least a byte
-pub size-pos : (c : Command) → 0 < command_size c
+pub size-pos : {M C O : Type 0} → (c : Command M C O) → 0 < command_size c
 size-pos Command.Missing = lit< tt
 size-pos (Command.Close m) = lit< tt
 size-pos (Command.If c) = lit< tt
 size-pos (Command.Simple c) = simple-size c
 
 -- it is whole
-pub whole : (bs : List ℕ) (at : ℕ) (r : Command) → r ≡ command_of bs at → command_size r ≤ length bs - at → r ≡ command_at bs at
+pub whole : (bs : List ℕ) (at : ℕ) (r : Command Mark Conversion Operation) → r ≡ command_of bs at → command_size r ≤ length bs - at → r ≡ command_at bs at
 unfolding command_at
 whole bs at r e h = rw (← e) (simp (le-leb _ _ h))
 
@@ -86,11 +87,6 @@ unknown_byte op a b c k l =
       ne_eqb op 14 (omega arith),
       ne_eqb op 15 (omega arith),
     )
-
--- a kind has its size
-pub size_kind : (op : ℕ) (o : Opcode) → opcode_of op ≡ Some o → size_by_op op ≡ opcode_size o
-unfolding command_by
-size_kind op o e = rw e (size_with o 0 0 0 0)
 
 by_test : {A : Type 0} (P : A → Type 0) (t : Bool) (x y : A) → (t ≡ true → P x) → P y → P (cond t x y)
 by_test P true x y p q = p refl
@@ -164,11 +160,11 @@ module _ (op : ℕ) where
 module _ (bs : List ℕ) (at : ℕ) where
   pub unknown : opcode_of (entry bs at) ≡ None → Command.Missing ≡ command_at bs at
   unfolding command_at command_by
-  unknown e = rw e (go (leb 1 (length bs - at)))
+  unknown e = rw e (go Command.Missing (leb 1 (length bs - at)))
     where
-      go : (b : Bool) → Command.Missing ≡ cond b Command.Missing Command.Missing
-      go true = refl
-      go false = refl
+      go : (r : Command Mark Conversion Operation) (b : Bool) → r ≡ cond b r r
+      go r true = refl
+      go r false = refl
 
   module _ (o : Opcode) (e : opcode_of (entry bs at) ≡ Some o) where
     pub size_there : command_size (command_of bs at) ≡ opcode_size o
@@ -180,7 +176,7 @@ module _ (bs : List ℕ) (at : ℕ) where
     there l = whole bs at _ (rw e) (omega (arith, size_with o (entry bs (at + 1)) (entry bs (at + 2)) (entry bs (at + 3)) (word bs (at + 2))))
 
 -- a command that is there is the one whose byte stands there
-pub not_cut : (bs : List ℕ) (at : ℕ) (r : Command) → command_at bs at ≡ r → (r ≡ Command.Missing → ⊥) → command_of bs at ≡ r
+pub not_cut : (bs : List ℕ) (at : ℕ) (r : Command Mark Conversion Operation) → command_at bs at ≡ r → (r ≡ Command.Missing → ⊥) → command_of bs at ≡ r
 unfolding command_at
 not_cut bs at r e f = go (leb (command_size (command_of bs at)) (length bs - at)) e
   where

@@ -6,7 +6,7 @@ ghost use Rattle.routine_command.specs.Command.{opcode_of, opcode_size, command_
 use crate::{Command, Condition, Conversion, Mark, Opcode, Operation, Simple, Touch};
 use slices::whole_word_at;
 
-pub fn simple_size(c: Simple) -> usize
+pub fn simple_size<C: Copy, O: Copy>(c: Simple<C, O>) -> usize
     ensures { result ≡ simple_size c }
 {
     match c {
@@ -18,7 +18,7 @@ pub fn simple_size(c: Simple) -> usize
     }
 }
 
-pub fn touched(c: Simple) -> Touch
+pub fn touched<C: Copy, O: Copy>(c: Simple<C, O>) -> Touch
     ensures { result ≡ touches c }
 {
     match c {
@@ -31,7 +31,7 @@ pub fn touched(c: Simple) -> Touch
 }
 
 #[tactic(auto, unfolding(crate::specs::Command::touches_of))]
-pub fn touch_of(command: Command) -> Touch
+pub fn touch_of<M: Copy, C: Copy, O: Copy>(command: Command<M, C, O>) -> Touch
     ensures { result ≡ touches_of command }
 {
     match command {

@@ -50,12 +50,13 @@ pub struct Condition {
     pub t: u8,
 }
 
-// A command that is no part of an if: its operands as they stand in the bytes.
+// A command that is no part of an if: its operands as they stand in the bytes. A routine's has a conversion or an operation; what looks at neither takes a command
+// with anything in their place, such as the byte.
 #[derive(Clone, Copy)]
-pub enum Simple {
+pub enum Simple<C = Conversion, O = Operation> {
     Set { d: u8, c: u32 },
-    Convert { op: Conversion, d: u8, s: u8 },
-    Compute { op: Operation, d: u8, s: u8, t: u8 },
+    Convert { op: C, d: u8, s: u8 },
+    Compute { op: O, d: u8, s: u8, t: u8 },
     Read { d: u8, array: u8, i: u8 },
     Write { array: u8, i: u8, s: u8 },
 }
@@ -68,12 +69,12 @@ pub enum Touch {
     Writes { array: u8, i: u8 },
 }
 
-// What stands at an offset.
+// What stands at an offset, with a mark, or what is taken for one, in the same way.
 #[derive(Clone, Copy)]
-pub enum Command {
+pub enum Command<M = Mark, C = Conversion, O = Operation> {
     // unknown or cut short, or no command there
     Missing,
-    Close(Mark),
+    Close(M),
     If(Condition),
-    Simple(Simple),
+    Simple(Simple<C, O>),
 }

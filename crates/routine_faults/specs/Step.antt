@@ -8,13 +8,14 @@ use Rattle.routine_command.specs.declared.Conversion.{Conversion}
 use Rattle.routine_command.specs.declared.Mark.{Mark}
 use Rattle.routine_command.specs.declared.Condition.{Condition}
 use Rattle.routine_faults.specs.declared.Counts.{Counts}
+use Rattle.routine_command.specs.declared.Operation.{Operation}
 use Rattle.routine_command.specs.declared.Simple.{Simple}
 use Rattle.routine_command.specs.declared.Touch.{Touch}
 use Rattle.routine_command.specs.declared.Command.{Command}
 use Rattle.routine_faults.specs.declared.Fault.{Fault}
 
 -- the operands and the constant are in range
-unfoldable pub in_range : List ℕ → Header → Simple → Bool
+unfoldable pub in_range : List ℕ → Header → Simple Conversion Operation → Bool
 in_range bs h (Simple.Set d c) = ltb d h.variables && ltb c (2 ^ width bs d)
 in_range bs h (Simple.Convert op d s) = ltb d h.variables && ltb s h.variables
 in_range bs h (Simple.Compute op d s t) = ltb d h.variables && ltb s h.variables && ltb t h.variables
@@ -29,7 +30,7 @@ converts Conversion.ZeroExtend d s = ltb s d
 converts Conversion.SignExtend d s = ltb s d
 
 -- the widths are as the command asks
-unfoldable pub widths_fit : List ℕ → Simple → Bool
+unfoldable pub widths_fit : List ℕ → Simple Conversion Operation → Bool
 widths_fit bs (Simple.Set d c) = true
 widths_fit bs (Simple.Convert op d s) = converts op (width bs d) (width bs s)
 widths_fit bs (Simple.Compute op d s t) = eqb (width bs d) (width bs s) && eqb (width bs d) (width bs t)
@@ -51,11 +52,11 @@ is_access_by (Touch.Reads d array i) = true
 is_access_by (Touch.Writes array i) = true
 
 -- the command is an access
-abbrev pub is_access : Simple → Bool
+abbrev pub is_access : Simple Conversion Operation → Bool
 is_access c = is_access_by (touches c)
 
 -- the 65th access
-unfoldable pub too_many : Simple → Counts → Bool
+unfoldable pub too_many : Simple Conversion Operation → Counts → Bool
 too_many c k = is_access c && leb 64 (accesses k)
 
 -- the counts after a read or a write
@@ -65,18 +66,18 @@ counts_after_by (Touch.Reads d array i) k = record { ifs = k.ifs; reads = k.read
 counts_after_by (Touch.Writes array i) k = record { ifs = k.ifs; reads = k.reads; writes = k.writes + 1 }
 
 -- the counts after a command
-abbrev pub counts_after : Simple → Counts → Counts
+abbrev pub counts_after : Simple Conversion Operation → Counts → Counts
 counts_after c k = counts_after_by (touches c) k
 
 -- what a command is where it stands: it has a fault, it ends its arm, or it is one that is no part of an if, or an if, with the counts after it
 pub data Step : Type 0 where
   faulty : Fault → Step
   closing : Step
-  simple_then : Simple → Counts → Step
+  simple_then : Simple Conversion Operation → Counts → Step
   if_then : Condition → Counts → Step
 
 -- a command that is no part of an if, after the counts k
-unfoldable pub simple_step : List ℕ → Header → Simple → Counts → Step
+unfoldable pub simple_step : List ℕ → Header → Simple Conversion Operation → Counts → Step
 unfolding unless
 simple_step bs h c k =
     unless (in_range bs h c) (faulty Fault.Operand)
@@ -110,7 +111,7 @@ same_mark Mark.EndIf Mark.EndIf = true
 same_mark mark close = false
 
 -- the command inside `depth` ifs, in an arm that the mark `close` ends, after the counts k
-unfoldable pub step_of : List ℕ → Header → (depth : ℕ) → (close : Mark) → Command → Counts → Step
+unfoldable pub step_of : List ℕ → Header → (depth : ℕ) → (close : Mark) → Command Mark Conversion Operation → Counts → Step
 unfolding unless
 step_of bs h depth close Command.Missing k = faulty Fault.Unknown
 step_of bs h depth close (Command.Close mark) k = unless (same_mark mark close) (faulty Fault.Misplaced) closing

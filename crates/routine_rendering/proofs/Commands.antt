@@ -32,13 +32,13 @@ command_from bs at ys is =
     (ap (λ (n : ℕ). cond (leb (command_size (command_of ys 0)) n) (command_of ys 0) Command.Missing) e)
 
 -- a whole command at the start of the bytes
-whole_here : (ys : List ℕ) (c : Command) → command_of ys 0 ≡ c → command_size c ≤ length ys → command_at ys 0 ≡ c
+whole_here : (ys : List ℕ) (c : Command Mark Conversion Operation) → command_of ys 0 ≡ c → command_size c ≤ length ys → command_at ys 0 ≡ c
 whole_here ys c e l = let m : command_size c ≤ length ys - 0 = omega arith in sym (whole ys 0 c (sym e) m)
 
 -- ---- from the bytes to the command
 
 -- what the bytes can hold: a constant of four bytes
-abbrev pub Kind : Simple → Type 0
+abbrev pub Kind : Simple Conversion Operation → Type 0
 Kind (Simple.Set d c) = c < 4294967296
 Kind (Simple.Convert op d s) = Unit {0}
 Kind (Simple.Compute op d s t) = Unit {0}
@@ -73,7 +73,7 @@ by_close Mark.Else a b c k = refl
 by_close Mark.EndIf a b c k = refl
 
 -- a command stands where its bytes do
-simple-bytes : (c : Simple) (tail : List ℕ) → Kind c → command_at (simple_bytes c ++ tail) 0 ≡ Command.Simple c
+simple-bytes : (c : Simple Conversion Operation) (tail : List ℕ) → Kind c → command_at (simple_bytes c ++ tail) 0 ≡ Command.Simple c
 unfolding simple_bytes command_by opcode_of word_bytes word
 simple-bytes (Simple.Set d c) tail l =
     whole_here (simple_bytes (Simple.Set d c) ++ tail) (Command.Simple (Simple.Set d c)) (ap (λ (x : ℕ). Command.Simple (Simple.Set d x)) (word_value c l)) (omega arith)
@@ -83,7 +83,7 @@ simple-bytes (Simple.Read d array i) tail l = whole_here (0x09 ∷ d ∷ array �
 simple-bytes (Simple.Write array i s) tail l = whole_here (0x0A ∷ array ∷ i ∷ s ∷ tail) (Command.Simple (Simple.Write array i s)) refl (omega arith)
 
 module _ (bs : List ℕ) (at : ℕ) (tail : List ℕ) where
-  pub simple_here : (c : Simple) → Kind c → drop at bs ≡ simple_bytes c ++ tail → command_at bs at ≡ Command.Simple c
+  pub simple_here : (c : Simple Conversion Operation) → Kind c → drop at bs ≡ simple_bytes c ++ tail → command_at bs at ≡ Command.Simple c
   simple_here c l e = command_from bs at (simple_bytes c ++ tail) e ∙ simple-bytes c tail l
 
   pub if_here : (c : Condition) → drop at bs ≡ 0x0B ∷ c.relation ∷ c.s ∷ c.t ∷ tail → command_at bs at ≡ Command.If c
@@ -137,14 +137,14 @@ module _ (op : ℕ) where
 
 module _ (op a b c k : ℕ) where
   -- what a command says of its byte and its operands
-  abbrev Held : Simple → Type 0
+  abbrev Held : Simple Conversion Operation → Type 0
   Held (Simple.Set d x) = (op ≡ 0x01) × (d ≡ a) × (x ≡ k)
   Held (Simple.Convert o d s) = (op ≡ conversion_byte o) × (d ≡ a) × (s ≡ b)
   Held (Simple.Compute o d s t) = (op ≡ operation_byte o) × (d ≡ a) × (s ≡ b) × (t ≡ c)
   Held (Simple.Read d array i) = (op ≡ 0x09) × (d ≡ a) × (array ≡ b) × (i ≡ c)
   Held (Simple.Write array i s) = (op ≡ 0x0A) × (array ≡ a) × (i ≡ b) × (s ≡ c)
 
-  abbrev Holds : Command → Type 0
+  abbrev Holds : Command Mark Conversion Operation → Type 0
   Holds Command.Missing = Unit {0}
   Holds (Command.Close mark) = op ≡ mark_byte mark
   Holds (Command.If d) = (op ≡ 0x0B) × (d.relation ≡ a) × (d.s ≡ b) × (d.t ≡ c)
@@ -165,7 +165,7 @@ module _ (op a b c k : ℕ) where
   holds = holds_with (opcode_of op) (stands op)
 
 module _ (bs : List ℕ) (at : ℕ) where
-  abbrev HoldsAt : Command → Type 0
+  abbrev HoldsAt : Command Mark Conversion Operation → Type 0
   HoldsAt = Holds (entry bs at) (entry bs (at + 1)) (entry bs (at + 2)) (entry bs (at + 3)) (word bs (at + 2))
 
   holds_at : HoldsAt (command_at bs at)
@@ -202,7 +202,7 @@ module _ (bs : List ℕ) (at : ℕ) where
         rw (e₁, e₂, e₃) (omega arith),
       )
 
-  stood : AreBytes bs → (c : Simple) → at + simple_size c ≤ length bs → HoldsAt (Command.Simple c)
+  stood : AreBytes bs → (c : Simple Conversion Operation) → at + simple_size c ≤ length bs → HoldsAt (Command.Simple c)
       → (drop at bs ≡ simple_bytes c ++ drop (at + simple_size c) bs) × Kind c
   unfolding simple_bytes
   stood f (Simple.Set d x) l h =
@@ -214,6 +214,6 @@ module _ (bs : List ℕ) (at : ℕ) where
   stood f (Simple.Read d array i) l h = (rw (h.1, h.2, h.3, ← h.0) (front₄ l), tt)
   stood f (Simple.Write array i s) l h = (rw (h.1, h.2, h.3, ← h.0) (front₄ l), tt)
 
-  pub simple-there : AreBytes bs → (c : Simple) → command_at bs at ≡ Command.Simple c → at + simple_size c ≤ length bs
+  pub simple-there : AreBytes bs → (c : Simple Conversion Operation) → command_at bs at ≡ Command.Simple c → at + simple_size c ≤ length bs
       → (drop at bs ≡ simple_bytes c ++ drop (at + simple_size c) bs) × Kind c
   simple-there f c e l = stood f c l (subst HoldsAt e holds_at)

@@ -51,7 +51,7 @@ computes Operation.Quotient = inr (record { low = omega arith; high = omega arit
 computes Operation.Remainder = inr (record { low = omega arith; high = omega arith })
 
 -- the constant of a good command has four bytes
-pub good_kind : (p : Syntax) → ((v : ℕ) → Variable p v → width_of p v ≤ 32) → (c : Simple) → Good p c → Kind c
+pub good_kind : (p : Syntax) → ((v : ℕ) → Variable p v → width_of p v ≤ 32) → (c : Simple Conversion Operation) → Good p c → Kind c
 good_kind p f (Simple.Set d c) g = lt_of_lt_of_le g.1 (pow_mono (f d g.0))
 good_kind p f (Simple.Convert op d s) g = tt
 good_kind p f (Simple.Compute op d s t) g = tt
@@ -69,7 +69,7 @@ module _ (bs : List ℕ) (h : Header) (p : Syntax) (same : Same bs h p) where
   width_is v l = same.widths v (variable v l)
 
   -- a command whose operands passed is good
-  pub good : (c : Simple) → Sound bs h c → Good p c
+  pub good : (c : Simple Conversion Operation) → Sound bs h c → Good p c
   unfolding widths_fit
   good (Simple.Set d c) s =
       let f = set_fine bs h d c s in
@@ -98,7 +98,7 @@ module _ (bs : List ℕ) (h : Header) (p : Syntax) (same : Same bs h p) where
   same_width v w l m e = eq-eqb _ _ (same.widths v l ∙ e ∙ sym (same.widths w m))
 
   -- a good command's operands pass
-  pub sound : (c : Simple) → Good p c → Sound bs h c
+  pub sound : (c : Simple Conversion Operation) → Good p c → Sound bs h c
   unfolding in_range widths_fit
   sound (Simple.Set d c) g = record { ranges = simp (below d g.0, same.widths d g.0, lt-ltb c (2 ^ width_of p d) g.1); widths = refl }
   sound (Simple.Convert op d s) g = record {

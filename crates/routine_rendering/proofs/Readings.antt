@@ -19,6 +19,8 @@ use Rattle.routine_rendering.specs.WellFormed.{Variable, width_of, AllGood, dept
 use Rattle.routine_rendering.specs.Exactly.{plus, numbered}
 use Rattle.routine_header.specs.declared.Header.{Header}
 use Rattle.routine_faults.specs.declared.Counts.{Counts}
+use Rattle.routine_command.specs.declared.Conversion.{Conversion}
+use Rattle.routine_command.specs.declared.Operation.{Operation}
 use Rattle.routine_command.specs.declared.Simple.{Simple}
 use Rattle.routine_command.specs.declared.Condition.{Condition}
 use Rattle.routine_command.specs.declared.Command.{Command}
@@ -32,7 +34,7 @@ use Rattle.routine_rendering.proofs.Written.{counts-after}
 use Rattle.routine_command.specs.declared.Mark.{Mark}
 
 -- what follows the bytes of a command
-after-simple : (c : Simple) (tail : List ℕ) → drop (simple_size c) (simple_bytes c ++ tail) ≡ tail
+after-simple : (c : Simple Conversion Operation) (tail : List ℕ) → drop (simple_size c) (simple_bytes c ++ tail) ≡ tail
 unfolding simple_bytes word_bytes
 after-simple (Simple.Set d x) tail = refl
 after-simple (Simple.Convert op d s) tail = refl
@@ -41,7 +43,7 @@ after-simple (Simple.Read d a i) tail = refl
 after-simple (Simple.Write a i s) tail = refl
 
 -- it is not the 65th access
-not_many : (c : Simple) (k : Counts) → accesses k + (one_read c + one_write c) ≤ 64 → too_many c k ≡ false
+not_many : (c : Simple Conversion Operation) (k : Counts) → accesses k + (one_read c + one_write c) ≤ 64 → too_many c k ≡ false
 unfolding too_many
 not_many (Simple.Set d x) k l = refl
 not_many (Simple.Convert op d s) k l = refl
@@ -54,7 +56,7 @@ module _ (bs : List ℕ) (h : Header) (n : ℕ) (close : Mark) (at : ℕ) (k : C
   unfolding step_of
   step_close e = simp (e, mark_same close close refl)
 
-  step-simple : (c : Simple) → command_at bs at ≡ Command.Simple c → Sound bs h c → too_many c k ≡ false → step_at bs h n close at k ≡ simple_then c (counts_after c k)
+  step-simple : (c : Simple Conversion Operation) → command_at bs at ≡ Command.Simple c → Sound bs h c → too_many c k ≡ false → step_at bs h n close at k ≡ simple_then c (counts_after c k)
   unfolding step_of simple_step
   step-simple c e s m = simp (e, s.ranges, s.widths, m)
 
@@ -66,7 +68,7 @@ module _ (bs : List ℕ) (h : Header) (n : ℕ) (close : Mark) (at : ℕ) (k : C
   pub stands-done : command_at bs at ≡ Command.Close close → Stands bs h n close at k done (at + 1) k
   stands-done e = record { reads = unroll bs h n close at k ∙ ap (arm_step (arm bs h) n close at k) (step_close e) }
 
-  pub stands_plain : (c : Simple) → command_at bs at ≡ Command.Simple c → Sound bs h c → too_many c k ≡ false → (rest : Arm) (end : ℕ) (k₁ : Counts)
+  pub stands_plain : (c : Simple Conversion Operation) → command_at bs at ≡ Command.Simple c → Sound bs h c → too_many c k ≡ false → (rest : Arm) (end : ℕ) (k₁ : Counts)
       → Stands bs h n close (at + simple_size c) (counts_after c k) rest end k₁ → Stands bs h n close at k (plain at c k rest) end k₁
   stands_plain c e s m rest end k₁ r = record {
     reads = unroll bs h n close at k ∙ ap (arm_step (arm bs h) n close at k) (step-simple c e s m) ∙ rw r.reads;
@@ -104,7 +106,7 @@ past bs at xs mark tail e =
 same-counts : {k k₁ : Counts} → k.ifs ≡ k₁.ifs → k.reads ≡ k₁.reads → k.writes ≡ k₁.writes → k ≡ k₁
 same-counts a b c = λ i. record { ifs = a i; reads = b i; writes = c i }
 
-simple-length : (c : Simple) → length (simple_bytes c) ≡ simple_size c
+simple-length : (c : Simple Conversion Operation) → length (simple_bytes c) ≡ simple_size c
 unfolding simple_bytes word_bytes
 simple-length (Simple.Set d x) = refl
 simple-length (Simple.Convert op d s) = refl
@@ -117,11 +119,11 @@ module _ (k : Counts) where
   unfolding ifs reads writes
   plus_none = same-counts (omega arith) (omega arith) (omega arith)
 
-  plus_one : (c : Simple) → plus k (simple c no_more) ≡ counts_after c k
+  plus_one : (c : Simple Conversion Operation) → plus k (simple c no_more) ≡ counts_after c k
   unfolding ifs reads writes
   plus_one c = let e = counts-after c k in let s = same-ifs c k in same-counts (omega arith) (omega arith) (omega arith)
 
-  plus-simple : (c : Simple) (rest : Text) → plus (plus k (simple c no_more)) rest ≡ plus k (simple c rest)
+  plus-simple : (c : Simple Conversion Operation) (rest : Text) → plus (plus k (simple c no_more)) rest ≡ plus k (simple c rest)
   unfolding ifs reads writes
   plus-simple c rest = same-counts (omega arith) (omega arith) (omega arith)
 
@@ -169,7 +171,7 @@ module _ (bs : List ℕ) (h : Header) (p : Syntax) (same : Same bs h p) (narrow 
   reads_none n close at k tail e g d i a =
       up_to bs h n close done (omega arith) (plus_none k) (stands-done bs h n close at k (close_here bs at tail close e))
 
-  reads-simple : (c : Simple) (rest : Text) → Reads rest → Reads (simple c rest)
+  reads-simple : (c : Simple Conversion Operation) (rest : Text) → Reads rest → Reads (simple c rest)
   unfolding numbered text_bytes depth ifs reads writes
   reads-simple c rest go n close at k tail e g d i a =
       let b : drop at bs ≡ simple_bytes c ++ (text_bytes rest ++ (mark_byte close ∷ tail)) = rw append_assoc at e in

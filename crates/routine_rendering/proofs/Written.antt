@@ -15,6 +15,8 @@ use Rattle.routine_rendering.specs.WellFormed.{AllGood, depth, ifs, one_read, on
 use Rattle.routine_rendering.specs.Exactly.{AreBytes}
 use Rattle.routine_header.specs.declared.Header.{Header}
 use Rattle.routine_faults.specs.declared.Counts.{Counts}
+use Rattle.routine_command.specs.declared.Conversion.{Conversion}
+use Rattle.routine_command.specs.declared.Operation.{Operation}
 use Rattle.routine_command.specs.declared.Simple.{Simple}
 use Rattle.routine_command.specs.declared.Condition.{Condition}
 use Rattle.routine_command.specs.declared.Command.{Command}
@@ -34,7 +36,7 @@ text (plain at c k rest) = simple c (text rest)
 text (if_else at c k first second rest) = if_text c (text first) (text second) (text rest)
 
 -- a command adds to the counts
-pub counts-after : (c : Simple) (k : Counts) → ((counts_after c k).reads ≡ k.reads + one_read c) × ((counts_after c k).writes ≡ k.writes + one_write c)
+pub counts-after : (c : Simple Conversion Operation) (k : Counts) → ((counts_after c k).reads ≡ k.reads + one_read c) × ((counts_after c k).writes ≡ k.writes + one_write c)
 counts-after (Simple.Set d x) k = (omega arith, omega arith)
 counts-after (Simple.Convert op d s) k = (omega arith, omega arith)
 counts-after (Simple.Compute op d s t) k = (omega arith, omega arith)
@@ -76,7 +78,7 @@ module _ (bs : List ℕ) (f : AreBytes bs) (h : Header) (p : Syntax) (same : Sam
     accessed = omega arith;
   }
 
-  on-plain : (n : ℕ) (close : Mark) (at : ℕ) (k : Counts) (c : Simple) (rest : Arm) (end : ℕ) (k₁ : Counts) → PlainAt bs h n close at k c rest end k₁
+  on-plain : (n : ℕ) (close : Mark) (at : ℕ) (k : Counts) (c : Simple Conversion Operation) (rest : Arm) (end : ℕ) (k₁ : Counts) → PlainAt bs h n close at k c rest end k₁
       → Says n close (at + simple_size c) (counts_after c k) rest end k₁ → Says n close at k (plain at c k rest) end k₁
   unfolding text text_bytes depth ifs reads writes
   on-plain n close at k c rest end k₁ v go d s =

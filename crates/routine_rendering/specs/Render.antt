@@ -22,7 +22,7 @@ operation_byte Operation.Quotient = 0x0E
 operation_byte Operation.Remainder = 0x0F
 
 -- a command that is no if: its byte and its operands
-unfoldable pub simple_bytes : Simple → List ℕ
+unfoldable pub simple_bytes : Simple Conversion Operation → List ℕ
 simple_bytes (Simple.Set d c) = 0x01 ∷ d ∷ word_bytes c
 simple_bytes (Simple.Convert op d s) = conversion_byte op ∷ d ∷ s ∷ []
 simple_bytes (Simple.Compute op d s t) = operation_byte op ∷ d ∷ s ∷ t ∷ []

@@ -42,7 +42,7 @@ abbrev pub Computes : Operation → Type 0
 Computes op = Between 0x03 0x05 (operation_byte op) ⊎ Between 0x0E 0x0F (operation_byte op)
 
 -- a command that is no if: its operands are variables and arrays that there are, and its widths as it asks
-abbrev pub Good : Syntax → Simple → Type 0
+abbrev pub Good : Syntax → Simple Conversion Operation → Type 0
 Good p (Simple.Set d c) = Variable p d × (c < 2 ^ width_of p d)
 Good p (Simple.Convert op d s) = Variable p d × Variable p s × Converts op (width_of p d) (width_of p s)
 Good p (Simple.Compute op d s t) =
@@ -85,11 +85,11 @@ one_write_by (Touch.Reads d array i) = 0
 one_write_by (Touch.Writes array i) = 1
 
 -- how many reads a command is
-abbrev pub one_read : Simple → ℕ
+abbrev pub one_read : Simple Conversion Operation → ℕ
 one_read c = one_read_by (touches c)
 
 -- how many writes a command is
-abbrev pub one_write : Simple → ℕ
+abbrev pub one_write : Simple Conversion Operation → ℕ
 one_write c = one_write_by (touches c)
 
 -- how many reads there are

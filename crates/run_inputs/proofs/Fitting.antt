@@ -21,6 +21,8 @@ use Rattle.routine.specs.Inner.Stands.{Stands}
 use Rattle.routine_header.specs.declared.Header.{Header}
 use Rattle.routine_faults.specs.declared.Counts.{Counts}
 use Rattle.routine_command.specs.Command.{touches}
+use Rattle.routine_command.specs.declared.Conversion.{Conversion}
+use Rattle.routine_command.specs.declared.Operation.{Operation}
 use Rattle.routine_command.specs.declared.Simple.{Simple}
 use Rattle.routine.proofs.Decoded.{decoded}
 use Rattle.routine.proofs.Views.{induction}
@@ -29,7 +31,7 @@ use Rattle.run_inputs.specs.declared.TooGreat.{TooGreat}
 use Rattle.run_inputs.specs.declared.Refusal.{Refusal}
 
 -- the words of a text's reads, and then those of another's
-pub reads_append : (xs ys : List Simple) → read_variables (xs ++ ys) ≡ read_variables xs ++ read_variables ys
+pub reads_append : (xs ys : List (Simple Conversion Operation)) → read_variables (xs ++ ys) ≡ read_variables xs ++ read_variables ys
 unfolding read_variables
 reads_append [] ys = refl
 reads_append (Simple.Set d c ∷ xs) ys = reads_append xs ys
@@ -73,7 +75,7 @@ module _ (bs ins : List ℕ) where
 
   module _ (h : Header) where
     -- the word of a read fits its variable
-    abbrev pub FitSimple : Simple → Counts → Type 0
+    abbrev pub FitSimple : Simple Conversion Operation → Counts → Type 0
     FitSimple (Simple.Set d c) k = Unit {0}
     FitSimple (Simple.Convert op d s) k = Unit {0}
     FitSimple (Simple.Compute op d s t) k = Unit {0}
@@ -90,7 +92,7 @@ module _ (bs ins : List ℕ) where
     abbrev Good : Counts → List ℕ → Type 0
     Good k vs = first_great bs ins (input_number h k) vs ≡ Ok tt
 
-    simple_fit : (c : Simple) (k : Counts) (vs : List ℕ) → Good k (read_first (touches c) vs) → FitSimple c k × Good (counts_after c k) vs
+    simple_fit : (c : Simple Conversion Operation) (k : Counts) (vs : List ℕ) → Good k (read_first (touches c) vs) → FitSimple c k × Good (counts_after c k) vs
     simple_fit (Simple.Set d c) k vs e = (tt, e)
     simple_fit (Simple.Convert op d s) k vs e = (tt, e)
     simple_fit (Simple.Compute op d s t) k vs e = (tt, e)
@@ -99,7 +101,7 @@ module _ (bs ins : List ℕ) where
         (p.0, subst (λ (m : ℕ). first_great bs ins m vs ≡ Ok tt) (add_assoc (given h) k.reads 1) p.1)
     simple_fit (Simple.Write array i s) k vs e = (tt, e)
 
-    before_append : (c : Simple) (xs ys : List ℕ) → read_first (touches c) xs ++ ys ≡ read_first (touches c) (xs ++ ys)
+    before_append : (c : Simple Conversion Operation) (xs ys : List ℕ) → read_first (touches c) xs ++ ys ≡ read_first (touches c) (xs ++ ys)
     before_append (Simple.Set d c) xs ys = refl
     before_append (Simple.Convert op d s) xs ys = refl
     before_append (Simple.Compute op d s t) xs ys = refl

@@ -19,6 +19,8 @@ use Rattle.routine.specs.Inner.Stands.{Stands}
 use Rattle.routine.specs.Inner.Known.{IsRoutineWith}
 use Rattle.routine_header.specs.declared.Header.{Header}
 use Rattle.routine_faults.specs.declared.Counts.{Counts}
+use Rattle.routine_command.specs.declared.Conversion.{Conversion}
+use Rattle.routine_command.specs.declared.Operation.{Operation}
 use Rattle.routine_command.specs.declared.Opcode.{Opcode}
 use Rattle.routine_command.specs.declared.Simple.{Simple}
 use Rattle.routine_command.specs.declared.Command.{Command}
@@ -32,14 +34,14 @@ use Rattle.run_inputs.proofs.Fitting.{reads_append}
 
 -- ---- a routine has as many reads as its counts say
 
-read_count : (c : Simple) (k : Counts) (vs : List ℕ) → (counts_after c k).reads + length vs ≡ k.reads + length (read_first (touches c) vs)
+read_count : (c : Simple Conversion Operation) (k : Counts) (vs : List ℕ) → (counts_after c k).reads + length vs ≡ k.reads + length (read_first (touches c) vs)
 read_count (Simple.Set d x) k vs = refl
 read_count (Simple.Convert op d s) k vs = refl
 read_count (Simple.Compute op d s t) k vs = refl
 read_count (Simple.Read d a i) k vs = omega arith
 read_count (Simple.Write a i s) k vs = refl
 
-reads-length : (cs ds : List Simple) → length (read_variables (cs ++ ds)) ≡ length (read_variables cs) + length (read_variables ds)
+reads-length : (cs ds : List (Simple Conversion Operation)) → length (read_variables (cs ++ ds)) ≡ length (read_variables cs) + length (read_variables ds)
 reads-length cs ds = ap length (reads_append cs ds) ∙ length-append (read_variables cs) (read_variables ds)
 
 reads-after : (bs : List ℕ) (h : Header) (a : Arm) (depth : ℕ) (close : Mark) (at : ℕ) (k : Counts) (end : ℕ) (k₁ : Counts) → Stands bs h depth close at k a end k₁
@@ -60,7 +62,7 @@ unfolding command_by
 read_by op a b c k e = rw e refl
 
 -- what a command says of the reads before the others
-abbrev reads_of : Command → List ℕ → List ℕ
+abbrev reads_of : Command Mark Conversion Operation → List ℕ → List ℕ
 reads_of Command.Missing vs = vs
 reads_of (Command.Close mark) vs = vs
 reads_of (Command.If c) vs = vs
@@ -84,39 +86,39 @@ other_by op a b c k vs f = no_read (opcode_of op) a b c k vs f
 -- ---- the walk
 
 -- what is left of the commands cs₀, whose words are numbered from n₀ on: the reads among them have the numbers from n up to `end`
-pub record LeftOf (bs ins : List ℕ) (cs₀ : List Simple) (n₀ end at n : ℕ) : Type 0 where
-  pub commands : List Simple
+pub record LeftOf (bs ins : List ℕ) (cs₀ : List (Simple Conversion Operation)) (n₀ end at n : ℕ) : Type 0 where
+  pub commands : List (Simple Conversion Operation)
   pub text : Text bs at commands
   pub same : first_great bs ins n (read_variables commands) ≡ first_great bs ins n₀ (read_variables cs₀)
   pub count : n + length (read_variables commands) ≡ end
 
 -- the command at `at` and what follows it
-record Onward (bs : List ℕ) (at : ℕ) (cs : List Simple) : Type 0 where
-  pub rest : List Simple
+record Onward (bs : List ℕ) (at : ℕ) (cs : List (Simple Conversion Operation)) : Type 0 where
+  pub rest : List (Simple Conversion Operation)
   pub text : Text bs (at + size_by_op (entry bs at)) rest
   pub room : at + size_by_op (entry bs at) ≤ length bs
   pub reads : read_variables cs ≡ reads_of (command_of bs at) (read_variables rest)
 
 -- the size by the byte of a command that is there
-size_at : (bs : List ℕ) (at : ℕ) (r : Command) → command_of bs at ≡ r → command_size r ≡ size_by_op (entry bs at)
+size_at : (bs : List ℕ) (at : ℕ) (r : Command Mark Conversion Operation) → command_of bs at ≡ r → command_size r ≡ size_by_op (entry bs at)
 size_at bs at r e = ap command_size (sym e) ∙ size_by (entry bs at) (entry bs (at + 1)) (entry bs (at + 2)) (entry bs (at + 3)) (word bs (at + 2))
 
-module _ (bs : List ℕ) (at : ℕ) (rest : List Simple) where
-  found : (r : Command) → command_at bs at ≡ r → (r ≡ Command.Missing → ⊥) → at + command_size r ≤ length bs → Text bs (at + command_size r) rest
-      → (cs : List Simple) → read_variables cs ≡ reads_of r (read_variables rest) → Onward bs at cs
+module _ (bs : List ℕ) (at : ℕ) (rest : List (Simple Conversion Operation)) where
+  found : (r : Command Mark Conversion Operation) → command_at bs at ≡ r → (r ≡ Command.Missing → ⊥) → at + command_size r ≤ length bs → Text bs (at + command_size r) rest
+      → (cs : List (Simple Conversion Operation)) → read_variables cs ≡ reads_of r (read_variables rest) → Onward bs at cs
   found r e f l t cs q =
       let c = not_cut bs at r e f in
       let z = size_at bs at r c in
       record { rest = rest; text = rw z at t; room = rw z at l; reads = rw c q }
 
-onward : (bs : List ℕ) (at : ℕ) (cs : List Simple) → 0 < length (read_variables cs) → Text bs at cs → Onward bs at cs
+onward : (bs : List ℕ) (at : ℕ) (cs : List (Simple Conversion Operation)) → 0 < length (read_variables cs) → Text bs at cs → Onward bs at cs
 unfolding read_variables
 onward bs at cs l (over e) = absurd (omega arith)
 onward bs at cs l (closes mark e r t) = found bs at cs (Command.Close mark) e (λ q. let z : ◌≡◌ {A = ℕ} 0 1 = cc in omega arith) r t cs refl
 onward bs at cs l (forks c e r t) = found bs at cs (Command.If c) e (λ q. let z : ◌≡◌ {A = ℕ} 0 1 = cc in omega arith) r t cs refl
 onward bs at cs l (steps {cs = rest} c e r t) = found bs at rest (Command.Simple c) e (λ q. let z : ◌≡◌ {A = ℕ} 0 1 = cc in omega arith) r t cs refl
 
-module _ (bs ins : List ℕ) (cs₀ : List Simple) (n₀ end at n : ℕ) (x : LeftOf bs ins cs₀ n₀ end at n) where
+module _ (bs ins : List ℕ) (cs₀ : List (Simple Conversion Operation)) (n₀ end at n : ℕ) (x : LeftOf bs ins cs₀ n₀ end at n) where
   -- after the last read nothing is left to look at
   pub scan_over : end ≤ n → Ok tt ≡ first_great bs ins n₀ (read_variables cs₀)
   unfolding first_great
@@ -156,7 +158,7 @@ module _ (bs ins : List ℕ) (cs₀ : List Simple) (n₀ end at n : ℕ) (x : Le
       read_here : read_variables x.commands ≡ v ∷ read_variables next.rest
       read_here =
           next.reads
-          ∙ ap (λ (c : Command). reads_of c (read_variables next.rest))
+          ∙ ap (λ (c : Command Mark Conversion Operation). reads_of c (read_variables next.rest))
           (read_by (entry bs at) (entry bs (at + 1)) (entry bs (at + 2)) (entry bs (at + 3)) (word bs (at + 2)) (ap opcode_of (sym is) ∙ q))
           ∙ ap (λ (u : ℕ). u ∷ read_variables next.rest) (sym by)
 

@@ -8,6 +8,8 @@ use Rattle.routine_header.specs.declared.Header.{Header}
 use Rattle.routine_faults.specs.declared.Counts.{Counts}
 use Rattle.routine_faults.specs.Inputs.{given, input_count}
 use Rattle.routine_command.specs.Command.{touches}
+use Rattle.routine_command.specs.declared.Conversion.{Conversion}
+use Rattle.routine_command.specs.declared.Operation.{Operation}
 use Rattle.routine_command.specs.declared.Simple.{Simple}
 use Rattle.routine_command.specs.declared.Touch.{Touch}
 use Rattle.run_inputs.specs.declared.TooGreat.{TooGreat}
@@ -25,7 +27,7 @@ read_first (Touch.Reads d array i) vs = d ∷ vs
 read_first (Touch.Writes array i) vs = vs
 
 -- the variables that the reads among the commands write
-unfoldable pub read_variables : List Simple → List ℕ
+unfoldable pub read_variables : List (Simple Conversion Operation) → List ℕ
 read_variables [] = []
 read_variables (c ∷ cs) = read_first (touches c) (read_variables cs)
 

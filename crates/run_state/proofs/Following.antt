@@ -15,6 +15,8 @@ use Rattle.routine_faults.specs.Step.{too_many, counts_after, counts_after_if}
 use Rattle.routine_faults.specs.Inner.Sound.{Sound}
 use Rattle.routine_command.specs.declared.Condition.{Condition}
 use Rattle.routine_faults.specs.declared.Counts.{Counts}
+use Rattle.routine_command.specs.declared.Conversion.{Conversion}
+use Rattle.routine_command.specs.declared.Operation.{Operation}
 use Rattle.routine_command.specs.declared.Simple.{Simple}
 use Rattle.routine_command.specs.declared.Touch.{Touch}
 use Rattle.routine_command.specs.declared.Command.{Command}
@@ -135,7 +137,7 @@ module _ (ds : List ℕ) (goal : Goal) where
   course-plain bs (Touch.Writes array i) k s = refl
 
 -- the walk after a command that is no if, put together
-pub step_is : (bs ins : List ℕ) (goal : Goal) (h : Header) (c : Simple) (at : ℕ) (k : Counts) (s : State) (n : ℕ) (k₁ : Counts) (s₁ : State) (x : Course)
+pub step_is : (bs ins : List ℕ) (goal : Goal) (h : Header) (c : Simple Conversion Operation) (at : ℕ) (k : Counts) (s : State) (n : ℕ) (k₁ : Counts) (s₁ : State) (x : Course)
     → n ≡ simple_size c → k₁ ≡ counts_after c k → s₁ ≡ executed bs ins h c k s → x ≡ course_to [] goal (events_at bs c k s)
     → way_at (at + n) k₁ s₁ x ≡ step_on bs ins goal h c (way_at at k s Course.Passing)
 unfolding step_on
@@ -173,7 +175,7 @@ module _ (bs ins ds : List ℕ) (goal : Goal) (h : Header) (depth : ℕ) (close 
         rw l.tied (record { arm = l.rest; end = a.end; after = a.after; stands = l.stands })
 
     -- a command that is no if, which stands here: its operands, its counts, its room
-    module _ (a : SomeArm bs h depth close w₀.next w₀.counts) (r : Command) (is : r ≡ command_at bs w.next) (c : Simple) (q : r ≡ Command.Simple c) where
+    module _ (a : SomeArm bs h depth close w₀.next w₀.counts) (r : Command Mark Conversion Operation) (is : r ≡ command_at bs w.next) (c : Simple Conversion Operation) (q : r ≡ Command.Simple c) where
       pub sound_here : Sound bs h c
       sound_here = (simple_known bs h depth close w.next w.counts (here a) r is c q).0
 
@@ -183,7 +185,7 @@ module _ (bs ins ds : List ℕ) (goal : Goal) (h : Header) (depth : ℕ) (close 
       pub room_here : w.next + simple_size c ≤ length bs
       room_here = (simple_known bs h depth close w.next w.counts (here a) r is c q).2
 
-    module _ (r : Command) (is : r ≡ command_at bs w.next) where
+    module _ (r : Command Mark Conversion Operation) (is : r ≡ command_at bs w.next) where
       pub closed : (m : Mark) → r ≡ Command.Close m
           → FollowsArm bs ins ds goal h depth close w₀ (way_at (w.next + 1) w.counts w.state Course.Passing)
       unfolding Going run_arm course_to
@@ -194,7 +196,7 @@ module _ (bs ins ds : List ℕ) (goal : Goal) (h : Header) (depth : ℕ) (close 
       }
 
       -- a command that is no if
-      module _ (c : Simple) (q : r ≡ Command.Simple c) where
+      module _ (c : Simple Conversion Operation) (q : r ≡ Command.Simple c) where
         -- its execution, the counts before it being k
         abbrev plain_stretch : Counts → Execution
         plain_stretch k = record { events = events_at bs c k w.state; state = executed bs ins h c k w.state }
@@ -265,7 +267,7 @@ module _ (bs ins ds : List ℕ) (goal : Goal) (h : Header) (depth : ℕ) (close 
         }
 
 -- the bytes left fall over an if
-module _ (bs : List ℕ) (h : Header) (depth : ℕ) (close : Mark) (w : Way) (a : SomeArm bs h depth close w.next w.counts) (r : Command) (is : r ≡ command_at bs w.next)
+module _ (bs : List ℕ) (h : Header) (depth : ℕ) (close : Mark) (w : Way) (a : SomeArm bs h depth close w.next w.counts) (r : Command Mark Conversion Operation) (is : r ≡ command_at bs w.next)
     (ins : List ℕ) (goal : Goal) (t : Way) where
   pub if_room : (c : Condition) → r ≡ Command.If c → (ds : List ℕ) → FollowsIf bs ins ds goal h depth c w t → is_done t ≡ false
       → (w.next < t.next) × (t.next ≤ length bs)
@@ -276,7 +278,7 @@ module _ (bs : List ℕ) (h : Header) (depth : ℕ) (close : Mark) (w : Way) (a 
       rw y (if_ends v)
 
   -- and over a command that is no if
-  pub step_room : (c : Simple) → r ≡ Command.Simple c → t ≡ step_on bs ins goal h c w → (w.next < t.next) × (t.next ≤ length bs)
+  pub step_room : (c : Simple Conversion Operation) → r ≡ Command.Simple c → t ≡ step_on bs ins goal h c w → (w.next < t.next) × (t.next ≤ length bs)
   unfolding step_on
   step_room c q x =
       let p : t.next ≡ w.next + simple_size c = ap (λ (y : Way). y.next) x in

@@ -17,7 +17,7 @@ module _ (bs : List ℕ) (h : Header) (f : Fine bs h) where
   variable_below : (v : ℕ) → v < h.variables → v < 32
   variable_below v l = omega (arith, f.few)
 
-  module _ (x : Simple) (e : Sound bs h x) where
+  module _ (x : Simple Conversion Operation) (e : Sound bs h x) where
     pub convert_operands : (op : Conversion) (d s : ℕ) → x ≡ Simple.Convert op d s
         → (d < 32) × (s < 32) × (width bs d ≤ 32) × (1 ≤ width bs s) × (width bs s ≤ 32)
     convert_operands op d s q =
@@ -40,7 +40,7 @@ module _ (bs : List ℕ) (h : Header) (f : Fine bs h) where
     write_index array i s q = index_of i (write_fine bs h array i s (rw q at e)).1
 
   -- each of the variables of a command is one of 32
-  pub operands_below : (x : Simple) → Sound bs h x → ((operands_of x).d < 32) × ((operands_of x).a < 32) × ((operands_of x).b < 32) × ((operands_of x).i < 32)
+  pub operands_below : (x : Simple Conversion Operation) → Sound bs h x → ((operands_of x).d < 32) × ((operands_of x).a < 32) × ((operands_of x).b < 32) × ((operands_of x).i < 32)
   operands_below (Simple.Set d c) e = (variable_below d (set_fine bs h d c e).0, omega arith, omega arith, omega arith)
   operands_below (Simple.Convert op d s) e =
       let p = convert_fine bs h op d s e in

@@ -5,6 +5,8 @@ use Prim.Native.Nat.{ℕ}
 use lib.Seq.{set-get_or}
 use Rattle.routine_header.specs.declared.Header.{Header}
 use Rattle.routine_faults.specs.declared.Counts.{Counts}
+use Rattle.routine_command.specs.declared.Conversion.{Conversion}
+use Rattle.routine_command.specs.declared.Operation.{Operation}
 use Rattle.routine_command.specs.declared.Simple.{Simple}
 use Rattle.run_state.specs.State.{value, assigned, moved}
 use Rattle.run_state.specs.Inner.Moves.{operands_of, value_after}
@@ -13,7 +15,7 @@ use Rattle.run_state.specs.declared.State.{State}
 abbrev with_values : State → List ℕ → State
 with_values s vs = record { values = vs; trail = s.trail; stop = s.stop }
 
-pub moves : (bs ins : List ℕ) (h : Header) (c : Simple) (k : Counts) (s : State)
+pub moves : (bs ins : List ℕ) (h : Header) (c : Simple Conversion Operation) (k : Counts) (s : State)
     → assigned s (operands_of c).d (value_after bs ins h c k (value s (operands_of c).a) (value s (operands_of c).b)) ≡ moved bs ins h c k s
 unfolding moved
 moves bs ins h (Simple.Set d x) k s = refl
@@ -24,7 +26,7 @@ moves bs ins h (Simple.Write array i a) k s =
     ap (λ (vs : List ℕ). with_values s vs) (set-get_or s.values a 0)
 
 -- what stopped the run stays as it is
-pub moved_stop : (bs ins : List ℕ) (h : Header) (c : Simple) (k : Counts) (s : State) → (moved bs ins h c k s).stop ≡ s.stop
+pub moved_stop : (bs ins : List ℕ) (h : Header) (c : Simple Conversion Operation) (k : Counts) (s : State) → (moved bs ins h c k s).stop ≡ s.stop
 unfolding moved
 moved_stop bs ins h (Simple.Set d x) k s = refl
 moved_stop bs ins h (Simple.Convert op d a) k s = refl

@@ -17,6 +17,8 @@ use Rattle.routine_command.specs.Command.{touches}
 use Rattle.routine_faults.specs.Step.{accesses, counts_after, counts_after_by, counts_after_if}
 use Rattle.routine_faults.specs.Inputs.{given}
 use Rattle.routine_faults.specs.declared.Counts.{Counts}
+use Rattle.routine_command.specs.declared.Conversion.{Conversion}
+use Rattle.routine_command.specs.declared.Operation.{Operation}
 use Rattle.routine_command.specs.declared.Simple.{Simple}
 use Rattle.routine_command.specs.declared.Touch.{Touch}
 use Rattle.routine.specs.Routine.{Arm}
@@ -41,7 +43,7 @@ run_then_by Q x go p q = pick x.state.stop refl
 
 -- ---- the numbers of the accesses: an arm has those from the counts before it up to the counts after it
 
-pub after_grows : (c : Simple) (k : Counts) → accesses k ≤ accesses (counts_after c k)
+pub after_grows : (c : Simple Conversion Operation) (k : Counts) → accesses k ≤ accesses (counts_after c k)
 after_grows (Simple.Set d x) k = omega arith
 after_grows (Simple.Convert op d s) k = omega arith
 after_grows (Simple.Compute op d s t) k = omega arith

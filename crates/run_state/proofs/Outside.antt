@@ -12,6 +12,8 @@ use Rattle.routine_header.specs.declared.Header.{Header}
 use Rattle.routine_faults.specs.Step.{accesses}
 use Rattle.routine_faults.specs.Inputs.{given}
 use Rattle.routine_faults.specs.declared.Counts.{Counts}
+use Rattle.routine_command.specs.declared.Conversion.{Conversion}
+use Rattle.routine_command.specs.declared.Operation.{Operation}
 use Rattle.routine_command.specs.declared.Simple.{Simple}
 use Rattle.routine.specs.Routine.{Arm, done, plain, if_else}
 use Rattle.run_state.specs.State.{initial, with_arm, holds, index_of, stop_at, lies, arrive, executed}
@@ -58,7 +60,7 @@ module _ (bs : List ℕ) (h : Header) where
   ends-access s next access array index (Some side) e = ((λ side₁ q. (refl, cc)), tt)
 
   module _ (ins : List ℕ) where
-    ends-simple : (c : Simple) (k : Counts) (s : State) → Ends (events_at bs c k s) (executed bs ins h c k s).stop
+    ends-simple : (c : Simple Conversion Operation) (k : Counts) (s : State) → Ends (events_at bs c k s) (executed bs ins h c k s).stop
     unfolding executed
     ends-simple (Simple.Set d c) k s = tt
     ends-simple (Simple.Convert op d a) k s = tt

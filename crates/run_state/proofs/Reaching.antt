@@ -10,6 +10,8 @@ use Rattle.bitvec.specs.declared.Whole.{Whole}
 use Rattle.routine_header.specs.Header.{array_size}
 use Rattle.routine_header.specs.declared.Header.{Header}
 use Rattle.routine_command.specs.Command.{touches, simple_size, command_at}
+use Rattle.routine_command.specs.declared.Conversion.{Conversion}
+use Rattle.routine_command.specs.declared.Operation.{Operation}
 use Rattle.routine_command.specs.declared.Simple.{Simple}
 use Rattle.routine_command.specs.declared.Command.{Command}
 use Rattle.routine_faults.specs.Step.{accesses, counts_after}
@@ -44,7 +46,7 @@ access-tells goal n array index s next false e None = (rw e, refl)
 access-tells goal n array index s next false e (Some side) = (rw e, refl)
 
 module _ (bs ins : List ℕ) (goal : Goal) (h : Header) (k : Counts) (s : State) where
-  tells : (c : Simple) → Told (accesses k) s (moved bs ins h c k s) (course_to [] goal (events_at bs c k s)) (executed bs ins h c k s)
+  tells : (c : Simple Conversion Operation) → Told (accesses k) s (moved bs ins h c k s) (course_to [] goal (events_at bs c k s)) (executed bs ins h c k s)
       (reached_by bs h goal k (value s (operands_of c).i) (touches c))
   unfolding course_to executed index_of
   tells (Simple.Set d x) = (refl, refl)
@@ -56,7 +58,7 @@ module _ (bs ins : List ℕ) (goal : Goal) (h : Header) (k : Counts) (s : State)
       access-tells goal (accesses k) array (index_of bs s i) s (moved bs ins h (Simple.Write array i a) k s) (is_goal goal (accesses k)) refl (lies (array_size bs h array) (index_of bs s i))
 
 module _ (bs ins ds : List ℕ) (goal : Goal) (h : Header) (depth : ℕ) (close : Mark) (w₀ : Way) (at : ℕ) (k : Counts) (s : State)
-    (g : Going bs ins ds goal h depth close w₀ (way_at at k s Course.Passing)) (r : Command) (is : r ≡ command_at bs at) (c : Simple) (q : r ≡ Command.Simple c)
+    (g : Going bs ins ds goal h depth close w₀ (way_at at k s Course.Passing)) (r : Command Mark Conversion Operation) (is : r ≡ command_at bs at) (c : Simple Conversion Operation) (q : r ≡ Command.Simple c)
     (o : Operands) (p : o ≡ operands_of c) (t : Reached) (by : t ≡ reached_by bs h goal k (value s o.i) (touches c)) where
   abbrev TellsOf : Reached → Type 0
   TellsOf = Told (accesses k) s (moved bs ins h c k s) (course_to [] goal (events_at bs c k s)) (executed bs ins h c k s)

@@ -5,6 +5,8 @@ use Prim.Native.Nat.{ℕ, ◌≤◌}
 use Rattle.routine_header.specs.Header.{width}
 use Rattle.routine_header.specs.declared.Header.{Header}
 use Rattle.routine_command.specs.Command.{touches}
+use Rattle.routine_command.specs.declared.Conversion.{Conversion}
+use Rattle.routine_command.specs.declared.Operation.{Operation}
 use Rattle.routine_command.specs.declared.Simple.{Simple}
 use Rattle.routine_command.specs.declared.Touch.{Touch}
 use Rattle.routine_faults.specs.Inner.Sound.{Sound, Fine}
@@ -15,7 +17,7 @@ Indexed bs Touch.Nothing = Unit {0}
 Indexed bs (Touch.Reads d array i) = (1 ≤ width bs i) × (width bs i ≤ 32)
 Indexed bs (Touch.Writes array i) = (1 ≤ width bs i) × (width bs i ≤ 32)
 
-pub indexed : (bs : List ℕ) (h : Header) → Fine bs h → (c : Simple) → Sound bs h c → Indexed bs (touches c)
+pub indexed : (bs : List ℕ) (h : Header) → Fine bs h → (c : Simple Conversion Operation) → Sound bs h c → Indexed bs (touches c)
 indexed bs h f (Simple.Set d x) e = tt
 indexed bs h f (Simple.Convert op d s) e = tt
 indexed bs h f (Simple.Compute op d s t) e = tt

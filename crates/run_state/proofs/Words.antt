@@ -77,7 +77,7 @@ module _ (bs : List ℕ) (h : Header) where
   arrive_in s next access index (Some side) p q = p
 
   module _ (ins : List ℕ) where
-    carried_in : (c : Simple) (k : Counts) (s : State) → Sound bs h c → FitSimple bs ins h c k → InWidths s → InWidths (executed bs ins h c k s)
+    carried_in : (c : Simple Conversion Operation) (k : Counts) (s : State) → Sound bs h c → FitSimple bs ins h c k → InWidths s → InWidths (executed bs ins h c k s)
     unfolding executed widths_fit
     carried_in (Simple.Set d c) k s x f p = put_in s d c p (set_fine bs h d c x).1
     carried_in (Simple.Convert op d a) k s x f p =

@@ -8,6 +8,8 @@ use Rattle.routine.specs.Routine.{Arm, done, plain, if_else}
 use Rattle.routine_header.specs.declared.Header.{Header}
 use Rattle.routine_faults.specs.declared.Counts.{Counts}
 use Rattle.routine_command.specs.declared.Condition.{Condition}
+use Rattle.routine_command.specs.declared.Conversion.{Conversion}
+use Rattle.routine_command.specs.declared.Operation.{Operation}
 use Rattle.routine_command.specs.declared.Simple.{Simple}
 use Rattle.routine_command.specs.declared.Touch.{Touch}
 use Rattle.run_state.specs.State.{initial, with_arm, holds, index_of, executed}
@@ -44,7 +46,7 @@ events_by bs (Touch.Reads d array i) k s = came (accesses k) array (index_of bs 
 events_by bs (Touch.Writes array i) k s = came (accesses k) array (index_of bs s i) ∷ []
 
 -- what a run comes to at a command that is no if
-abbrev pub events_at : List ℕ → Simple → Counts → State → List Event
+abbrev pub events_at : List ℕ → Simple Conversion Operation → Counts → State → List Event
 events_at bs c k s = events_by bs (touches c) k s
 
 -- an if with these arms, where the counts are k: the arm that its condition chooses

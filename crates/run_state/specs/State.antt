@@ -94,7 +94,7 @@ accessed_by bs h (Touch.Reads d array i) k s next = accessed bs h array i k s ne
 accessed_by bs h (Touch.Writes array i) k s next = accessed bs h array i k s next
 
 -- the values after a command that does not stop the run: a read gives the input word of its own number, and a write changes none
-unfoldable pub moved : (bs ins : List ℕ) → Header → Simple → Counts → State → State
+unfoldable pub moved : (bs ins : List ℕ) → Header → Simple Conversion Operation → Counts → State → State
 moved bs ins h (Simple.Set d c) k s = assigned s d c
 moved bs ins h (Simple.Convert op d a) k s = assigned s d (converted op (width bs d) (width bs a) (value s a))
 moved bs ins h (Simple.Compute op d a b) k s = assigned s d (computed op (width bs d) (value s a) (value s b))
@@ -102,6 +102,6 @@ moved bs ins h (Simple.Read d array i) k s = assigned s d (entry ins (input_numb
 moved bs ins h (Simple.Write array i a) k s = s
 
 -- the state moves on by one command
-unfoldable pub executed : (bs ins : List ℕ) → Header → Simple → Counts → State → State
+unfoldable pub executed : (bs ins : List ℕ) → Header → Simple Conversion Operation → Counts → State → State
 unfolding moved
 executed bs ins h c k s = accessed_by bs h (touches c) k s (moved bs ins h c k s)

@@ -6,6 +6,8 @@ use Rattle.routine_faults.specs.Step.{accesses}
 use Rattle.routine_faults.specs.Inputs.{input_number}
 use Rattle.routine_header.specs.declared.Header.{Header}
 use Rattle.routine_faults.specs.declared.Counts.{Counts}
+use Rattle.routine_command.specs.declared.Conversion.{Conversion}
+use Rattle.routine_command.specs.declared.Operation.{Operation}
 use Rattle.routine_command.specs.declared.Simple.{Simple}
 use Rattle.routine_command.specs.declared.Touch.{Touch}
 use Rattle.netlist.specs.declared.Node.{Node}
@@ -59,7 +61,7 @@ access_first bs h t g (Touch.Reads d array i) k s go = access bs h t g array i k
 access_first bs h t g (Touch.Writes array i) k s go = access bs h t g array i k s go
 
 -- the bits that a command gives to a variable, the next variable of the netlist being g; a write gives none
-abbrev pub bits_given : List ℕ → Header → Simple → Counts → (g : ℕ) → Wires → Encoding
+abbrev pub bits_given : List ℕ → Header → Simple Conversion Operation → Counts → (g : ℕ) → Wires → Encoding
 bits_given bs h (Simple.Set d c) k g s = still (with_bits bs s d (const_bit c))
 bits_given bs h (Simple.Convert op d a) k g s = still (with_bits bs s d (conversion op (bits_of bs s a) (width bs a)))
 bits_given bs h (Simple.Compute op d a b) k g s =
@@ -69,5 +71,5 @@ bits_given bs h (Simple.Read d array i) k g s = read_into bs h d k g s
 bits_given bs h (Simple.Write array i a) k g s = still s
 
 -- a command that is no if, the next variable being g
-unfoldable pub simple : List ℕ → Header → Target → (g : ℕ) → Simple → Counts → Wires → Encoding
+unfoldable pub simple : List ℕ → Header → Target → (g : ℕ) → Simple Conversion Operation → Counts → Wires → Encoding
 simple bs h t g c k s = access_first bs h t g (touches c) k s (bits_given bs h c k)

@@ -30,6 +30,7 @@ use Rattle.routine_header.specs.declared.Header.{Header}
 use Rattle.routine_command.specs.declared.Condition.{Condition}
 use Rattle.routine_faults.specs.declared.Counts.{Counts}
 use Rattle.routine_faults.specs.Inputs.{given, input_number}
+use Rattle.routine_command.specs.declared.Conversion.{Conversion}
 use Rattle.routine_command.specs.declared.Simple.{Simple}
 use Rattle.routine.proofs.Views.{induction}
 use Rattle.routine.proofs.Decoded.{decoded}
@@ -160,7 +161,7 @@ module _ (bs : List ℕ) (h : Header) (w : ℕ) (narrow : (v : ℕ) → v < h.va
           big.access,
         ))
 
-    simple-few : (g : ℕ) (c : Simple) (k : Counts) (s : Wires) → Sound bs h c → length (simple bs h t g c k s).nodes ≤ m
+    simple-few : (g : ℕ) (c : Simple Conversion Operation) (k : Counts) (s : Wires) → Sound bs h c → length (simple bs h t g c k s).nodes ≤ m
     unfolding simple
     simple-few g (Simple.Set d c) k s q = omega arith
     simple-few g (Simple.Convert op d a) k s q = omega arith

@@ -15,6 +15,8 @@ use Rattle.routine.specs.Inner.Stands.{Stands}
 use Rattle.routine_header.specs.declared.Header.{Header}
 use Rattle.routine_command.specs.declared.Condition.{Condition}
 use Rattle.routine_faults.specs.declared.Counts.{Counts}
+use Rattle.routine_command.specs.declared.Conversion.{Conversion}
+use Rattle.routine_command.specs.declared.Operation.{Operation}
 use Rattle.routine_command.specs.declared.Simple.{Simple}
 use Rattle.routine.proofs.Views.{induction}
 use Rattle.translation_state.specs.Wires.{Wires, claiming, is_made}
@@ -52,7 +54,7 @@ module _ (t : Target) where
   claims-none k x e = record { named = λ f. not_both (is_made x.wires.claim) f (ap is_made e); unnamed = λ f l. l }
 
   module _ (bs : List ℕ) (h : Header) (ds : List ℕ) where
-    pub simple-claims : (g : ℕ) (c : Simple) (k : Counts) (s : Wires) → s.claim ≡ None → Claims k (counts_after c k) (simple bs h t g c k s)
+    pub simple-claims : (g : ℕ) (c : Simple Conversion Operation) (k : Counts) (s : Wires) → s.claim ≡ None → Claims k (counts_after c k) (simple bs h t g c k s)
     unfolding simple
     simple-claims g (Simple.Set d c) k s o = claims-none k (simple bs h t g (Simple.Set d c) k s) o
     simple-claims g (Simple.Convert op d a) k s o = claims-none k (simple bs h t g (Simple.Convert op d a) k s) o
@@ -139,7 +141,7 @@ module _ (t : Target) where
         let q : ◌≡◌ {A = Claim} (record { arrival = arrival; side = side }) (record { arrival = s.arrival; side = l }) = cc in
         ap (λ (z : Claim). z.arrival) q
 
-    simple-settled : (g : ℕ) (c : Simple) (k : Counts) (s : Wires) → s.claim ≡ None → Settled (simple bs h t g c k s).wires
+    simple-settled : (g : ℕ) (c : Simple Conversion Operation) (k : Counts) (s : Wires) → s.claim ≡ None → Settled (simple bs h t g c k s).wires
     unfolding simple
     simple-settled g (Simple.Set d c) k s o = settled_open (simple bs h t g (Simple.Set d c) k s).wires o
     simple-settled g (Simple.Convert op d a) k s o = settled_open (simple bs h t g (Simple.Convert op d a) k s).wires o

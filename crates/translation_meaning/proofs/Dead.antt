@@ -11,6 +11,8 @@ use Rattle.routine.specs.Routine.{Arm, done, plain, if_else}
 use Rattle.routine_header.specs.declared.Header.{Header}
 use Rattle.routine_command.specs.declared.Condition.{Condition}
 use Rattle.routine_faults.specs.declared.Counts.{Counts}
+use Rattle.routine_command.specs.declared.Conversion.{Conversion}
+use Rattle.routine_command.specs.declared.Operation.{Operation}
 use Rattle.routine_command.specs.declared.Simple.{Simple}
 use Rattle.cnf.specs.Meaning.{Assign, lit}
 use Rattle.netlist.specs.Meaning.{Inputs}
@@ -37,7 +39,7 @@ module _ (ins : Inputs) (ρ : Assign) (o : ρ 1 ≡ true) (bs : List ℕ) (h : H
       → lit ρ s.arrival ≡ false → lit ρ (passed bs h g array i s).wires.arrival ≡ false
   access_dead g i array s m f = rw f at (access-lit ins ρ g (bits_of bs s i) (array_size bs h array) (width bs i) s.arrival m)
 
-  pub simple_dead : (g : ℕ) (c : Simple) (k : Counts) (s : Wires) → Deadens g s (simple bs h t g c k s)
+  pub simple_dead : (g : ℕ) (c : Simple Conversion Operation) (k : Counts) (s : Wires) → Deadens g s (simple bs h t g c k s)
   unfolding simple
   simple_dead g (Simple.Set d c) k s = λ m f. f
   simple_dead g (Simple.Convert op d a) k s = λ m f. f

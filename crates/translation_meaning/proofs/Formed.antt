@@ -148,7 +148,7 @@ module _ (bs : List ℕ) (h : Header) (fine : Fine bs h) where
           wired = wired_put bs _ s (wired_later _ (omega arith) w) d (in_bit g) b;
         }
 
-    pub simple_made : (g : ℕ) (c : Simple) (k : Counts) (s : Wires) → Sound bs h c → Wired h.variables g s → Made h.variables g (simple bs h t g c k s)
+    pub simple_made : (g : ℕ) (c : Simple Conversion Operation) (k : Counts) (s : Wires) → Sound bs h c → Wired h.variables g s → Made h.variables g (simple bs h t g c k s)
     unfolding simple
     simple_made g (Simple.Set d c) k s q w = still_made g (with_bits bs s d (const_bit c)) (wired_put bs g s w d (const_bit c) (const_before g c (width bs d) w.some))
     simple_made g (Simple.Convert op d a) k s q w =

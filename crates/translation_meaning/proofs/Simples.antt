@@ -176,7 +176,7 @@ module _ (bs ins : List ℕ) (h : Header) (fine : Fine bs h) (t : Target) (ds : 
         (λ e m. at_claim e m)
         (λ e m. let p = models_append (bits_of_list ins) ρ g ns x.nodes m in at_past p.0 e keeps (on p.1))
 
-  pub simple_alive : t.side ≤ 1 → (g : ℕ) (c : Simple) (k : Counts) (s : Wires) (r : State) → Sound bs h c → FitSimple bs ins h c k
+  pub simple_alive : t.side ≤ 1 → (g : ℕ) (c : Simple Conversion Operation) (k : Counts) (s : Wires) (r : State) → Sound bs h c → FitSimple bs ins h c k
       → Models (bits_of_list ins) ρ g (simple bs h t g c k s).nodes → Alive s r
       → Tallies bs h fine t ds before ρ (simple bs h t g c k s) (record { events = events_at bs c k r; state = executed bs ins h c k r })
   unfolding simple executed course_to widths_fit

@@ -12,6 +12,8 @@ use Rattle.routine.specs.Routine.{Arm, done, plain, if_else}
 use Rattle.routine_header.specs.declared.Header.{Header}
 use Rattle.routine_command.specs.declared.Condition.{Condition}
 use Rattle.routine_faults.specs.declared.Counts.{Counts}
+use Rattle.routine_command.specs.declared.Conversion.{Conversion}
+use Rattle.routine_command.specs.declared.Operation.{Operation}
 use Rattle.routine_command.specs.declared.Simple.{Simple}
 use Rattle.netlist.specs.declared.Node.{Node}
 use Rattle.arithmetic.specs.Extend.{const_bit}
@@ -113,7 +115,7 @@ unfolding join_arms
 joined_length bs h g c x y = joins_length bs g c x.lits y.lits h.variables
 
 module _ (bs : List ℕ) (h : Header) (t : Target) (ds : List ℕ) where
-  pub simple-length : (g : ℕ) (c : Simple) (k : Counts) (s : Wires) → length (simple bs h t g c k s).wires.lits ≡ length s.lits
+  pub simple-length : (g : ℕ) (c : Simple Conversion Operation) (k : Counts) (s : Wires) → length (simple bs h t g c k s).wires.lits ≡ length s.lits
   unfolding simple
   simple-length g (Simple.Set d c) k s = put_length bs s.lits d (const_bit c)
   simple-length g (Simple.Convert op d a) k s = put_length bs s.lits d (conversion op (bits_of bs s a) (width bs a))

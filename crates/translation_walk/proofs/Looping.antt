@@ -12,6 +12,8 @@ use Rattle.routine_faults.specs.Inner.Sound.{Sound, SoundIf, Fine}
 use Rattle.routine.specs.Inner.Stands.{SomeArm}
 use Rattle.routine_header.specs.declared.Header.{Header}
 use Rattle.routine_command.specs.declared.Condition.{Condition}
+use Rattle.routine_command.specs.declared.Conversion.{Conversion}
+use Rattle.routine_command.specs.declared.Operation.{Operation}
 use Rattle.routine_command.specs.declared.Simple.{Simple}
 use Rattle.routine_command.specs.declared.Command.{Command}
 use Rattle.routine_command.proofs.Sizes.{simple-size}
@@ -54,7 +56,7 @@ module _ {bs : List ℕ} {h : Header} {t : Target} {ds : List ℕ} {depth : ℕ}
     here : SomeArm bs h depth close p.next p.counts
     here = some_here bs h t ds depth close w u l p₀ a.some rest
 
-    module _ {r : Command} (is : r ≡ command_at bs p.next) where
+    module _ {r : Command Mark Conversion Operation} (is : r ≡ command_at bs p.next) where
       pub no_missing : r ≡ Command.Missing → ⊥
       no_missing = not_missing bs h depth close p.next p.counts here r is
 
@@ -91,7 +93,7 @@ module _ {bs : List ℕ} {h : Header} {t : Target} {ds : List ℕ} {depth : ℕ}
               left = λ i. forked_on bs h t ds depth close w u l p₀ i (g.left i) r is c q x (sym by ∙ o);
             }
 
-      module _ {c : Simple} (q : r ≡ Command.Simple c) where
+      module _ {c : Simple Conversion Operation} (q : r ≡ Command.Simple c) where
         known : Sound bs h c × (too_many c p.counts ≡ false) × (p.next + simple_size c ≤ length bs)
         known = simple_known bs h depth close p.next p.counts here r is c q
 

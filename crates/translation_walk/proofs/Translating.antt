@@ -13,6 +13,8 @@ use Rattle.routine.specs.Inner.Stands.{Stands, SomeArm}
 use Rattle.routine_header.specs.declared.Header.{Header}
 use Rattle.routine_command.specs.declared.Condition.{Condition}
 use Rattle.routine_faults.specs.declared.Counts.{Counts}
+use Rattle.routine_command.specs.declared.Conversion.{Conversion}
+use Rattle.routine_command.specs.declared.Operation.{Operation}
 use Rattle.routine_command.specs.declared.Simple.{Simple}
 use Rattle.routine_command.specs.declared.Command.{Command}
 use Rattle.routine.proofs.Views.{by_close, by_simple, by_if, BySimple, ByIf}
@@ -149,7 +151,7 @@ module _ (bs : List ℕ) (h : Header) (t : Target) (ds : List ℕ) (depth : ℕ)
             (then_stops y.nodes p.net.next x (encode_arm bs h t ds rest) (ap is_made (sym a.claim) ∙ o) ∙ s)
             (over (record { nodes = y.nodes ++ x.nodes; wires = x.wires }) (emitted_then y.emitted a.emitted) a.claim o)
 
-      module _ (r : Command) (is : r ≡ command_at bs p.next) where
+      module _ (r : Command Mark Conversion Operation) (is : r ≡ command_at bs p.next) where
         pub closed : (m : Mark) → r ≡ Command.Close m
             → WalksTo w u p₀.net Whole i.end i.after w₁ u₁ l₁ (record { next = p.next + 1; counts = p.counts; net = p.net; reach = p.reach })
         unfolding encode_arm
@@ -165,7 +167,7 @@ module _ (bs : List ℕ) (h : Header) (t : Target) (ds : List ℕ) (depth : ℕ)
               counts = λ f. sym v.counts;
             })
 
-        module _ (c : Simple) (q : r ≡ Command.Simple c) where
+        module _ (c : Simple Conversion Operation) (q : r ≡ Command.Simple c) where
           simple_here : BySimple bs h depth close p.next p.counts c y.rest i.end i.after
           simple_here = by_simple bs h depth close p.next p.counts y.rest i.end i.after r is y.stands c q
 

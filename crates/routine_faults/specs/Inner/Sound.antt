@@ -5,10 +5,12 @@ use Rattle.routine_header.specs.Header.{first_command, width, array_size}
 use Rattle.routine_faults.specs.Step.{in_range, widths_fit, condition_in_range}
 use Rattle.routine_header.specs.declared.Header.{Header}
 use Rattle.routine_command.specs.declared.Condition.{Condition}
+use Rattle.routine_command.specs.declared.Conversion.{Conversion}
+use Rattle.routine_command.specs.declared.Operation.{Operation}
 use Rattle.routine_command.specs.declared.Simple.{Simple}
 
 -- a command's operands passed 4 and 5
-pub record Sound (bs : List ℕ) (h : Header) (c : Simple) : Type 0 where
+pub record Sound (bs : List ℕ) (h : Header) (c : Simple Conversion Operation) : Type 0 where
   pub ranges : in_range bs h c ≡ true
   pub widths : widths_fit bs c ≡ true
 

@@ -11,6 +11,8 @@ use Rattle.routine.specs.Inner.Stands.{Stands}
 use Rattle.routine_header.specs.declared.Header.{Header}
 use Rattle.routine_command.specs.declared.Condition.{Condition}
 use Rattle.routine_faults.specs.declared.Counts.{Counts}
+use Rattle.routine_command.specs.declared.Conversion.{Conversion}
+use Rattle.routine_command.specs.declared.Operation.{Operation}
 use Rattle.routine_command.specs.declared.Simple.{Simple}
 use Rattle.routine_command.specs.declared.Touch.{Touch}
 use Rattle.run_state.specs.State.{holds, lies, executed}
@@ -57,7 +59,7 @@ unfoldable pub arm_at : List ℕ → Condition → State → ℕ
 arm_at bs c s = cond (holds bs c s) 0 1
 
 -- the walk after a command that is no if
-unfoldable pub step_on : (bs ins : List ℕ) → Goal → Header → Simple → Way → Way
+unfoldable pub step_on : (bs ins : List ℕ) → Goal → Header → Simple Conversion Operation → Way → Way
 step_on bs ins goal h c w =
     way_at (w.next + simple_size c) (counts_after c w.counts) (executed bs ins h c w.counts w.state)
     (course_to [] goal (events_at bs c w.counts w.state))
