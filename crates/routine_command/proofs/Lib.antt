@@ -1,2 +1,3 @@
 -- The laws for the layers above.
+pub mod Opcodes
 pub mod Sizes

@@ -6,8 +6,8 @@ use Rattle.std.specs.Prelude.{Option, Some, None}
 use Prim.Native.Nat.{ℕ, ◌+◌, ◌≤◌, ◌<◌, ◌-◌}
 use native.Mathlib.Omega.{arith}
 use lib.ListN.{length}
-use lib.Dec.{lit<, leb, eqb}
-use borrow.Author.Tests.{le-leb, lt-leb, eqb-true, ne_eqb}
+use lib.Dec.{lit<, leb}
+use borrow.Author.Tests.{le-leb, lt-leb, ne_eqb}
 use Rattle.slices.specs.Bytes.{entry, word}
 use Rattle.routine_command.specs.Command.{command_size, simple_size, size_by_op, opcode_of, opcode_size, command_with, command_from, command_by, command_of, command_at}
 use Rattle.routine_command.specs.declared.Conversion.{Conversion}
@@ -87,73 +87,6 @@ unknown_byte op a b c k l =
       ne_eqb op 14 (omega arith),
       ne_eqb op 15 (omega arith),
     )
-
-by_test : {A : Type 0} (P : A → Type 0) (t : Bool) (x y : A) → (t ≡ true → P x) → P y → P (cond t x y)
-by_test P true x y p q = p refl
-by_test P false x y p q = q
-
--- a conversion's byte
-abbrev byte_of : Conversion → ℕ
-byte_of Conversion.Copy = 0x02
-byte_of Conversion.Cut = 0x06
-byte_of Conversion.ZeroExtend = 0x07
-byte_of Conversion.SignExtend = 0x08
-
-module _ (op : ℕ) where
-  abbrev Converts : Option Opcode → Type 0
-  Converts None = Unit {0}
-  Converts (Some (Opcode.Close mark)) = Unit {0}
-  Converts (Some Opcode.Set) = Unit {0}
-  Converts (Some (Opcode.Convert k)) = op ≡ byte_of k
-  Converts (Some (Opcode.Compute k)) = Unit {0}
-  Converts (Some Opcode.Read) = Unit {0}
-  Converts (Some Opcode.Write) = Unit {0}
-  Converts (Some Opcode.If) = Unit {0}
-
-  converts : Converts (opcode_of op)
-  unfolding opcode_of
-  converts =
-      by_test Converts (eqb op 0) _ _ (λ e. tt)
-      (by_test Converts (eqb op 1) _ _ (λ e. tt)
-      (by_test Converts (eqb op 2) _ _ (eqb-true op 2)
-      (by_test Converts (eqb op 3) _ _ (λ e. tt)
-      (by_test Converts (eqb op 4) _ _ (λ e. tt)
-      (by_test Converts (eqb op 5) _ _ (λ e. tt)
-      (by_test Converts (eqb op 6) _ _ (eqb-true op 6)
-      (by_test Converts (eqb op 7) _ _ (eqb-true op 7)
-      (by_test Converts (eqb op 8) _ _ (eqb-true op 8)
-      (by_test Converts (eqb op 9) _ _ (λ e. tt)
-      (by_test Converts (eqb op 10) _ _ (λ e. tt)
-      (by_test Converts (eqb op 11) _ _ (λ e. tt)
-      (by_test Converts (eqb op 12) _ _ (λ e. tt)
-      (by_test Converts (eqb op 13) _ _ (λ e. tt)
-      (by_test Converts (eqb op 14) _ _ (λ e. tt)
-      (by_test Converts (eqb op 15) _ _ (λ e. tt) tt)))))))))))))))
-
-  -- only the conversions have three bytes
-  three_from : (o : Option Opcode) → Converts o → command_size (command_from o 0 0 0 0) ≡ 3 → (k : Conversion) × (o ≡ Some (Opcode.Convert k)) × (op ≡ byte_of k)
-  three_from None q e = absurd (omega (arith, e))
-  three_from (Some (Opcode.Close mark)) q e = absurd (omega (arith, e))
-  three_from (Some Opcode.Set) q e = absurd (omega (arith, e))
-  three_from (Some (Opcode.Convert k)) q e = (k, refl, q)
-  three_from (Some (Opcode.Compute k)) q e = absurd (omega (arith, e))
-  three_from (Some Opcode.Read) q e = absurd (omega (arith, e))
-  three_from (Some Opcode.Write) q e = absurd (omega (arith, e))
-  three_from (Some Opcode.If) q e = absurd (omega (arith, e))
-
-  pub three_is : size_by_op op ≡ 3 → (k : Conversion) × (opcode_of op ≡ Some (Opcode.Convert k)) × (op ≡ byte_of k)
-  unfolding command_by
-  three_is e = three_from (opcode_of op) converts e
-
-  -- and a copy is the one that no other byte is
-  pub copy_is : size_by_op op ≡ 3 → (op ≡ 6 → ⊥) → (op ≡ 7 → ⊥) → (op ≡ 8 → ⊥) → opcode_of op ≡ Some (Opcode.Convert Conversion.Copy)
-  copy_is e a b c = let p = three_is e in go p.0 p.1 p.2
-    where
-      go : (k : Conversion) → opcode_of op ≡ Some (Opcode.Convert k) → op ≡ byte_of k → opcode_of op ≡ Some (Opcode.Convert Conversion.Copy)
-      go Conversion.Copy q r = q
-      go Conversion.Cut q r = absurd (a r)
-      go Conversion.ZeroExtend q r = absurd (b r)
-      go Conversion.SignExtend q r = absurd (c r)
 
 -- ---- by the opcode of the byte that stands there
 

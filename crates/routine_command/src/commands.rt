@@ -1,5 +1,5 @@
 // The command at an offset, and its size in bytes.
-ghost use Rattle.std.specs.Prelude.{◌≡◌, ◌+◌, ◌≤◌, Some, length};
+ghost use Rattle.std.specs.Prelude.{◌≡◌, ◌+◌, ◌<◌, ◌≤◌, ◌↔◌, Some, length};
 ghost use Rattle.slices.specs.Bytes.{entry, word};
 ghost use Rattle.routine_command.specs.Command.{opcode_of, opcode_size, command_with, command_at, size_by_op, simple_size, touches, touches_of};
 
@@ -122,23 +122,35 @@ fn with_operands(bytes: &[u8], at: usize, opcode: Opcode) -> Command
     }
 }
 
-// The conversion that a command of three bytes is: no other command has so many. The copy is the rest, so that the kind is the byte less five, or 0, and a compiler
-// needs no table for it.
-fn conversion_of(op: u8) -> Conversion
-    requires { size_by_op op ≡ 3 }
-    ensures { opcode_of op ≡ Some (Opcode.Convert result) }
+// The conversion that a byte stands for, if it does.
+fn conversion_of(op: u8) -> Option<Conversion>
+    ensures { (kind : Conversion) → (result ≡ Some kind) ↔ (opcode_of op ≡ Some (Opcode.Convert kind)) }
 {
     match op {
-        0x06 => Conversion::Cut,
-        0x07 => Conversion::ZeroExtend,
-        0x08 => Conversion::SignExtend,
-        _ => Conversion::Copy,
+        0x02 => Some(Conversion::Copy),
+        0x06 => Some(Conversion::Cut),
+        0x07 => Some(Conversion::ZeroExtend),
+        0x08 => Some(Conversion::SignExtend),
+        _ => None,
     }
 }
 
-// The whole command at `at`. The operands are read once the size has told that they are there. The size comes from the byte and not from the kind: so nothing stands
-// between the match that finds the kind and the one on it, and a compiler makes one of both. Conversions are told by their size, which takes comparisons; for the other
-// commands it makes one table of jumps. All of it is put into each walk, where its match and the walk's become one.
+// The conversion whose byte stands at `at`, if it is whole.
+fn conversion_at(bytes: &[u8], at: usize, kind: Conversion) -> Command
+    requires there { at < length bytes.now }
+    requires is { opcode_of (entry bytes.now at) ≡ Some (Opcode.Convert kind) }
+    ensures { result ≡ command_at bytes.now at }
+{
+    if bytes.len() - at < 3 {
+        return Command::Missing;
+    }
+    with_operands(bytes, at, Opcode::Convert(kind))
+}
+
+// The whole command at `at`. The operands are read once the size has told that they are there. A conversion is asked for first: a compiler tests its four bytes at
+// once, and shifts the kind out of a constant. The size of another command comes from the byte and not from the opcode: so nothing stands between the match that finds
+// the opcode and the one on it, and one table of jumps is made of both. It is asked after what is left of the bytes, so that something stands between the first match
+// and its own: else these two become one, by a second table of jumps. All of it is put into each walk, where its match and the walk's become one.
 #[inline(always)]
 pub fn command_at(bytes: &[u8], at: usize) -> Command
     ensures { result ≡ command_at bytes.now at }
@@ -147,13 +159,11 @@ pub fn command_at(bytes: &[u8], at: usize) -> Command
         return Command::Missing;
     }
     let op = bytes[at];
-    let size = size_by_op(op);
-    if bytes.len() - at < size {
-        return Command::Missing;
+    if let Some(kind) = conversion_of(op) {
+        return conversion_at(bytes, at, kind);
     }
-    if size == 3 {
-        let op = conversion_of(op);
-        return with_operands(bytes, at, Opcode::Convert(op));
+    if bytes.len() - at < size_by_op(op) {
+        return Command::Missing;
     }
     match opcode_of(op) {
         None => Command::Missing,

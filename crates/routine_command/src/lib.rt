@@ -50,8 +50,8 @@ pub struct Condition {
     pub t: u8,
 }
 
-// A command that is no part of an if: its operands as they stand in the bytes. A routine's has a conversion or an operation; what looks at neither takes a command
-// with anything in their place, such as the byte.
+// A command that is no part of an if: its operands as they stand in the bytes. A routine's has a conversion or an operation; its size, and what it does with an array,
+// are told of a command with anything in their place, such as the byte.
 #[derive(Clone, Copy)]
 pub enum Simple<C = Conversion, O = Operation> {
     Set { d: u8, c: u32 },

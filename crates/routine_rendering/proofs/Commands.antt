@@ -1,12 +1,11 @@
 -- A command and its bytes. Assumes nothing.
 use mathlib.Core.Path.{◌≡◌, refl, sym, ap, subst, ◌∙◌}
 use mathlib.Core.List.{List, ◌∷◌, ◌++◌}
-use mathlib.Core.Bool.{Bool, true, false, cond}
+use mathlib.Core.Bool.{cond}
 use Prim.Native.Nat.{ℕ, ◌+◌, ◌-◌, ◌≤◌, ◌<◌}
 use native.Mathlib.Omega.{arith}
 use lib.ListN.{length, drop}
-use lib.Dec.{leb, eqb}
-use borrow.Author.Tests.{eqb-true}
+use lib.Dec.{leb}
 use Rattle.slices.specs.Bytes.{entry, word, word_bytes}
 use Rattle.routine_command.specs.Command.{command_size, simple_size, opcode_of, command_from as of_opcode, command_by, command_of, command_at}
 use Rattle.std.specs.Prelude.{Option, Some, None}
@@ -19,6 +18,7 @@ use Rattle.routine_command.specs.declared.Simple.{Simple}
 use Rattle.routine_command.specs.declared.Condition.{Condition}
 use Rattle.routine_command.specs.declared.Command.{Command}
 use Rattle.routine_rendering.specs.Exactly.{AreBytes}
+use Rattle.routine_command.proofs.Opcodes.{by_test, opcode_byte, Stands, stands}
 use Rattle.routine_command.proofs.Sizes.{whole}
 use Rattle.slices.proofs.Digits.{word_digits, word_value}
 use Rattle.routine_rendering.proofs.Bytes.{next, here, entry_at, entry_here, bytes_left, word_at}
@@ -95,45 +95,24 @@ module _ (bs : List ℕ) (at : ℕ) (tail : List ℕ) where
 
 -- ---- from the command to the bytes
 
-by_test : {A : Type 0} (P : A → Type 0) (t : Bool) (x y : A) → (t ≡ true → P x) → P y → P (cond t x y)
-by_test P true x y p q = p refl
-by_test P false x y p q = q
+-- the byte of an opcode, by its kind
+convert_byte : (op : Conversion) → opcode_byte (Opcode.Convert op) ≡ conversion_byte op
+convert_byte Conversion.Copy = refl
+convert_byte Conversion.Cut = refl
+convert_byte Conversion.ZeroExtend = refl
+convert_byte Conversion.SignExtend = refl
 
--- the byte of an opcode
-abbrev opcode_byte : Opcode → ℕ
-opcode_byte (Opcode.Close mark) = mark_byte mark
-opcode_byte Opcode.Set = 0x01
-opcode_byte (Opcode.Convert op) = conversion_byte op
-opcode_byte (Opcode.Compute op) = operation_byte op
-opcode_byte Opcode.Read = 0x09
-opcode_byte Opcode.Write = 0x0A
-opcode_byte Opcode.If = 0x0B
+compute_byte : (op : Operation) → opcode_byte (Opcode.Compute op) ≡ operation_byte op
+compute_byte Operation.Add = refl
+compute_byte Operation.Subtract = refl
+compute_byte Operation.Multiply = refl
+compute_byte Operation.Quotient = refl
+compute_byte Operation.Remainder = refl
 
--- the byte `op` is that of the opcode that it stands for
-module _ (op : ℕ) where
-  abbrev Stands : Option Opcode → Type 0
-  Stands None = Unit {0}
-  Stands (Some o) = op ≡ opcode_byte o
-
-  stands : Stands (opcode_of op)
-  unfolding opcode_of
-  stands =
-      by_test Stands (eqb op 0) _ _ (eqb-true op 0)
-      (by_test Stands (eqb op 1) _ _ (eqb-true op 1)
-      (by_test Stands (eqb op 2) _ _ (eqb-true op 2)
-      (by_test Stands (eqb op 3) _ _ (eqb-true op 3)
-      (by_test Stands (eqb op 4) _ _ (eqb-true op 4)
-      (by_test Stands (eqb op 5) _ _ (eqb-true op 5)
-      (by_test Stands (eqb op 6) _ _ (eqb-true op 6)
-      (by_test Stands (eqb op 7) _ _ (eqb-true op 7)
-      (by_test Stands (eqb op 8) _ _ (eqb-true op 8)
-      (by_test Stands (eqb op 9) _ _ (eqb-true op 9)
-      (by_test Stands (eqb op 10) _ _ (eqb-true op 10)
-      (by_test Stands (eqb op 11) _ _ (eqb-true op 11)
-      (by_test Stands (eqb op 12) _ _ (eqb-true op 12)
-      (by_test Stands (eqb op 13) _ _ (eqb-true op 13)
-      (by_test Stands (eqb op 14) _ _ (eqb-true op 14)
-      (by_test Stands (eqb op 15) _ _ (eqb-true op 15) tt)))))))))))))))
+close_byte : (mark : Mark) → opcode_byte (Opcode.Close mark) ≡ mark_byte mark
+close_byte Mark.End = refl
+close_byte Mark.Else = refl
+close_byte Mark.EndIf = refl
 
 module _ (op a b c k : ℕ) where
   -- what a command says of its byte and its operands
@@ -152,10 +131,10 @@ module _ (op a b c k : ℕ) where
 
   holds_with : (o : Option Opcode) → Stands op o → Holds (of_opcode o a b c k)
   holds_with None e = tt
-  holds_with (Some (Opcode.Close mark)) e = e
+  holds_with (Some (Opcode.Close mark)) e = e ∙ close_byte mark
   holds_with (Some Opcode.Set) e = (e, refl, refl)
-  holds_with (Some (Opcode.Convert o)) e = (e, refl, refl)
-  holds_with (Some (Opcode.Compute o)) e = (e, refl, refl, refl)
+  holds_with (Some (Opcode.Convert o)) e = (e ∙ convert_byte o, refl, refl)
+  holds_with (Some (Opcode.Compute o)) e = (e ∙ compute_byte o, refl, refl, refl)
   holds_with (Some Opcode.Read) e = (e, refl, refl, refl)
   holds_with (Some Opcode.Write) e = (e, refl, refl, refl)
   holds_with (Some Opcode.If) e = (e, refl, refl, refl)
