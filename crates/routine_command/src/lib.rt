@@ -50,8 +50,8 @@ pub struct Condition {
     pub t: u8,
 }
 
-// A command that is no part of an if: its operands as they stand in the bytes. A routine's has a conversion or an operation; its size, and what it does with an array,
-// are told of a command with anything in their place, such as the byte.
+// A command that is no part of an if: its operands as they stand in the bytes. A routine's has a conversion or an operation where C and O stand. Its size, and what it
+// does with an array, do not depend on them, and are told with any type there, such as the byte's.
 #[derive(Clone, Copy)]
 pub enum Simple<C = Conversion, O = Operation> {
     Set { d: u8, c: u32 },
@@ -69,7 +69,7 @@ pub enum Touch {
     Writes { array: u8, i: u8 },
 }
 
-// What stands at an offset, with a mark, or what is taken for one, in the same way.
+// What stands at an offset, with a mark where M stands in the same way.
 #[derive(Clone, Copy)]
 pub enum Command<M = Mark, C = Conversion, O = Operation> {
     // unknown or cut short, or no command there

@@ -47,9 +47,7 @@ Kind (Simple.Write array i s) = Unit {0}
 
 -- the byte of a mark
 abbrev pub mark_byte : Mark → ℕ
-mark_byte Mark.End = 0x00
-mark_byte Mark.Else = 0x0C
-mark_byte Mark.EndIf = 0x0D
+mark_byte mark = opcode_byte (Opcode.Close mark)
 
 by_convert : (op : Conversion) (a b c k : ℕ) → command_by (conversion_byte op) a b c k ≡ Command.Simple (Simple.Convert op a b)
 unfolding command_by opcode_of
@@ -109,11 +107,6 @@ compute_byte Operation.Multiply = refl
 compute_byte Operation.Quotient = refl
 compute_byte Operation.Remainder = refl
 
-close_byte : (mark : Mark) → opcode_byte (Opcode.Close mark) ≡ mark_byte mark
-close_byte Mark.End = refl
-close_byte Mark.Else = refl
-close_byte Mark.EndIf = refl
-
 module _ (op a b c k : ℕ) where
   -- what a command says of its byte and its operands
   abbrev Held : Simple Conversion Operation → Type 0
@@ -131,7 +124,7 @@ module _ (op a b c k : ℕ) where
 
   holds_with : (o : Option Opcode) → Stands op o → Holds (of_opcode o a b c k)
   holds_with None e = tt
-  holds_with (Some (Opcode.Close mark)) e = e ∙ close_byte mark
+  holds_with (Some (Opcode.Close mark)) e = e
   holds_with (Some Opcode.Set) e = (e, refl, refl)
   holds_with (Some (Opcode.Convert o)) e = (e ∙ convert_byte o, refl, refl)
   holds_with (Some (Opcode.Compute o)) e = (e ∙ compute_byte o, refl, refl, refl)
